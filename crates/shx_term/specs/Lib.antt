@@ -1,0 +1,10 @@
+pub mod Held
+pub mod IdOrder
+pub mod Limits
+pub mod Members
+pub mod Numbers
+pub mod Pool
+pub mod Spelling
+pub mod TermOrder
+pub mod Triple
+pub mod Vocabulary

@@ -1,0 +1,19 @@
+-- Limits that a run can work with.
+use Rattle.std.specs.Prelude.{◌<◌, ◌≤◌}
+use Rattle.shx_term.specs.declared.limits.Limits.{Limits}
+
+-- there is room for the vocabulary and for something of everything, and no depth is above what recursion may take
+pub record AreUsable (limits : Limits) : Type 0 where
+  pub terms : 62 ≤ limits.terms
+  pub triples : 0 < limits.triples
+  pub text : 0 < limits.text
+  pub script : 0 < limits.script
+  pub line : 0 < limits.line
+  pub some_turtle_depth : 0 < limits.turtle_depth
+  pub some_path_depth : 0 < limits.path_depth
+  pub path_parts : 0 < limits.path_parts
+  pub some_reference_depth : 0 < limits.reference_depth
+  pub shapes : 0 < limits.shapes
+  pub turtle_depth : limits.turtle_depth ≤ 128
+  pub path_depth : limits.path_depth ≤ 64
+  pub reference_depth : limits.reference_depth ≤ 64

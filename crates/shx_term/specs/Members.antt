@@ -1,0 +1,93 @@
+-- Members of lists, which are seen as sets.
+use Rattle.std.specs.Prelude.{◌≡◌, Bool, true, false, List, [], ◌∷◌, ◌++◌, map, filter, if◌then◌else◌, Contains, ◌↔◌, ◌⊎◌}
+use Rattle.std.specs.Cmp.{IsEquivalence, first_so, second_so}
+use Rattle.std.specs.List.{list_any, list_all}
+use Rattle.std.proofs.Common.{refl, sym, ap, ◌∙◌, subst, inl, inr, arith}
+use Rattle.std.proofs.lemmas.List.Elements.{Contains-push, Contains-push_cases, Contains-append_left, Contains-append_right, Contains-append_cases}
+use Rattle.std.proofs.lemmas.Map.Views.{Contains-from_any, list_any-from_Contains}
+
+module _ {K : Type 0} where
+  pub none_in_empty : (x : K) → Contains [] x → ⊥
+  none_in_empty x c = absurd (omega (arith, c.1))
+
+  pub Contains-one : (x y : K) → Contains (x ∷ []) y ↔ (y ≡ x)
+  Contains-one x y = (
+    λ c. elim (Contains-push_cases [] x y c) [ inl c ↦ absurd (none_in_empty y c) | inr e ↦ sym e ],
+    λ e. subst (Contains (x ∷ [])) (sym e) (Contains-push [] x),
+  )
+
+  pub Contains-head : (x : K) (xs : List K) → Contains (x ∷ xs) x
+  Contains-head x xs = Contains-append_left (x ∷ []) xs x ((Contains-one x x).1 refl)
+
+  pub Contains-tail : (x y : K) (xs : List K) → Contains xs y → Contains (x ∷ xs) y
+  Contains-tail x y xs c = Contains-append_right (x ∷ []) xs y c
+
+  pub Contains-cases : (x y : K) (xs : List K) → Contains (x ∷ xs) y → (y ≡ x) ⊎ Contains xs y
+  Contains-cases x y xs c =
+      elim (Contains-append_cases (x ∷ []) xs y c) [ inl d ↦ inl ((Contains-one x y).0 d) | inr d ↦ inr d ]
+
+  module _ (same : K → K → Bool) (laws : IsEquivalence same) (exact : (x y : K) → same x y ≡ true → x ≡ y) where
+    -- an exact test decides membership
+    pub Contains-test : (xs : List K) (x : K) → (list_any (same x) xs ≡ true) ↔ Contains xs x
+    Contains-test xs x = (Contains-from_any exact x xs, list_any-from_Contains laws x xs)
+
+    -- the members after an insertion into a list of distinct members
+    pub Contains-insert : (xs : List K) (x y : K) → Contains (if list_any (same x) xs then xs else xs ++ x ∷ []) y ↔ (Contains xs y ⊎ (y ≡ x))
+    Contains-insert xs x y =
+        elim (list_any (same x) xs) as (λ b. list_any (same x) xs ≡ b → Contains (if b then xs else xs ++ x ∷ []) y ↔ (Contains xs y ⊎ (y ≡ x))) [
+          | true ↦ λ held. (λ c. inl c, λ h. elim h [ inl c ↦ c | inr e ↦ subst (Contains xs) (sym e) ((Contains-test xs x).0 held) ])
+          | false ↦ λ _. (
+            λ c. elim (Contains-push_cases xs x y c) [ inl d ↦ inl d | inr e ↦ inr (sym e) ],
+            λ h. elim h [ inl c ↦ Contains-append_left xs (x ∷ []) y c | inr e ↦ subst (Contains (xs ++ x ∷ [])) (sym e) (Contains-push xs x) ],
+          )
+        ] refl
+
+-- the members of a list's images, and of what a filter keeps
+module _ {A B : Type 0} (f : A → B) where
+  pub Contains-map : (xs : List A) (x : A) → Contains xs x → Contains (map f xs) (f x)
+  Contains-map [] x c = absurd (none_in_empty x c)
+  Contains-map (y ∷ ys) x c = elim (Contains-cases y x ys c) [
+    | inl e ↦ subst (λ z. Contains (map f (y ∷ ys)) (f z)) (sym e) (Contains-head (f y) (map f ys))
+    | inr d ↦ Contains-tail (f y) (f x) (map f ys) (Contains-map ys x d)
+  ]
+
+  pub Contains-from_map : (xs : List A) (z : B) → Contains (map f xs) z → (x : A) × Contains xs x × (z ≡ f x)
+  Contains-from_map [] z c = absurd (none_in_empty z c)
+  Contains-from_map (y ∷ ys) z c = elim (Contains-cases (f y) z (map f ys) c) [
+    | inl e ↦ (y, Contains-head y ys, e)
+    | inr d ↦ let found = Contains-from_map ys z d in (found.0, Contains-tail y found.0 ys found.1, found.2)
+  ]
+
+module _ {A : Type 0} (p : A → Bool) where
+  pub Contains-filter : (xs : List A) (x : A) → Contains xs x → p x ≡ true → Contains (filter p xs) x
+  Contains-filter [] x c h = absurd (none_in_empty x c)
+  Contains-filter (y ∷ ys) x c h = elim (Contains-cases y x ys c) [
+    | inl e ↦ rw (ap p (sym e) ∙ h) (subst (λ z. Contains (z ∷ filter p ys) x) e (Contains-head x (filter p ys)))
+    | inr d ↦ kept (Contains-filter ys x d h) (p y)
+  ]
+    where
+      kept : Contains (filter p ys) x → (b : Bool) → Contains (if b then y ∷ filter p ys else filter p ys) x
+      kept c true = Contains-tail y x (filter p ys) c
+      kept c false = c
+
+  pub Contains-from_filter : (xs : List A) (x : A) → Contains (filter p xs) x → Contains xs x × (p x ≡ true)
+  Contains-from_filter [] x c = absurd (none_in_empty x c)
+  Contains-from_filter (y ∷ ys) x c = elim (p y) as (λ b. p y ≡ b → Contains (if b then y ∷ filter p ys else filter p ys) x → Contains (y ∷ ys) x × (p x ≡ true)) [
+    | true ↦ λ h d. elim (Contains-cases y x (filter p ys) d) [
+      | inl e ↦ (subst (λ z. Contains (y ∷ ys) z) (sym e) (Contains-head y ys), ap p e ∙ h)
+      | inr k ↦ let rest = Contains-from_filter ys x k in (Contains-tail y x ys rest.0, rest.1)
+    ]
+    | false ↦ λ _ d. let rest = Contains-from_filter ys x d in (Contains-tail y x ys rest.0, rest.1)
+  ] refl c
+
+  -- a test that each member passes
+  pub list_all_of : (xs : List A) → ((x : A) → Contains xs x → p x ≡ true) → list_all p xs ≡ true
+  list_all_of [] each = refl
+  list_all_of (y ∷ ys) each = rw (each y (Contains-head y ys)) (list_all_of ys (λ x c. each x (Contains-tail y x ys c)))
+
+  pub each_passes : (xs : List A) → list_all p xs ≡ true → (x : A) → Contains xs x → p x ≡ true
+  each_passes [] all x c = absurd (none_in_empty x c)
+  each_passes (y ∷ ys) all x c = elim (Contains-cases y x ys c) [
+    | inl e ↦ ap p e ∙ first_so (p y) (list_all p ys) all
+    | inr d ↦ each_passes ys (second_so (p y) (list_all p ys) all) x d
+  ]

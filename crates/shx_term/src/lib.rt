@@ -1,0 +1,44 @@
+//! The terms of RDF, their order and spelling, and the pool that numbers them.
+//!
+//! | file | what it holds |
+//! |---|---|
+//! | `text.rt`, `iri_text.rt`, `label.rt` | `Text`, `IriText`, `Label`: texts that contracts see as lists of bytes |
+//! | `term.rt` | `Term` and its parts |
+//! | `order.rt` | the order of terms, and their equality and hash |
+//! | `spelling.rt` | `spell`: how a term is written |
+//! | `triple.rt` | `Id`, `Triple` over numbers, `TermTriple` over terms |
+//! | `pool.rt` | `Pool`: distinct terms by number |
+//! | `vocabulary.rt` | the 62 terms that every pool begins with, and a constant for each number |
+//! | `limits.rt` | `Limits` |
+//! | `steps.rt` | `Steps`: a counter that takes no memory and no time |
+//!
+//! It stands on `indexmap` and `itoa`. Start with `term.rt` and `pool.rt`; `specs/TermOrder.antt` has the order and
+//! `specs/Pool.antt` the words of a pool's contracts.
+#![tactic(auto)]
+
+mod iri_text;
+mod label;
+mod limits;
+mod memory;
+mod order;
+mod pool;
+mod spelling;
+mod steps;
+mod term;
+#[cfg(test)]
+mod tests;
+mod text;
+mod triple;
+pub mod vocabulary;
+
+pub use iri_text::IriText;
+pub use label::Label;
+pub use limits::Limits;
+pub use memory::Memory;
+pub use order::cmp_terms;
+pub use pool::{Pool, PoolFault};
+pub use spelling::{XSD_STRING, spell};
+pub use steps::Steps;
+pub use term::{BlankName, Literal, LocalName, Scope, Term};
+pub use text::Text;
+pub use triple::{Id, TermTriple, Triple};

@@ -1,0 +1,149 @@
+ghost use Rattle.std.specs.Prelude.{◌≡◌};
+ghost use Rattle.shx_term.specs.TermOrder.{term_cmp, kind_of, kind_of_name, rank_of, scope_of, number_of, head_of, lexical_of, tag_number_of, tag_of};
+
+use crate::{LocalName, Scope, Term};
+use std::cmp::Ordering;
+use std::hash::{Hash, Hasher};
+
+/// Compares two terms. IRIs come first, by their bytes; then blank nodes with a label, those of the data before those of
+/// the shapes, by label; then anonymous blank nodes likewise, by number; then literals by datatype, lexical form and tag,
+/// no tag first. It takes no memory and time linear in the shorter texts.
+pub fn cmp_terms(a: &Term, b: &Term) -> Ordering
+    ensures { result ≡ term_cmp a.now b.now }
+{
+    let by_kind = kind(a).cmp(&kind(b));
+    let by_scope = scope(a).cmp(&scope(b));
+    let by_number = number(a).cmp(&number(b));
+    let by_head = head(a).cmp(head(b));
+    let by_lexical = lexical(a).cmp(lexical(b));
+    let by_tag_number = tag_number(a).cmp(&tag_number(b));
+    let by_tag = tag(a).cmp(tag(b));
+    by_kind.then(by_scope.then(by_number.then(by_head.then(by_lexical.then(by_tag_number.then(
+        by_tag,
+    ))))))
+}
+
+fn kind(term: &Term) -> u8
+    ensures { result ≡ kind_of term.now }
+{
+    match term {
+        Term::Iri(_) => 0,
+        Term::Blank(blank) => match &blank.name {
+            LocalName::Labelled(_) => 1,
+            LocalName::Anonymous(_) => 2,
+        },
+        Term::Lit(_) => 3,
+    }
+}
+
+fn scope(term: &Term) -> u8
+    ensures { result ≡ scope_of term.now }
+{
+    match term {
+        Term::Iri(_) => 0,
+        Term::Blank(blank) => match blank.scope {
+            Scope::Data => 0,
+            Scope::Shapes => 1,
+        },
+        Term::Lit(_) => 0,
+    }
+}
+
+fn number(term: &Term) -> u32
+    ensures { result ≡ number_of term.now }
+{
+    match term {
+        Term::Iri(_) => 0,
+        Term::Blank(blank) => match &blank.name {
+            LocalName::Labelled(_) => 0,
+            LocalName::Anonymous(number) => *number,
+        },
+        Term::Lit(_) => 0,
+    }
+}
+
+fn head(term: &Term) -> &str
+    ensures { result.now ≡ head_of term.now }
+{
+    match term {
+        Term::Iri(iri) => iri.as_str(),
+        Term::Blank(blank) => match &blank.name {
+            LocalName::Labelled(label) => label.as_str(),
+            LocalName::Anonymous(_) => "",
+        },
+        Term::Lit(literal) => literal.datatype.as_str(),
+    }
+}
+
+fn lexical(term: &Term) -> &str
+    ensures { result.now ≡ lexical_of term.now }
+{
+    match term {
+        Term::Iri(_) => "",
+        Term::Blank(_) => "",
+        Term::Lit(literal) => literal.lexical.as_str(),
+    }
+}
+
+fn tag_number(term: &Term) -> u8
+    ensures { result ≡ tag_number_of term.now }
+{
+    match term {
+        Term::Iri(_) => 0,
+        Term::Blank(_) => 0,
+        Term::Lit(literal) => match &literal.tag {
+            None => 0,
+            Some(_) => 1,
+        },
+    }
+}
+
+fn tag(term: &Term) -> &str
+    ensures { result.now ≡ tag_of term.now }
+{
+    match term {
+        Term::Iri(_) => "",
+        Term::Blank(_) => "",
+        Term::Lit(literal) => match &literal.tag {
+            None => "",
+            Some(tag) => tag.as_str(),
+        },
+    }
+}
+
+impl PartialEq for Term {
+    ghost use Rattle.std.specs.Cmp;
+    ghost use Rattle.shx_term.specs.TermOrder.{same_term, same_term_equiv};
+
+    ghost eq = { same_term };
+
+    ghost laws = { Cmp.partial_equiv_from_equiv same_term_equiv };
+
+    fn eq(&self, other: &Self) -> bool {
+        cmp_terms(self, other).is_eq()
+    }
+}
+
+impl Eq for Term {
+    ghost use Rattle.shx_term.specs.TermOrder.{same_term_equiv};
+
+    ghost laws = { same_term_equiv };
+}
+
+impl Hash for Term {
+    ghost use Rattle.std.specs.Prelude.{◌++◌};
+    ghost use Rattle.std.specs.Hash as fed;
+    ghost use Rattle.std.proofs.Common.{ap};
+    ghost use Rattle.shx_term.specs.TermOrder.{kind_of, number_of, head_of, lexical_of, same_term_exact};
+
+    ghost hash_input = { λ t. fed.u8 (kind_of t) ++ (fed.u32 (number_of t) ++ (fed.str (head_of t) ++ fed.str (lexical_of t))) };
+
+    ghost respects_eq = { λ a b h. ap (λ t. fed.u8 (kind_of t) ++ (fed.u32 (number_of t) ++ (fed.str (head_of t) ++ fed.str (lexical_of t)))) (same_term_exact a b h) };
+
+    fn hash<H: Hasher>(&self, state: &mut H) {
+        kind(self).hash(state);
+        number(self).hash(state);
+        head(self).hash(state);
+        lexical(self).hash(state);
+    }
+}

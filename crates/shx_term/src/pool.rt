@@ -1,0 +1,174 @@
+ghost use Rattle.std.specs.Prelude.{◌≡◌, ◌<◌, ◌≤◌, ◌+◌, ℕ, Some, length, position, slice_get, is_some, IfOk, IfErr, OnOk, OnErr};
+ghost use Rattle.std.specs.List.{IsDistinct};
+ghost use Rattle.shx_term.specs.TermOrder.{same_term, term_cmp};
+ghost use Rattle.shx_term.specs.Pool.{Pooled, is_held, with_term, IsFullFor};
+ghost use Rattle.shx_term.specs.IdOrder.{id_cmp, in_term_order};
+
+use crate::{Id, Memory, Term, cmp_terms};
+use indexmap::IndexSet;
+use std::alloc::{AllocError, AllocFailed, Global};
+use std::cmp::Ordering;
+use std::error::Error;
+use std::fmt;
+use std::marker::Model;
+
+/// Why a term was not entered.
+#[derive(Clone, Copy, Debug, PartialEq, Eq)]
+pub enum PoolFault {
+    /// The pool holds as many terms as its limit, and the term is none of them.
+    Full,
+    Memory,
+}
+
+impl fmt::Display for PoolFault {
+    ghost use Rattle.std.specs.Prelude.{Some};
+    ghost use Rattle.shx_term.specs.Pool.{fault_text};
+
+    ghost output = { λ fault. Some (fault_text fault) };
+
+    fn fmt<W: fmt::Write>(&self, f: &mut fmt::Formatter<W>) -> fmt::Result {
+        match self {
+            PoolFault::Full => f.write_str("the pool is full"),
+            PoolFault::Memory => f.write_str("out of memory"),
+        }
+    }
+}
+
+impl Error for PoolFault {}
+
+impl From<AllocError> for PoolFault {
+    ghost use Rattle.std.specs.Prelude.{◌≡◌};
+    ghost use Rattle.shx_term.specs.declared.pool.PoolFault.{PoolFault};
+
+    ghost from_gives = { λ _ fault. fault ≡ PoolFault.Memory };
+
+    fn from(_: AllocError) -> Self {
+        PoolFault::Memory
+    }
+}
+
+impl<T: Drop> From<AllocFailed<T>> for PoolFault {
+    ghost use Rattle.std.specs.Prelude.{◌≡◌};
+    ghost use Rattle.shx_term.specs.declared.pool.PoolFault.{PoolFault};
+
+    ghost from_gives = { λ _ fault. fault ≡ PoolFault.Memory };
+
+    fn from(_: AllocFailed<T>) -> Self {
+        PoolFault::Memory
+    }
+}
+
+/// Distinct terms, each with a number, in the order in which they were first entered. A number keeps its term for good.
+#[derive(Drop)]
+pub struct Pool {
+    terms: IndexSet<Term>,
+    limit: u32,
+    alloc: Global,
+}
+
+impl Model for Pool {
+    ghost use Rattle.std.specs.Prelude.{ℕ, ◌<◌, ◌≤◌, ◌^◌, length};
+    ghost use Rattle.shx_term.specs.Pool.{Pooled};
+
+    ghost Value = { Pooled };
+
+    ghost view = { λ a. record { terms = a.terms.keys; limit = a.limit } };
+
+    ghost invariant = { λ a. (length a.terms.keys ≤ a.limit) × (a.limit < 2 ^ 32) };
+}
+
+impl Pool {
+    /// A pool of these terms.
+    pub(crate) fn from_terms(alloc: Global, terms: IndexSet<Term>, limit: u32) -> Pool
+        requires { length terms.keys ≤ limit }
+        ensures { result ≡ record { terms = terms.keys; limit = limit } }
+    {
+        Pool {
+            terms,
+            limit,
+            alloc,
+        }
+    }
+
+    /// The number of a term, or `None` where it is not held. It takes no memory, and one look-up by hash.
+    pub fn find(&self, term: &Term) -> Option<Id>
+        ensures place { result ≡ position (same_term term.now) self.now.terms }
+        ensures held { is_some result ≡ is_held self.now.terms term.now }
+    {
+        let index = self.terms.get_index_of(term)?;
+        Some(index as u32)
+    }
+
+    /// The term of a number. It takes no memory, and constant time.
+    pub fn term(&self, id: Id) -> &Term
+        requires { id < length self.now.terms }
+        ensures { slice_get self.now.terms id ≡ Some result.now }
+    {
+        &self.terms.as_slice()[id as usize]
+    }
+
+    /// How many terms are held. The terms are distinct.
+    pub fn len(&self) -> u32
+        ensures count { result ≡ length self.now.terms }
+        ensures distinct { IsDistinct same_term self.now.terms }
+        ensures within { result ≤ self.now.limit }
+    {
+        self.terms.len() as u32
+    }
+
+    /// How many terms can be held.
+    pub fn limit(&self) -> u32
+        ensures { result ≡ self.now.limit }
+    {
+        self.limit
+    }
+
+    /// The number of a term, which is added behind the others where it is not held. It takes one look-up by hash, and
+    /// memory only for a new term.
+    pub fn enter(&mut self, term: &Term) -> Result<Id, PoolFault>
+        ensures limit { self.new.limit ≡ self.old.limit }
+        ensures entered { OnOk result (self.new.terms ≡ with_term self.old.terms term.now) }
+        ensures found { IfOk result (λ id. position (same_term term.now) self.new.terms ≡ Some id) }
+        ensures id { IfOk result (λ id. slice_get self.new.terms id ≡ Some term.now) }
+
+        // A refused call changes nothing, and `Full` comes exactly where the pool is full for the term.
+        ensures refused { OnErr result (self.new.terms ≡ self.old.terms) }
+        ensures full { IfErr result (λ fault. fault ≡ PoolFault.Full → IsFullFor self.old term.now) }
+        ensures room { OnOk result (IsFullFor self.old term.now → ⊥) }
+    {
+        if let Some(id) = self.find(term) {
+            return Ok(id);
+        }
+        if self.len() >= self.limit {
+            return Err(PoolFault::Full);
+        }
+        let copy = term.copy(self.alloc)?;
+        let (index, _) = self.terms.insert_full(copy)?;
+        Ok(index as u32)
+    }
+
+    /// Compares two numbers by their terms.
+    pub fn cmp_ids(&self, a: Id, b: Id) -> Ordering
+        ensures { result ≡ id_cmp self.now.terms a b }
+    {
+        let by_term = match (
+            self.terms.get_index(a as usize),
+            self.terms.get_index(b as usize),
+        ) {
+            (None, None) => Ordering::Equal,
+            (None, Some(_)) => Ordering::Less,
+            (Some(_), None) => Ordering::Greater,
+            (Some(x), Some(y)) => cmp_terms(x, y),
+        };
+        by_term.then(a.cmp(&b))
+    }
+
+    /// The numbers in the order of their terms, each once. It takes time `O(n log n)` in their number.
+    pub fn in_order(&self, mut ids: Vec<Id>) -> Result<Vec<Id>, Memory>
+        ensures { IfOk result (λ sorted. sorted.items ≡ in_term_order self.now.terms ids.items) }
+    {
+        ids.sort_by(|a, b| self.cmp_ids(*a, *b))?;
+        ids.dedup();
+        Ok(ids)
+    }
+}

@@ -1,0 +1,5 @@
+use Rattle.std.proofs.Common.{◌≡◌, true}
+use Rattle.shx_outside.proofs.tests.read_all.Given as goal
+
+abbrev pub invariant-loop : goal.invariant-loop
+invariant-loop g l = g.I.Inputs.opened l.inputs l.role ≡ true

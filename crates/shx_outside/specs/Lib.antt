@@ -1,0 +1,7 @@
+pub mod Counted
+pub mod Failing
+pub mod FileInputs
+pub mod MemoryInputs
+pub mod MemorySink
+pub mod Places
+pub mod Told

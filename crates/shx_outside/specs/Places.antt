@@ -1,0 +1,56 @@
+-- Places in the texts that are held: a text by its index, and how much of it was read.
+use Rattle.std.specs.Prelude.{ℕ, ◌<◌, ◌≤◌, List, length, drop, Option, Some, None, slice_get}
+use Rattle.shx_outside.specs.declared.named_text.NamedText.{NamedText}
+use Rattle.shx_outside.specs.declared.places.Place.{Place}
+use Rattle.shx_outside.specs.declared.places.Places.{Places}
+use Rattle.shx_outside.specs.declared.role.Role.{Role}
+use Rattle.shx_outside.specs.declared.role.Role.TheVariants.{Shapes, Data, Script}
+use Rattle.shx_outside.specs.MemoryInputs.{InputState, bytes_of}
+
+-- no role is opened
+abbrev pub no_places : Places
+no_places = record { shapes = None; «data» = None; script = None }
+
+-- the place of a role
+abbrev pub place_of : Places → Role → Option Place
+place_of places Shapes = places.shapes
+place_of places Data = places.«data»
+place_of places Script = places.script
+
+-- a role at another place
+abbrev pub with_place : Places → Role → Option Place → Places
+with_place places Shapes place = record places { shapes = place }
+with_place places Data place = record places { «data» = place }
+with_place places Script place = record places { script = place }
+
+-- the bytes of the text at an index
+abbrev pub bytes_at : List NamedText → ℕ → List ℕ
+bytes_at files index = bytes_of (slice_get files index)
+
+-- what is left from a place on
+abbrev pub left_at : List NamedText → Option Place → Option (List ℕ)
+left_at files (Some place) = Some (drop place.offset (bytes_at files place.file))
+left_at files None = None
+
+-- the place lies in a text
+abbrev pub IsWithin : List NamedText → Option Place → Type 0
+IsWithin files (Some place) = (place.file < length files) × (place.offset ≤ length (bytes_at files place.file))
+IsWithin files None = Unit {0}
+
+-- the place of each role lies in a text
+pub record AreWithin (files : List NamedText) (places : Places) : Type 0 where
+  pub each : (role : Role) → IsWithin files (place_of places role)
+
+-- what is told of texts that are read from these places
+abbrev pub state_of : List NamedText → ℕ → List ℕ → ℕ → ℕ → Places → InputState
+state_of files piece failing calls faults places =
+    record {
+      files = files;
+      piece = piece;
+      failing = failing;
+      calls = calls;
+      faults = faults;
+      shapes_left = left_at files places.shapes;
+      data_left = left_at files places.«data»;
+      script_left = left_at files places.script;
+    }

@@ -1,0 +1,100 @@
+ghost use Rattle.std.specs.Prelude.{◌≡◌, ◌≤◌, Bool, true, false, length, is_some, IfOk};
+ghost use Rattle.shx_outside.specs.declared.role.Role.{Role};
+ghost use Rattle.shx_outside.specs.FileInputs.{is_opened, admits_all, no_text, no_rest};
+
+use crate::counted::count_up;
+use crate::{Failed, Inputs, Role};
+use std::io::Read;
+use std::marker::Model;
+use std::rt::Files;
+use std::{fs, io};
+
+/// Files, opened by their paths. It counts each call that fails.
+#[derive(Drop)]
+pub struct FileInputs<'a, R: Files> {
+    files: &'a R,
+    shapes: Option<R::File>,
+    data: Option<R::File>,
+    script: Option<R::File>,
+    pub(crate) errors: u64,
+}
+
+impl<'a, R: Files> Model for FileInputs<'a, R> {
+    ghost use Rattle.std.specs.Prelude.{is_some};
+    ghost use Rattle.shx_outside.specs.FileInputs.{FileState};
+
+    ghost Value = { FileState };
+
+    ghost view = { λ a. record {
+      shapes_opened = is_some a.shapes;
+      data_opened = is_some a.«data»;
+      script_opened = is_some a.script;
+      errors = a.errors;
+    } };
+}
+
+impl<'a, R: Files> FileInputs<'a, R> {
+    pub fn new(files: &'a R) -> FileInputs<'a, R>
+        ensures errors { result.errors ≡ 0 }
+        ensures closed { (role : Role) → is_opened result role ≡ false }
+    {
+        FileInputs {
+            files,
+            shapes: None,
+            data: None,
+            script: None,
+            errors: 0,
+        }
+    }
+}
+
+impl<'a, R: Files> Inputs for FileInputs<'a, R> {
+    ghost admits = { admits_all };
+
+    ghost text = { no_text };
+
+    ghost opened = { is_opened };
+
+    ghost rest = { no_rest };
+
+    ghost faults = { λ inputs. inputs.errors };
+
+    fn open(&mut self, role: Role, name: &str) -> Result<(), Failed> {
+        let file = fs::open(self.files, name).ok();
+        let is_found = file.is_some();
+        match role {
+            Role::Shapes => self.shapes = file,
+            Role::Data => self.data = file,
+            Role::Script => self.script = file,
+        }
+        if !is_found {
+            count_up(&mut self.errors);
+            return Err(Failed);
+        }
+        Ok(())
+    }
+
+    fn read(&mut self, role: Role, room: &mut [u8]) -> Result<usize, Failed> {
+        let read = match role {
+            Role::Shapes => read_from(&mut self.shapes, room),
+            Role::Data => read_from(&mut self.data, room),
+            Role::Script => read_from(&mut self.script, room),
+        };
+        match read {
+            Ok(count) => Ok(count),
+            Err(_) => {
+                count_up(&mut self.errors);
+                Err(Failed)
+            }
+        }
+    }
+}
+
+fn read_from<F: Read>(file: &mut Option<F>, room: &mut [u8]) -> io::Result<usize>
+    requires { is_some file.old ≡ true }
+    ensures count { IfOk result (λ n. n ≤ length room.new) }
+    ensures opened { is_some file.new ≡ true }
+{
+    let Some(file) = file else { unreachable!() };
+    file.read(room)
+}

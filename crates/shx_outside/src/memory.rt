@@ -1,0 +1,2 @@
+/// Want of memory.
+pub type Memory = std::alloc::AllocError;

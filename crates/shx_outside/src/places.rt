@@ -1,0 +1,78 @@
+ghost use Rattle.std.specs.Prelude.{◌≡◌, ◌+◌, ◌≤◌, length, position, is_some, IsSome};
+ghost use Rattle.shx_outside.specs.MemoryInputs.{is_named, is_held, bytes_named};
+ghost use Rattle.shx_outside.specs.Places.{no_places, place_of, with_place, left_at, IsWithin};
+
+use crate::{NamedText, Role};
+
+/// A place in one of several texts: the index of the text, and how many of its bytes were read.
+#[derive(Clone, Copy, Debug)]
+pub(crate) struct Place {
+    pub(crate) file: usize,
+    pub(crate) offset: usize,
+}
+
+/// The place of each role that is opened.
+#[derive(Debug, Drop)]
+pub(crate) struct Places {
+    shapes: Option<Place>,
+    data: Option<Place>,
+    script: Option<Place>,
+}
+
+impl Places {
+    pub(crate) fn new() -> Places
+        ensures { result ≡ no_places }
+    {
+        Places {
+            shapes: None,
+            data: None,
+            script: None,
+        }
+    }
+
+    pub(crate) fn get(&self, role: Role) -> Option<Place>
+        ensures { result ≡ place_of self.now role }
+    {
+        match role {
+            Role::Shapes => self.shapes,
+            Role::Data => self.data,
+            Role::Script => self.script,
+        }
+    }
+
+    pub(crate) fn set(&mut self, role: Role, place: Option<Place>)
+        ensures { self.new ≡ with_place self.old role place }
+    {
+        match role {
+            Role::Shapes => self.shapes = place,
+            Role::Data => self.data = place,
+            Role::Script => self.script = place,
+        }
+    }
+}
+
+/// Where the first text of this name starts.
+pub(crate) fn start_of(files: &[NamedText], name: &str) -> Option<Place>
+    ensures held { is_some result ≡ is_held files.now name.now }
+    ensures within { IsWithin files.now result }
+    ensures text { IsSome result → left_at files.now result ≡ Some (bytes_named files.now name.now) }
+{
+    let file = first_named(files, name)?;
+    Some(Place { file, offset: 0 })
+}
+
+/// What is left of a text from a place on.
+pub(crate) fn left_from(files: &[NamedText], place: Place) -> &[u8]
+    requires { IsWithin files.now (Some place) }
+    ensures left { left_at files.now (Some place) ≡ Some result.now }
+    ensures fits { place.offset + length result.now ≤ usize.MAX }
+{
+    &files[place.file].bytes.as_slice()[place.offset..]
+}
+
+// The index of the first text of this name.
+fn first_named(files: &[NamedText], name: &str) -> Option<usize>
+    ensures { result ≡ position (is_named name.now) files.now }
+{
+    files.iter().position(|file| file.name.as_str() == name)
+}

@@ -1,0 +1,7 @@
+/// What a text is read for.
+#[derive(Clone, Copy, Debug, PartialEq, Eq)]
+pub enum Role {
+    Shapes,
+    Data,
+    Script,
+}

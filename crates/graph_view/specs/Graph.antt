@@ -1,0 +1,40 @@
+-- A graph: terms, each numbered by its place, and triples of numbers.
+use Rattle.std.specs.Prelude.{◌≡◌, ℕ, ◌<◌, not, List, [], ◌∷◌, map, filter, length, Contains, ◌↔◌, ◌⊎◌, All}
+use Rattle.shx_term.specs.declared.term.Term.{Term}
+use Rattle.shx_term.specs.declared.triple.Triple.{Triple}
+use Rattle.shx_term.specs.Triple.{same_triple}
+use Rattle.shx_term.specs.IdOrder.{in_term_order}
+use Rattle.graph_view.specs.declared.key.Key.TheVariants.{Out}
+use Rattle.graph_view.specs.Key.{look}
+
+pub record Graph : Type 0 where
+  pub terms : List Term
+  pub triples : List Triple
+
+-- the numbers of a triple have terms
+pub record IsKnownTriple (terms : List Term) (t : Triple) : Type 0 where
+  pub s : t.s < length terms
+  pub p : t.p < length terms
+  pub o : t.o < length terms
+
+-- every number in a triple has a term
+abbrev pub AllKnown : Graph → Type 0
+AllKnown g = All (IsKnownTriple g.terms) g.triples
+
+-- as many triples as the limit are held, and t is none of them
+pub record IsAtLimit (triples : List Triple) (limit : ℕ) (t : Triple) : Type 0 where
+  pub at_limit : length triples ≡ limit
+  pub absent : Contains triples t → ⊥
+
+-- each triple of a list at its first place
+abbrev pub first_places : List Triple → List Triple
+first_places [] = []
+first_places (t ∷ ts) = t ∷ filter (λ u. not (same_triple t u)) (first_places ts)
+
+-- the objects of a subject and predicate, in term order
+abbrev pub objects_of : Graph → ℕ → ℕ → List ℕ
+objects_of g s p = in_term_order g.terms (map (λ t. t.o) (look g.triples (Out s p)))
+
+-- h holds the triples of g and t, and no others
+pub record HasAlso (g h : List Triple) (t : Triple) : Type 0 where
+  pub each : (u : Triple) → Contains h u ↔ (Contains g u ⊎ (u ≡ t))

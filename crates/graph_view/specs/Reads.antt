@@ -1,0 +1,7 @@
+-- Lists of keys seen as sets.
+use Rattle.std.specs.Prelude.{List, Contains, ◌↔◌, ◌⊎◌}
+use Rattle.graph_view.specs.declared.key.Key.{Key}
+
+-- new has the keys of old and those of more, and no others
+pub record Adds (old new more : List Key) : Type 0 where
+  pub each : (key : Key) → Contains new key ↔ (Contains old key ⊎ Contains more key)

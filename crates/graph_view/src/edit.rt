@@ -1,0 +1,90 @@
+ghost use Rattle.std.specs.Prelude.{◌≡◌, ◌≤◌, ◌+◌, ◌↔◌, ℕ, Some, length, position, slice_get, Contains, if◌then◌else◌, IsTrue, IfOk, IfErr, OnOk, OnErr};
+ghost use Rattle.shx_term.specs.TermOrder.{same_term};
+ghost use Rattle.shx_term.specs.Pool.{with_term, IsFullFor};
+ghost use Rattle.graph_view.specs.Graph.{HasAlso, IsKnownTriple, IsAtLimit};
+
+use crate::GraphView;
+use shx_term::{Id, PoolFault, Term, Triple};
+use std::alloc::{AllocError, AllocFailed};
+use std::error::Error;
+use std::fmt;
+
+/// Why a triple was not added.
+#[derive(Clone, Copy, Debug, PartialEq, Eq)]
+pub enum StoreFault {
+    /// The graph holds as many triples as its limit, and the triple is none of them.
+    TooMany,
+    Memory,
+}
+
+impl fmt::Display for StoreFault {
+    fn fmt<W: fmt::Write>(&self, f: &mut fmt::Formatter<W>) -> fmt::Result {
+        match self {
+            StoreFault::TooMany => f.write_str("the graph is full"),
+            StoreFault::Memory => f.write_str("out of memory"),
+        }
+    }
+}
+
+impl Error for StoreFault {}
+
+impl From<AllocError> for StoreFault {
+    ghost use Rattle.std.specs.Prelude.{◌≡◌};
+    ghost use Rattle.graph_view.specs.declared.edit.StoreFault.{StoreFault};
+
+    ghost from_gives = { λ _ fault. fault ≡ StoreFault.Memory };
+
+    fn from(_: AllocError) -> Self {
+        StoreFault::Memory
+    }
+}
+
+impl<T: Drop> From<AllocFailed<T>> for StoreFault {
+    ghost use Rattle.std.specs.Prelude.{◌≡◌};
+    ghost use Rattle.graph_view.specs.declared.edit.StoreFault.{StoreFault};
+
+    ghost from_gives = { λ _ fault. fault ≡ StoreFault.Memory };
+
+    fn from(_: AllocFailed<T>) -> Self {
+        StoreFault::Memory
+    }
+}
+
+/// A graph that takes new terms and triples. A refused call changes nothing.
+pub trait GraphEdit: GraphView {
+    /// How many triples the graph may hold.
+    ghost triple_limit: { Self → ℕ };
+
+    /// How many triples the graph may hold, which no call changes. It takes no memory.
+    fn limit(&self) -> u64
+        ensures value { result ≡ triple_limit self.now }
+        ensures within { length (Self.graph self.now).triples ≤ triple_limit self.now };
+
+    /// Enters a term into the pool; the triples stay.
+    fn enter(&mut self, term: &Term) -> Result<Id, PoolFault>
+        ensures entered { OnOk result ((Self.graph self.new).terms ≡ with_term (Self.graph self.old).terms term.now) }
+        ensures found { IfOk result (λ id. position (same_term term.now) (Self.graph self.new).terms ≡ Some id) }
+        ensures triples { (Self.graph self.new).triples ≡ (Self.graph self.old).triples }
+        ensures term_limit { Self.term_limit self.new ≡ Self.term_limit self.old }
+        ensures triple_limit { triple_limit self.new ≡ triple_limit self.old }
+        ensures refused { OnErr result (Self.graph self.new ≡ Self.graph self.old) }
+        ensures full { IfErr result (λ fault. fault ≡ PoolFault.Full
+            → IsFullFor (record { terms = (Self.graph self.old).terms; limit = Self.term_limit self.old }) term.now) }
+        ensures room { OnOk result
+            (IsFullFor (record { terms = (Self.graph self.old).terms; limit = Self.term_limit self.old }) term.now → ⊥) };
+
+    /// Adds a triple; `Ok(false)` says that it was held. The pool stays.
+    fn insert(&mut self, t: Triple) -> Result<bool, StoreFault>
+        requires { IsKnownTriple (Self.graph self.old).terms t }
+        ensures terms { (Self.graph self.new).terms ≡ (Self.graph self.old).terms }
+        ensures term_limit { Self.term_limit self.new ≡ Self.term_limit self.old }
+        ensures triple_limit { triple_limit self.new ≡ triple_limit self.old }
+        ensures added { OnOk result (HasAlso (Self.graph self.old).triples (Self.graph self.new).triples t) }
+        ensures new { IfOk result (λ new. IsTrue new ↔ (Contains (Self.graph self.old).triples t → ⊥)) }
+        ensures count { IfOk result (λ new.
+            length (Self.graph self.new).triples ≡ length (Self.graph self.old).triples + (if new then 1 else 0)) }
+        ensures refused { OnErr result (Self.graph self.new ≡ Self.graph self.old) }
+        ensures full { IfErr result (λ fault. fault ≡ StoreFault.TooMany
+            → IsAtLimit (Self.graph self.old).triples (triple_limit self.old) t) }
+        ensures room { OnOk result (IsAtLimit (Self.graph self.old).triples (triple_limit self.old) t → ⊥) };
+}

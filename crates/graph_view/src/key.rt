@@ -1,0 +1,96 @@
+ghost use Rattle.std.specs.Prelude.{◌≡◌, ◌↔◌, IsTrue};
+ghost use Rattle.graph_view.specs.Key.{Touches, key_kind, key_first, key_second};
+
+use shx_term::{Id, Triple};
+use std::hash::{Hash, Hasher};
+
+/// A part of a graph that a look-up reads: the triples of a subject and predicate, of a predicate and object, of a
+/// subject, or of a predicate.
+#[derive(Clone, Copy, Debug)]
+pub enum Key {
+    Out(Id, Id),
+    In(Id, Id),
+    Subject(Id),
+    Predicate(Id),
+}
+
+fn kind(key: &Key) -> u8
+    ensures { result ≡ key_kind key.now }
+{
+    match key {
+        Key::Out(_, _) => 0,
+        Key::In(_, _) => 1,
+        Key::Subject(_) => 2,
+        Key::Predicate(_) => 3,
+    }
+}
+
+fn first(key: &Key) -> Id
+    ensures { result ≡ key_first key.now }
+{
+    match key {
+        Key::Out(s, _) => *s,
+        Key::In(p, _) => *p,
+        Key::Subject(s) => *s,
+        Key::Predicate(p) => *p,
+    }
+}
+
+fn second(key: &Key) -> Id
+    ensures { result ≡ key_second key.now }
+{
+    match key {
+        Key::Out(_, p) => *p,
+        Key::In(_, o) => *o,
+        Key::Subject(_) => 0,
+        Key::Predicate(_) => 0,
+    }
+}
+
+impl PartialEq for Key {
+    ghost use Rattle.std.specs.Cmp;
+    ghost use Rattle.graph_view.specs.Key.{same_key, same_key_equiv};
+
+    ghost eq = { same_key };
+
+    ghost laws = { Cmp.partial_equiv_from_equiv same_key_equiv };
+
+    fn eq(&self, other: &Self) -> bool {
+        kind(self) == kind(other) && first(self) == first(other) && second(self) == second(other)
+    }
+}
+
+impl Eq for Key {
+    ghost use Rattle.graph_view.specs.Key.{same_key_equiv};
+
+    ghost laws = { same_key_equiv };
+}
+
+impl Hash for Key {
+    ghost use Rattle.std.specs.Prelude.{◌++◌};
+    ghost use Rattle.std.specs.Hash as fed;
+    ghost use Rattle.std.proofs.Common.{ap};
+    ghost use Rattle.graph_view.specs.Key.{key_kind, key_first, key_second, same_key_exact};
+
+    ghost hash_input = { λ k. fed.u8 (key_kind k) ++ (fed.u32 (key_first k) ++ fed.u32 (key_second k)) };
+
+    ghost respects_eq = { λ a b h. ap (λ k. fed.u8 (key_kind k) ++ (fed.u32 (key_first k) ++ fed.u32 (key_second k))) (same_key_exact a b h) };
+
+    fn hash<H: Hasher>(&self, state: &mut H) {
+        kind(self).hash(state);
+        first(self).hash(state);
+        second(self).hash(state);
+    }
+}
+
+/// Whether the triple is in the part of the graph that the key names. It takes no memory.
+pub fn touches(t: &Triple, key: &Key) -> bool
+    ensures { IsTrue result ↔ Touches t.now key.now }
+{
+    match key {
+        Key::Out(s, p) => t.s == *s && t.p == *p,
+        Key::In(p, o) => t.p == *p && t.o == *o,
+        Key::Subject(s) => t.s == *s,
+        Key::Predicate(p) => t.p == *p,
+    }
+}

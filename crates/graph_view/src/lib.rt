@@ -1,0 +1,27 @@
+//! Graphs of numbered terms: what can be looked up in one, and what a look-up leaves behind.
+//!
+//! | file | what it holds |
+//! |---|---|
+//! | `key.rt` | `Key`: the part of a graph that a look-up reads; `touches` |
+//! | `reads.rt` | `Reads`: a set of keys |
+//! | `view.rt` | `GraphView`: look-ups, each of which adds its key to the reads |
+//! | `edit.rt` | `GraphEdit`: a graph that takes new terms and triples |
+//! | `list_graph.rt` | `ListGraph`: the plain form, whose look-ups go over all triples |
+//!
+//! It stands on `shx_term` and `indexmap`. Start with `view.rt`; `specs/Graph.antt` says what a graph is, and
+//! `specs/Key.antt` when a triple touches a key.
+#![tactic(auto)]
+
+mod edit;
+mod key;
+mod list_graph;
+mod reads;
+#[cfg(test)]
+mod tests;
+mod view;
+
+pub use edit::{GraphEdit, StoreFault};
+pub use key::{Key, touches};
+pub use list_graph::ListGraph;
+pub use reads::Reads;
+pub use view::GraphView;

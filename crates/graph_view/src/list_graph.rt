@@ -1,0 +1,112 @@
+ghost use Rattle.std.specs.Prelude.{◌≡◌, ◌&&◌, ◌==◌, [], map, filter, IfOk};
+
+use crate::{GraphEdit, GraphView, Key, Reads, StoreFault};
+use indexmap::IndexSet;
+use shx_term::{Id, Memory, Pool, PoolFault, Term, Triple};
+use std::alloc::Global;
+use std::marker::Model;
+
+/// The plain graph: a set of triples, over which each look-up goes whole.
+#[derive(Drop)]
+pub struct ListGraph {
+    pool: Pool,
+    triples: IndexSet<Triple>,
+    limit: u64,
+}
+
+impl Model for ListGraph {
+    ghost use Rattle.std.specs.Prelude.{All, length, ◌≤◌, ◌<◌, ◌^◌};
+    ghost use Rattle.graph_view.specs.ListGraph.{PlainGraph};
+    ghost use Rattle.graph_view.specs.Graph.{IsKnownTriple};
+
+    ghost Value = { PlainGraph };
+
+    ghost view = { λ a. record { pool = a.pool; triples = a.triples.keys; limit = a.limit } };
+
+    ghost invariant = { λ a. All (IsKnownTriple a.pool.terms) a.triples.keys × (length a.triples.keys ≤ a.limit) × (a.limit < 2 ^ 64) };
+}
+
+impl ListGraph {
+    /// A graph with no triples over the terms of a pool. It takes no memory.
+    pub fn new(alloc: Global, pool: Pool, limit: u64) -> ListGraph
+        ensures { result ≡ record { pool = pool; triples = []; limit = limit } }
+    {
+        ListGraph {
+            pool,
+            triples: IndexSet::new(alloc),
+            limit,
+        }
+    }
+
+    /// The pool, without the triples. It takes no memory.
+    pub fn into_pool(self) -> Pool
+        ensures { result ≡ self.pool }
+    {
+        let ListGraph {
+            pool,
+            triples: _,
+            limit: _,
+        } = self;
+        pool
+    }
+}
+
+impl GraphView for ListGraph {
+    ghost use Rattle.graph_view.specs.ListGraph.{plain_graph};
+
+    ghost graph = { plain_graph };
+
+    ghost term_limit = { λ g. g.pool.limit };
+
+    fn pool(&self) -> &Pool {
+        &self.pool
+    }
+
+    fn len(&self) -> u64 {
+        self.triples.len() as u64
+    }
+
+    fn contains(&self, t: &Triple) -> bool {
+        self.triples.contains(t)
+    }
+
+    fn objects(&self, alloc: Global, s: Id, p: Id, reads: &mut Reads) -> Result<Vec<Id>, Memory> {
+        let found = objects_among(alloc, self.triples.as_slice(), s, p)?;
+        reads.add(Key::Out(s, p))?;
+        Ok(self.pool.in_order(found)?)
+    }
+}
+
+impl GraphEdit for ListGraph {
+    ghost triple_limit = { λ g. g.limit };
+
+    fn limit(&self) -> u64 {
+        self.limit
+    }
+
+    fn enter(&mut self, term: &Term) -> Result<Id, PoolFault> {
+        self.pool.enter(term)
+    }
+
+    fn insert(&mut self, t: Triple) -> Result<bool, StoreFault> {
+        if self.triples.contains(&t) {
+            return Ok(false);
+        }
+        if self.triples.len() as u64 >= self.limit {
+            return Err(StoreFault::TooMany);
+        }
+        self.triples.insert(t)?;
+        Ok(true)
+    }
+}
+
+// The objects of a subject and predicate, in the order of the list and with its repeats.
+fn objects_among(alloc: Global, triples: &[Triple], s: Id, p: Id) -> Result<Vec<Id>, Memory>
+    ensures { IfOk result (λ found. found.items ≡ map (λ t. t.o) (filter (λ t. (t.s == s) && (t.p == p)) triples.now)) }
+{
+    triples
+        .iter()
+        .filter(|t| t.s == s && t.p == p)
+        .map(|t| t.o)
+        .collect(alloc)
+}

@@ -1,0 +1,68 @@
+ghost use Rattle.std.specs.Prelude.{◌≡◌, ◌<◌, ◌↔◌, [], ◌∷◌, Some, length, slice_get, Contains, IsTrue, OnOk, OnErr};
+ghost use Rattle.std.specs.List.{IsDistinct};
+ghost use Rattle.graph_view.specs.Key.{same_key};
+ghost use Rattle.graph_view.specs.Reads.{Adds};
+
+use crate::Key;
+use indexmap::IndexSet;
+use shx_term::Memory;
+use std::alloc::Global;
+use std::marker::Model;
+
+/// The keys that were read, each once. Contracts see them as a list, and speak of its members alone.
+#[derive(Drop)]
+pub struct Reads {
+    keys: IndexSet<Key>,
+}
+
+impl Model for Reads {
+    ghost use Rattle.std.specs.Prelude.{List};
+    ghost use Rattle.graph_view.specs.declared.key.Key.{Key};
+
+    ghost Value = { List Key };
+
+    ghost view = { λ a. a.keys.keys };
+}
+
+impl Reads {
+    /// No keys. It takes no memory.
+    pub fn new(alloc: Global) -> Reads
+        ensures { result ≡ [] }
+    {
+        Reads {
+            keys: IndexSet::new(alloc),
+        }
+    }
+
+    /// Whether the key was read. It takes no memory, and one look-up by hash.
+    pub fn has(&self, key: &Key) -> bool
+        ensures { IsTrue result ↔ Contains self.now key.now }
+    {
+        self.keys.contains(key)
+    }
+
+    /// Adds one key.
+    pub fn add(&mut self, key: Key) -> Result<(), Memory>
+        ensures added { OnOk result (Adds self.old self.new (key ∷ [])) }
+        ensures refused { OnErr result (self.new ≡ self.old) }
+    {
+        self.keys.insert(key)?;
+        Ok(())
+    }
+
+    /// How many keys there are. They are distinct.
+    pub fn len(&self) -> usize
+        ensures count { result ≡ length self.now }
+        ensures distinct { IsDistinct same_key self.now }
+    {
+        self.keys.len()
+    }
+
+    /// The key at a place, in the order in which the keys were first added.
+    pub fn key_at(&self, at: usize) -> &Key
+        requires { at < length self.now }
+        ensures { slice_get self.now at ≡ Some result.now }
+    {
+        &self.keys.as_slice()[at]
+    }
+}

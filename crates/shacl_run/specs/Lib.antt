@@ -1,0 +1,17 @@
+pub mod Answer
+pub mod Document
+pub mod EachSome
+pub mod Evaluation
+pub mod Known
+pub mod LineForm
+pub mod Output
+pub mod Reading
+pub mod Report
+pub mod Run
+pub mod RunClauses
+pub mod SameGraph
+pub mod Shapes
+pub mod Status
+pub mod TextRead
+pub mod Words
+pub mod Writers

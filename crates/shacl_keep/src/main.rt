@@ -1,4 +1,5 @@
-//! `shacl_keep SHAPES DATA`: validates a data text against a shapes text and prints the report.
+//! `shacl_keep SHAPES DATA [SCRIPT]`: validates a data text against a shapes text, prints the report, and answers a script
+//! line by line.
 //!
 //! It only joins the run to the outside, files and standard output, and ends with the status's number. Words that are
 //! not UTF-8 end it with 2, and nothing is written.

@@ -1,8 +1,13 @@
 mod Declaring
 mod Documents
+mod Edits
+mod Endings
 mod Enumerated
+mod LineParts
 mod Lines
 mod Loading
 mod Preparing
+mod Replying
+mod ScriptLines
+mod Serving
 mod Sinks
-mod Stopping

@@ -68,11 +68,11 @@ part_kept : (part next : List ℕ) (parts : List (List ℕ)) → without_empty_e
 part_kept [] next parts = refl
 part_kept (b ∷ bs) next parts = refl
 
-end_kept : (part : List ℕ) → 0 < length part → without_empty_end (part ∷ []) ≡ part ∷ []
+pub end_kept : (part : List ℕ) → 0 < length part → without_empty_end (part ∷ []) ≡ part ∷ []
 end_kept [] h = absurd (omega arith)
 end_kept (b ∷ bs) h = refl
 
-first_kept : (part : List ℕ) (parts : List (List ℕ)) → 0 < length parts → without_empty_end (part ∷ parts) ≡ part ∷ without_empty_end parts
+pub first_kept : (part : List ℕ) (parts : List (List ℕ)) → 0 < length parts → without_empty_end (part ∷ parts) ≡ part ∷ without_empty_end parts
 first_kept part [] h = absurd (omega arith)
 first_kept part (next ∷ parts) h = part_kept part next parts
 

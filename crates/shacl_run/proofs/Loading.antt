@@ -7,7 +7,7 @@ use Rattle.shx_term.specs.declared.triple.Triple.{Triple}
 use Rattle.graph_view.specs.Graph.{HasAlso}
 use Rattle.graph_view.specs.SameGraph.{HoldsSame}
 
-HoldsSame-push : (old new triples : List Triple) (t : Triple) → HoldsSame old triples → HasAlso old new t → HoldsSame new (triples ++ t ∷ [])
+pub HoldsSame-push : (old new triples : List Triple) (t : Triple) → HoldsSame old triples → HasAlso old new t → HoldsSame new (triples ++ t ∷ [])
 HoldsSame-push old new triples t same also = record {
   each = λ u. (
     λ c. elim ((also.each u).0 c) [

@@ -1,9 +1,11 @@
 //! The graph of a document.
 ghost use Rattle.std.specs.Prelude.{◌≡◌, ◌≤◌, ◌<◌, ◌+◌, length, All, IfOk, OnOk};
+ghost use Rattle.std.specs.List.{IsDistinct};
+ghost use Rattle.shx_term.specs.Triple.{same_triple};
 ghost use Rattle.graph_view.specs.Graph.{IsKnownTriple, HasAlso};
 ghost use Rattle.graph_view.specs.SameGraph.{HoldsSame};
 
-use graph_view::{GraphEdit, ListGraph, StoreFault};
+use graph_view::{GraphEdit, GraphView, ListGraph, StoreFault};
 use shx_term::{Memory, Pool, Triple};
 use std::alloc::{AllocError, Global};
 
@@ -12,12 +14,15 @@ pub fn load(alloc: Global, pool: Pool, triples: &[Triple], limit: u64) -> Result
     requires known { All (IsKnownTriple pool.terms) triples.now }
     requires few { length triples.now ≤ limit }
     ensures pool { IfOk result (λ graph. graph.pool ≡ pool) }
+    ensures limit { IfOk result (λ graph. graph.limit ≡ limit) }
     ensures triples { IfOk result (λ graph. HoldsSame graph.triples triples.now) }
+    ensures distinct { IfOk result (λ graph. IsDistinct same_triple graph.triples) }
 {
     let mut graph = ListGraph::new(alloc, pool, limit);
     for triple in triples {
         add(&mut graph, *triple)?;
     }
+    prove!(graph.len() <= limit);
     Ok(graph)
 }
 

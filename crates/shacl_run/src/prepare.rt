@@ -1,44 +1,59 @@
-//! From the words to what there is to say: the texts are read, and nothing is written.
-ghost use Rattle.std.specs.Prelude.{◌≡◌, IfSome, IfOk};
+//! Before anything is written: the two texts are read, and a session is opened.
+ghost use Rattle.std.specs.Prelude.{◌≡◌, IfOk};
 ghost use Rattle.shx_outside.specs.declared.role.Role.TheVariants.{Shapes, Data};
-ghost use Rattle.shx_outside.specs.Told.{IsAtEnd};
+ghost use Rattle.shx_outside.specs.Told.{IsAtEnd, IsFixed};
 ghost use Rattle.shx_term.specs.Limits.{AreUsable};
-ghost use Rattle.shacl_run.specs.Answer.{output_of, IsReport};
-ghost use Rattle.shacl_run.specs.Run.{run_output};
+ghost use Rattle.shacl_run.specs.Prepared.{Prepares, IsOpen};
 ghost use Rattle.shacl_run.specs.TextRead.{HasInputCause};
-ghost use Rattle.shacl_run.specs.Words.{command_words, AdmitsFiles};
 
-use crate::answer::Answer;
 use crate::declare::declare;
+use crate::open_session::open_session;
+use crate::session::Session;
 use crate::text::{ReadFault, read_text};
-use crate::validate::validate;
-use crate::words::read_words;
 use shx_outside::{Inputs, Role};
-use shx_term::{Limits, Text};
+use shx_term::Limits;
 use std::alloc::Global;
 
-/// What there is to say about the texts that the words name.
+/// A session, or which text is not built.
+pub enum Prepared {
+    ShapesNotBuilt,
+    DataNotBuilt,
+    Open(Session),
+}
+
+impl Drop for Prepared {
+    fn drop(self) {
+        match self {
+            Prepared::ShapesNotBuilt => {}
+            Prepared::DataNotBuilt => {}
+            Prepared::Open(_session) => {}
+        }
+    }
+}
+
+/// Reads the two texts and opens a session over them.
 pub fn prepare<I: Inputs>(
     alloc: Global,
-    words: &[Text],
+    shapes_file: &str,
+    data_file: &str,
     host: &mut I,
     limits: &Limits,
-) -> Result<Answer, ReadFault>
+) -> Result<Prepared, ReadFault>
     requires limits { AreUsable limits.now }
-    requires admitted { AdmitsFiles (I.admits host.old) (command_words words.now) }
-    ensures answer { IfOk result (λ answer.
-        IfSome (run_output limits.now words.now (I.text host.old)) (λ output. output ≡ output_of answer)) }
-    ensures ends { IfOk result (λ answer. IsReport answer → IsAtEnd (I.rest host.new Shapes) × IsAtEnd (I.rest host.new Data)) }
+    requires shapes_admitted { I.admits host.old Shapes shapes_file.now }
+    requires data_admitted { I.admits host.old Data data_file.now }
+    ensures prepared { IfOk result (Prepares limits.now (I.text host.old shapes_file.now) (I.text host.old data_file.now)) }
+    ensures ends { IfOk result (λ prepared. IsOpen prepared → IsAtEnd (I.rest host.new Shapes) × IsAtEnd (I.rest host.new Data)) }
     ensures cause { HasInputCause (I.faults host.old) (I.faults host.new) result }
+    ensures fixed { IsFixed (I.admits host.old) (I.admits host.new) (I.text host.old) (I.text host.new) }
 {
-    let Some(files) = read_words(words) else {
-        return Ok(Answer::Usage);
-    };
-    let shapes_text = read_text(alloc, host, Role::Shapes, files.shapes_file, limits.text)?;
+    let shapes_text = read_text(alloc, host, Role::Shapes, shapes_file, limits.text)?;
     let Some(declared) = declare(alloc, &shapes_text, limits)? else {
-        return Ok(Answer::ShapesNotBuilt);
+        return Ok(Prepared::ShapesNotBuilt);
     };
-    let data_text = read_text(alloc, host, Role::Data, files.data_file, limits.text)?;
-    let answer = validate(alloc, declared, &data_text, limits)?;
-    Ok(answer)
+    let data_text = read_text(alloc, host, Role::Data, data_file, limits.text)?;
+    let Some(session) = open_session(alloc, declared, &data_text, limits)? else {
+        return Ok(Prepared::DataNotBuilt);
+    };
+    Ok(Prepared::Open(session))
 }

@@ -11,6 +11,8 @@ use std::process::Abort;
 use std::sync::ledger::{Blank, Ledger};
 use std::test::Fail;
 
+mod scripts;
+
 const FIRST_SHAPES: &str = "\
 <http://e/S> <http://www.w3.org/ns/shacl#targetNode> <http://e/a> .
 <http://e/S> <http://www.w3.org/ns/shacl#path> <http://e/p> .
@@ -214,10 +216,12 @@ fn second_put_fails(rt: HostRuntime) -> Result<(), Fail> {
 
 const USAGE: &str = "usage: shacl_keep [--format lines|turtle] [--base IRI] SHAPES DATA [SCRIPT]\n";
 
-const BAD_WORDS: [&[&str]; 9] = [
+const BAD_WORDS: [&[&str]; 11] = [
     &[],
     &["shapes"],
-    &["shapes", "data", "script"],
+    &["shapes", "data", ""],
+    &["shapes", "data", "-"],
+    &["shapes", "data", "script", "more"],
     &["", "data"],
     &["shapes", ""],
     &["-shapes", "data"],

@@ -1,0 +1,72 @@
+//! The report of a session, and then its script.
+ghost use Rattle.std.specs.Prelude.{◌≡◌, List, IfErr};
+ghost use Rattle.std.specs.Option.{option_map};
+ghost use Rattle.shx_outside.specs.declared.role.Role.TheVariants.{Script};
+ghost use Rattle.shx_outside.specs.Told.{OthersStay};
+ghost use Rattle.shx_term.specs.declared.limits.Limits.{Limits as LimitsOf};
+ghost use Rattle.graph_view.specs.Graph.{Graph};
+ghost use Rattle.shacl_run.specs.declared.plan.Shape.{Shape};
+ghost use Rattle.shacl_run.specs.Evaluation.{report};
+ghost use Rattle.shacl_run.specs.Output.{state_of};
+ghost use Rattle.shacl_run.specs.Report.{report_text};
+ghost use Rattle.shacl_run.specs.Run.{status_of_rows, with_script, script_text};
+ghost use Rattle.shacl_run.specs.RunClauses.{Ends, ScriptAtEnd, ReportsOrFails};
+ghost use Rattle.shacl_run.specs.Session.{IsSession};
+ghost use Rattle.shacl_run.specs.Status.{IsReported};
+ghost use Rattle.shacl_run.specs.Words.{AdmitsScript};
+
+use crate::ending::status_of_rows;
+use crate::evaluation::evaluate;
+use crate::report::write_report;
+use crate::serve::serve;
+use crate::session::Session;
+use crate::status::Status;
+use graph_view::GraphView;
+use shx_outside::{Failed, Inputs, Role, Sink};
+use shx_term::Limits;
+use std::alloc::Global;
+
+/// Writes the report, and then answers the script where the words name one.
+pub fn run_session<I: Inputs, O: Sink>(
+    alloc: Global,
+    session: &mut Session,
+    script: Option<&str>,
+    host: &mut I,
+    out: &mut O,
+    limits: &Limits,
+) -> Status
+    requires { AdmitsScript (I.admits host.old) (option_map (λ name. name.now) script) }
+    ensures ends { (shapes : List Shape) (g : Graph) → IsSession limits.now shapes g session.old
+        → Ends (with_script limits.now shapes g (script_text (I.text host.old) (option_map (λ name. name.now) script.entry))) result
+        (I.faults host.old) (I.faults host.new) (state_of O.held O.room O.faults out.old) (state_of O.held O.room O.faults out.new) }
+    ensures read_to_end { IsReported result → ScriptAtEnd (option_map (λ name. name.now) script.entry) (I.rest host.new Script) }
+    ensures others { OthersStay Script (I.opened host.old) (I.opened host.new) (I.rest host.old) (I.rest host.new) }
+{
+    let status = match put_report(alloc, session, out) {
+        Ok(status) => status,
+        Err(status) => return status,
+    };
+    let Some(name) = script else {
+        return status;
+    };
+    match host.open(Role::Script, name) {
+        Ok(()) => serve(alloc, session, host, out, limits),
+        Err(Failed) => Status::InputFault,
+    }
+}
+
+// Writes the report, and answers how the run ends with it, or how it ends without.
+fn put_report<O: Sink>(alloc: Global, session: &Session, out: &mut O) -> Result<Status, Status>
+    ensures failed { IfErr result (λ status. IsReported status → ⊥) }
+    ensures reports { (limits : LimitsOf) (shapes : List Shape) (g : Graph) → IsSession limits shapes g session.now
+        → ReportsOrFails (state_of O.held O.room O.faults out.old) (state_of O.held O.room O.faults out.new)
+        (report_text g.terms shapes (report g shapes)) (status_of_rows (report g shapes)) result }
+{
+    let Ok(rows) = evaluate(alloc, &session.graph, &session.shapes) else {
+        return Err(Status::Memory);
+    };
+    match write_report(&rows, &session.shapes, session.graph.pool(), out) {
+        Ok(()) => Ok(status_of_rows(&rows)),
+        Err(Failed) => Err(Status::WriteFault),
+    }
+}

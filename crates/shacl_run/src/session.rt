@@ -1,0 +1,9 @@
+use crate::plan::Shape;
+use graph_view::ListGraph;
+
+/// Declared shapes, and the data graph that they are asked of.
+#[derive(Drop)]
+pub struct Session {
+    pub graph: ListGraph,
+    pub shapes: Vec<Shape>,
+}

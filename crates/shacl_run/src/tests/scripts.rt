@@ -30,7 +30,12 @@ fn scripted(
     Ok(MemoryInputs::new(files, piece, failing))
 }
 
-fn run_scripted(alloc: Global, host: MemoryInputs, out: MemorySink, limits: &Limits) -> Result<Ended, Memory>
+fn run_scripted(
+    alloc: Global,
+    host: MemoryInputs,
+    out: MemorySink,
+    limits: &Limits,
+) -> Result<Ended, Memory>
     requires { AreUsable limits.now }
 {
     run_over(alloc, &["shapes", "data", "script"], host, out, limits)
@@ -41,14 +46,24 @@ fn run_script(alloc: Global, facts: &str, script: &str, limits: &Limits) -> Resu
     requires { AreUsable limits.now }
 {
     let host = scripted(alloc, facts, script, 64, Vec::new(alloc))?;
-    run_scripted(alloc, host, MemorySink::new(alloc, 4096, Vec::new(alloc)), limits)
+    run_scripted(
+        alloc,
+        host,
+        MemorySink::new(alloc, 4096, Vec::new(alloc)),
+        limits,
+    )
 }
 
 fn run_pieces(alloc: Global, piece: usize) -> Result<Ended, Memory>
     requires { 0 < piece }
 {
     let host = scripted(alloc, "", FIRST_SCRIPT, piece, Vec::new(alloc))?;
-    run_scripted(alloc, host, MemorySink::new(alloc, 4096, Vec::new(alloc)), &Limits::program())
+    run_scripted(
+        alloc,
+        host,
+        MemorySink::new(alloc, 4096, Vec::new(alloc)),
+        &Limits::program(),
+    )
 }
 
 #[test]
@@ -96,10 +111,22 @@ fn lines_are_answered(rt: HostRuntime) -> Result<(), Fail> {
     let facts = "<http://e/a> <http://e/p> <http://e/b> .";
     for (script, status, answers) in [
         ("", Status::Conforms, ""),
-        ("report", Status::Conforms, "report conforms=true results=0\n"),
+        (
+            "report",
+            Status::Conforms,
+            "report conforms=true results=0\n",
+        ),
         ("\n", Status::LinesRefused, "refused line 1: 59 NotBuilt\n"),
-        ("report\r\n", Status::LinesRefused, "refused line 1: 59 NotBuilt\n"),
-        ("insert <e:a> <e:p> <e:b> .", Status::Conforms, "ok changed\n"),
+        (
+            "report\r\n",
+            Status::LinesRefused,
+            "refused line 1: 59 NotBuilt\n",
+        ),
+        (
+            "insert <e:a> <e:p> <e:b> .",
+            Status::Conforms,
+            "ok changed\n",
+        ),
         (
             "insert <http://e/a> <http://e/p> <http://e/b> .\n",
             Status::Conforms,
@@ -169,16 +196,31 @@ fn a_script_past_its_limit_is_refused(rt: HostRuntime) -> Result<(), Fail> {
     let mut limits = Limits::program();
     limits.script = 14;
     let ended = run_script(rt.alloc(), facts, "report\nreport\n", &limits)?;
-    assert_ended(&rt, &ended, Status::Conforms, "report conforms=true results=0\nreport conforms=true results=0\nreport conforms=true results=0\n");
+    assert_ended(
+        &rt,
+        &ended,
+        Status::Conforms,
+        "report conforms=true results=0\nreport conforms=true results=0\nreport conforms=true results=0\n",
+    );
     limits.script = 13;
     let ended = run_script(rt.alloc(), facts, "report\nreport\n", &limits)?;
-    assert_ended(&rt, &ended, Status::Refused, "report conforms=true results=0\nreport conforms=true results=0\nfault script: 59 NotBuilt\n");
+    assert_ended(
+        &rt,
+        &ended,
+        Status::Refused,
+        "report conforms=true results=0\nreport conforms=true results=0\nfault script: 59 NotBuilt\n",
+    );
     Ok(())
 }
 
 fn run_failing_call(alloc: Global, call: u64) -> Result<Ended, Memory> {
     let host = scripted(alloc, "", FIRST_SCRIPT, 64, vec![in alloc; call]?)?;
-    run_scripted(alloc, host, MemorySink::new(alloc, 4096, Vec::new(alloc)), &Limits::program())
+    run_scripted(
+        alloc,
+        host,
+        MemorySink::new(alloc, 4096, Vec::new(alloc)),
+        &Limits::program(),
+    )
 }
 
 // After the texts the calls open the script, read it whole and meet its end.
@@ -208,7 +250,12 @@ fn input_faults(rt: HostRuntime) -> Result<(), Fail> {
 
 fn run_failing_put(alloc: Global, put: u64) -> Result<Ended, Memory> {
     let host = scripted(alloc, "", FIRST_SCRIPT, 64, Vec::new(alloc))?;
-    run_scripted(alloc, host, MemorySink::new(alloc, 8, vec![in alloc; put]?), &Limits::program())
+    run_scripted(
+        alloc,
+        host,
+        MemorySink::new(alloc, 8, vec![in alloc; put]?),
+        &Limits::program(),
+    )
 }
 
 // The report takes 13 puts, the answer 2 and the second report 4.
@@ -217,7 +264,10 @@ fn each_put_fails(rt: HostRuntime) -> Result<(), Fail> {
     for put in 1..=19 {
         let ended = run_failing_put(rt.alloc(), put)?;
         assert_eq!(rt; ended.status, Status::WriteFault, "put {put}");
-        assert!(rt; FIRST_OUTPUT.as_bytes().starts_with(&ended.bytes), "put {put}");
+        assert!(rt;
+            FIRST_OUTPUT.as_bytes().starts_with(&ended.bytes),
+            "put {put}"
+        );
         assert!(rt; ended.bytes.len() < FIRST_OUTPUT.len(), "put {put}");
     }
     let ended = run_failing_put(rt.alloc(), 20)?;

@@ -1,10 +1,16 @@
+pub mod Datatypes
 pub mod Held
 pub mod IdOrder
+pub mod InOrder
 pub mod Limits
 pub mod Members
+pub mod MomentForm
+pub mod NumberForm
 pub mod Numbers
 pub mod Pool
 pub mod Spelling
 pub mod TermOrder
 pub mod Triple
+pub mod TripleOrder
 pub mod Vocabulary
+pub mod WideLiterals

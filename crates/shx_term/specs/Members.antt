@@ -1,8 +1,9 @@
 -- Members of lists, which are seen as sets.
-use Rattle.std.specs.Prelude.{◌≡◌, Bool, true, false, List, [], ◌∷◌, ◌++◌, map, filter, if◌then◌else◌, Contains, ◌↔◌, ◌⊎◌}
+use Rattle.std.specs.Prelude.{◌≡◌, Bool, true, false, List, [], ◌∷◌, ◌++◌, map, filter, if◌then◌else◌, All, Contains, ◌↔◌, ◌⊎◌}
 use Rattle.std.specs.Cmp.{IsEquivalence, first_so, second_so}
 use Rattle.std.specs.List.{list_any, list_all}
-use Rattle.std.proofs.Common.{refl, sym, ap, ◌∙◌, subst, inl, inr, arith}
+use Rattle.std.proofs.Common.{refl, sym, ap, ◌∙◌, subst, inl, inr, get_or, true≢false, arith}
+use Rattle.std.proofs.lemmas.List.{get_or_default}
 use Rattle.std.proofs.lemmas.List.Elements.{Contains-push, Contains-push_cases, Contains-append_left, Contains-append_right, Contains-append_cases}
 use Rattle.std.proofs.lemmas.Map.Views.{Contains-from_any, list_any-from_Contains}
 
@@ -41,6 +42,29 @@ module _ {K : Type 0} where
             λ h. elim h [ inl c ↦ Contains-append_left xs (x ∷ []) y c | inr e ↦ subst (Contains (xs ++ x ∷ [])) (sym e) (Contains-push xs x) ],
           )
         ] refl
+
+    -- the members of what is left where an element is removed
+    pub Contains-remove : (xs left : List K) (x : K) → ((y : K) → list_any (same y) left ≡ (if same x y then false else list_any (same y) xs))
+        → (y : K) → Contains left y ↔ (Contains xs y × (y ≡ x → ⊥))
+    Contains-remove xs left x removed y =
+        elim (same x y) as (λ b. same x y ≡ b → list_any (same y) left ≡ (if b then false else list_any (same y) xs) → Contains left y ↔ (Contains xs y × (y ≡ x → ⊥))) [
+          | true ↦ λ tied gone. (
+            λ c. absurd (true≢false (sym ((Contains-test left y).1 c) ∙ gone)),
+            λ held. absurd (held.1 (sym (exact x y tied))),
+          )
+          | false ↦ λ apart kept. (
+            λ c. ((Contains-test xs y).0 (sym kept ∙ (Contains-test left y).1 c), λ e. true≢false (sym (laws.refl x) ∙ ap (same x) (sym e) ∙ apart)),
+            λ held. (Contains-test left y).0 (kept ∙ (Contains-test xs y).1 held.0),
+          )
+        ] refl (removed y)
+
+-- what holds of all holds of each member, and the other way
+module _ {K : Type 0} (P : K → Type 0) where
+  pub each_of_All : (xs : List K) → All P xs → (x : K) → Contains xs x → P x
+  each_of_All xs all x c = subst P c.2 (all c.0 x c.1)
+
+  pub All_of_each : (xs : List K) → ((x : K) → Contains xs x → P x) → All P xs
+  All_of_each xs each = λ k d inside. each (get_or xs k d) (k, inside, get_or_default xs k (get_or xs k d) d inside)
 
 -- the members of a list's images, and of what a filter keeps
 module _ {A B : Type 0} (f : A → B) where

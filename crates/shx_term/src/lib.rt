@@ -35,7 +35,7 @@ pub use iri_text::IriText;
 pub use label::Label;
 pub use limits::Limits;
 pub use memory::Memory;
-pub use order::cmp_terms;
+pub use order::{cmp_terms, equal_terms_are_one};
 pub use pool::{Pool, PoolFault};
 pub use spelling::{XSD_STRING, spell};
 pub use steps::Steps;

@@ -1,4 +1,5 @@
 ghost use Rattle.std.specs.Prelude.{◌≡◌};
+ghost use Rattle.shx_term.specs.declared.term.Term.{Term};
 ghost use Rattle.shx_term.specs.TermOrder.{term_cmp, kind_of, kind_of_name, rank_of, scope_of, number_of, head_of, lexical_of, tag_number_of, tag_of};
 
 use crate::{LocalName, Scope, Term};
@@ -22,6 +23,11 @@ pub fn cmp_terms(a: &Term, b: &Term) -> Ordering
         by_tag,
     ))))))
 }
+
+/// Terms that compare as equal are one term: all their parts are equal.
+pub fn equal_terms_are_one()
+    ensures { (a b : Term) → term_cmp a b ≡ Ordering.Equal → a ≡ b }
+{}
 
 fn kind(term: &Term) -> u8
     ensures { result ≡ kind_of term.now }
@@ -128,6 +134,38 @@ impl Eq for Term {
     ghost use Rattle.shx_term.specs.TermOrder.{same_term_equiv};
 
     ghost laws = { same_term_equiv };
+}
+
+impl PartialOrd for Term {
+    ghost use Rattle.std.specs.Prelude.{Some};
+    ghost use Rattle.std.specs.Cmp.{partial_order_from_total};
+    ghost use Rattle.shx_term.specs.TermOrder.{term_cmp, term_cmp_total};
+
+    ghost partial_cmp = { λ a b. Some (term_cmp a b) };
+
+    ghost laws = { partial_order_from_total term_cmp_total };
+
+    fn partial_cmp(&self, other: &Self) -> Option<Ordering> {
+        Some(self.cmp(other))
+    }
+}
+
+// The order is total: one of two terms is less, or they are one; and it goes on over a third.
+impl Ord for Term {
+    ghost use Rattle.std.specs.Prelude.{refl};
+    ghost use Rattle.shx_term.specs.TermOrder.{term_cmp, term_cmp_total};
+
+    ghost cmp = { term_cmp };
+
+    ghost total = { term_cmp_total };
+
+    ghost matches_partial_cmp = { λ x y. refl };
+
+    ghost matches_eq = { λ x y. refl };
+
+    fn cmp(&self, other: &Self) -> Ordering {
+        cmp_terms(self, other)
+    }
 }
 
 impl Hash for Term {

@@ -3,8 +3,9 @@ ghost use Rattle.std.specs.List.{IsDistinct};
 ghost use Rattle.shx_term.specs.TermOrder.{same_term, term_cmp};
 ghost use Rattle.shx_term.specs.Pool.{Pooled, is_held, with_term, IsFullFor};
 ghost use Rattle.shx_term.specs.IdOrder.{id_cmp, in_term_order};
+ghost use Rattle.shx_term.specs.TripleOrder.{triple_cmp, in_triple_order};
 
-use crate::{Id, Memory, Term, cmp_terms};
+use crate::{Id, Memory, Term, Triple, cmp_terms};
 use indexmap::IndexSet;
 use std::alloc::{AllocError, AllocFailed, Global};
 use std::cmp::Ordering;
@@ -147,10 +148,13 @@ impl Pool {
         Ok(index as u32)
     }
 
-    /// Compares two numbers by their terms.
+    /// Compares two numbers by their terms. It takes no memory, and constant time where they are the same.
     pub fn cmp_ids(&self, a: Id, b: Id) -> Ordering
         ensures { result ≡ id_cmp self.now.terms a b }
     {
+        if a == b {
+            return Ordering::Equal;
+        }
         let by_term = match (
             self.terms.get_index(a as usize),
             self.terms.get_index(b as usize),
@@ -163,6 +167,19 @@ impl Pool {
         by_term.then(a.cmp(&b))
     }
 
+    /// Compares two triples: by subject, then by predicate, then by object, each by its term. It takes no memory.
+    pub fn cmp_triples(&self, a: &Triple, b: &Triple) -> Ordering
+        ensures { result ≡ triple_cmp self.now.terms a.now b.now }
+    {
+        match self.cmp_ids(a.s, b.s) {
+            Ordering::Equal => match self.cmp_ids(a.p, b.p) {
+                Ordering::Equal => self.cmp_ids(a.o, b.o),
+                by_predicate => by_predicate,
+            },
+            by_subject => by_subject,
+        }
+    }
+
     /// The numbers in the order of their terms, each once. It takes time `O(n log n)` in their number.
     pub fn in_order(&self, mut ids: Vec<Id>) -> Result<Vec<Id>, Memory>
         ensures { IfOk result (λ sorted. sorted.items ≡ in_term_order self.now.terms ids.items) }
@@ -170,5 +187,14 @@ impl Pool {
         ids.sort_by(|a, b| self.cmp_ids(*a, *b))?;
         ids.dedup();
         Ok(ids)
+    }
+
+    /// The triples in order of subject, predicate and object, each once. It takes time `O(n log n)` in their number.
+    pub fn triples_in_order(&self, mut triples: Vec<Triple>) -> Result<Vec<Triple>, Memory>
+        ensures { IfOk result (λ sorted. sorted.items ≡ in_triple_order self.now.terms triples.items) }
+    {
+        triples.sort_by(|a, b| self.cmp_triples(a, b))?;
+        triples.dedup();
+        Ok(triples)
     }
 }

@@ -9,12 +9,6 @@ use std::sync::ledger::{Blank, Ledger};
 use std::test::Fail;
 use vocabulary::*;
 
-const RDF: &str = "http://www.w3.org/1999/02/22-rdf-syntax-ns#";
-
-const RDFS: &str = "http://www.w3.org/2000/01/rdf-schema#";
-
-const SH: &str = "http://www.w3.org/ns/shacl#";
-
 const LANG_STRING: &str = "http://www.w3.org/1999/02/22-rdf-syntax-ns#langString";
 
 const XSD_INTEGER: &str = "http://www.w3.org/2001/XMLSchema#integer";
@@ -104,10 +98,14 @@ fn labels_keep_their_text(rt: HostRuntime) -> Result<(), Fail> {
 }
 
 fn add_names(alloc: Global, terms: &mut Vec<Term>) -> Result<(), Memory> {
-    for text in ["http://e/Z", "http://e/a"] {
+    for text in ["http://e/Z", "http://e/a", "http://e/ä"] {
         terms.push(iri(alloc, text)?)?;
     }
-    for (scope, label) in [(Scope::Data, "L"), (Scope::Data, "M"), (Scope::Shapes, "L")] {
+    for (scope, label) in [
+        (Scope::Data, "L"),
+        (Scope::Data, "Mé"),
+        (Scope::Shapes, "L"),
+    ] {
         terms.push(labelled(alloc, scope, label)?)?;
     }
     for (scope, number) in [(Scope::Data, 7), (Scope::Data, 10), (Scope::Shapes, 7)] {
@@ -124,7 +122,7 @@ fn add_literals(alloc: Global, terms: &mut Vec<Term>) -> Result<(), Memory> {
     for number in ["10", "9"] {
         terms.push(literal(alloc, number, XSD_INTEGER)?)?;
     }
-    for text in ["", "5", "a\"b\\c\nd\re\tf"] {
+    for text in ["", "5", "a\"b\\c\nd\re\tf", "ä€😀"] {
         terms.push(literal(alloc, text, XSD_STRING)?)?;
     }
     Ok(())
@@ -139,11 +137,12 @@ fn terms_in_order(alloc: Global) -> Result<Vec<Term>, Memory> {
 }
 
 // How those terms are written.
-const SPELLINGS: [&str; 16] = [
+const SPELLINGS: [&str; 18] = [
     "<http://e/Z>",
     "<http://e/a>",
+    "<http://e/ä>",
     "_:d-L",
-    "_:d-M",
+    "_:d-Mé",
     "_:s-L",
     "_:a-7",
     "_:a-10",
@@ -156,6 +155,7 @@ const SPELLINGS: [&str; 16] = [
     "\"\"",
     "\"5\"",
     "\"a\\\"b\\\\c\\nd\\re\tf\"",
+    "\"ä€😀\"",
 ];
 
 #[test]
@@ -165,6 +165,9 @@ fn terms_are_ordered(rt: HostRuntime) -> Result<(), Fail> {
     for (i, a) in terms.iter().enumerate() {
         for (j, b) in terms.iter().enumerate() {
             assert_eq!(rt; cmp_terms(a, b), i.cmp(&j), "at {i} and {j}");
+            assert_eq!(rt; a.cmp(b), i.cmp(&j), "at {i} and {j}");
+            assert_eq!(rt; a < b, i < j, "at {i} and {j}");
+            assert_eq!(rt; a == b, i == j, "at {i} and {j}");
         }
     }
     Ok(())
@@ -200,100 +203,25 @@ fn copies_are_equal(rt: HostRuntime) -> Result<(), Fail> {
     Ok(())
 }
 
-// Each term of the vocabulary: its constant and its local name.
-const RDF_TERMS: [(Id, &str); 4] = [
-    (RDF_TYPE, "type"),
-    (RDF_FIRST, "first"),
-    (RDF_REST, "rest"),
-    (RDF_NIL, "nil"),
-];
-
-const RDFS_TERMS: [(Id, &str); 2] = [(RDFS_SUB_CLASS_OF, "subClassOf"), (RDFS_CLASS, "Class")];
-
-const SH_TERMS: [(Id, &str); 56] = [
-    (SH_NODE_SHAPE, "NodeShape"),
-    (SH_PROPERTY_SHAPE, "PropertyShape"),
-    (SH_PATH, "path"),
-    (SH_INVERSE_PATH, "inversePath"),
-    (SH_ALTERNATIVE_PATH, "alternativePath"),
-    (SH_ZERO_OR_MORE_PATH, "zeroOrMorePath"),
-    (SH_ONE_OR_MORE_PATH, "oneOrMorePath"),
-    (SH_ZERO_OR_ONE_PATH, "zeroOrOnePath"),
-    (SH_TARGET_NODE, "targetNode"),
-    (SH_TARGET_CLASS, "targetClass"),
-    (SH_TARGET_SUBJECTS_OF, "targetSubjectsOf"),
-    (SH_TARGET_OBJECTS_OF, "targetObjectsOf"),
-    (SH_SEVERITY, "severity"),
-    (SH_MESSAGE, "message"),
-    (SH_DEACTIVATED, "deactivated"),
-    (SH_VIOLATION, "Violation"),
-    (SH_SPARQL, "sparql"),
-    (SH_IRI, "IRI"),
-    (SH_BLANK_NODE, "BlankNode"),
-    (SH_LITERAL, "Literal"),
-    (SH_BLANK_NODE_OR_IRI, "BlankNodeOrIRI"),
-    (SH_BLANK_NODE_OR_LITERAL, "BlankNodeOrLiteral"),
-    (SH_IRI_OR_LITERAL, "IRIOrLiteral"),
-    (SH_CLASS, "class"),
-    (SH_DATATYPE, "datatype"),
-    (SH_NODE_KIND, "nodeKind"),
-    (SH_MIN_COUNT, "minCount"),
-    (SH_MAX_COUNT, "maxCount"),
-    (SH_MIN_EXCLUSIVE, "minExclusive"),
-    (SH_MIN_INCLUSIVE, "minInclusive"),
-    (SH_MAX_EXCLUSIVE, "maxExclusive"),
-    (SH_MAX_INCLUSIVE, "maxInclusive"),
-    (SH_MIN_LENGTH, "minLength"),
-    (SH_MAX_LENGTH, "maxLength"),
-    (SH_PATTERN, "pattern"),
-    (SH_FLAGS, "flags"),
-    (SH_LANGUAGE_IN, "languageIn"),
-    (SH_UNIQUE_LANG, "uniqueLang"),
-    (SH_EQUALS, "equals"),
-    (SH_DISJOINT, "disjoint"),
-    (SH_LESS_THAN, "lessThan"),
-    (SH_LESS_THAN_OR_EQUALS, "lessThanOrEquals"),
-    (SH_NOT, "not"),
-    (SH_AND, "and"),
-    (SH_OR, "or"),
-    (SH_XONE, "xone"),
-    (SH_NODE, "node"),
-    (SH_PROPERTY, "property"),
-    (SH_QUALIFIED_VALUE_SHAPE, "qualifiedValueShape"),
-    (SH_QUALIFIED_MIN_COUNT, "qualifiedMinCount"),
-    (SH_QUALIFIED_MAX_COUNT, "qualifiedMaxCount"),
-    (
-        SH_QUALIFIED_VALUE_SHAPES_DISJOINT,
-        "qualifiedValueShapesDisjoint",
-    ),
-    (SH_CLOSED, "closed"),
-    (SH_IGNORED_PROPERTIES, "ignoredProperties"),
-    (SH_HAS_VALUE, "hasValue"),
-    (SH_IN, "in"),
-];
-
-fn assert_named(
-    rt: &impl Abort,
-    alloc: Global,
-    pool: &Pool,
-    namespace: &str,
-    terms: &[(Id, &str)],
-) -> Result<(), Fail> {
-    for (id, name) in terms {
-        assert!(rt; *id < pool.len(), "{name}");
-        let written = spelled(alloc, pool.term(*id))?;
-        let wanted = format!(in alloc; "<{namespace}{name}>")?;
-        assert_eq!(rt; written, wanted);
-    }
-    Ok(())
-}
-
 #[test]
 fn constants_are_their_terms(rt: HostRuntime) -> Result<(), Fail> {
     let pool = Pool::with_vocabulary(rt.alloc(), VOCABULARY_LEN)?;
-    assert_named(&rt, rt.alloc(), &pool, RDF, &RDF_TERMS)?;
-    assert_named(&rt, rt.alloc(), &pool, RDFS, &RDFS_TERMS)?;
-    assert_named(&rt, rt.alloc(), &pool, SH, &SH_TERMS)?;
+    let rows = vocabulary_rows();
+    assert_eq!(rt; rows.len(), 62);
+    for (id, name) in rows {
+        let term = iri(rt.alloc(), name)?;
+        assert_eq!(rt; pool.find(&term), Some(*id), "{name}");
+    }
+    for (id, spelling) in [
+        (RDF_NIL, "<http://www.w3.org/1999/02/22-rdf-syntax-ns#nil>"),
+        (RDFS_CLASS, "<http://www.w3.org/2000/01/rdf-schema#Class>"),
+        (SH_PATH, "<http://www.w3.org/ns/shacl#path>"),
+        (SH_IN, "<http://www.w3.org/ns/shacl#in>"),
+    ] {
+        assert!(rt; id < pool.len(), "{spelling}");
+        let written = spelled(rt.alloc(), pool.term(id))?;
+        assert_eq!(rt; written.as_str(), spelling);
+    }
     Ok(())
 }
 
@@ -320,6 +248,29 @@ fn terms_are_entered_once(rt: HostRuntime) -> Result<(), Fail> {
     assert_eq!(rt; pool.enter(&term)?, 62);
     assert_eq!(rt; pool.len(), 63);
     assert_eq!(rt; pool.find(&term), Some(62));
+    Ok(())
+}
+
+// One lexical form, under five datatypes and tags.
+#[test]
+fn equal_lexical_forms_are_different_terms(rt: HostRuntime) -> Result<(), Fail> {
+    let mut pool = Pool::with_vocabulary(rt.alloc(), 70)?;
+    let mut terms = Vec::new(rt.alloc());
+    for datatype in [XSD_STRING, XSD_INTEGER, LANG_STRING] {
+        terms.push(literal(rt.alloc(), "5", datatype)?)?;
+    }
+    for tag in ["en", "de"] {
+        terms.push(tagged(rt.alloc(), "5", tag)?)?;
+    }
+    for (term, id) in terms.iter().zip(62..67) {
+        assert_eq!(rt; pool.enter(term)?, id);
+    }
+    for (term, id) in terms.iter().zip(62..67) {
+        assert_eq!(rt; pool.find(term), Some(id));
+        assert!(rt; id < pool.len());
+        assert_eq!(rt; pool.term(id), term);
+    }
+    assert_eq!(rt; pool.len(), 67);
     Ok(())
 }
 
@@ -357,6 +308,38 @@ fn numbers_are_ordered_by_their_terms(rt: HostRuntime) -> Result<(), Fail> {
         [RDF_FIRST, RDF_TYPE, SH_IRI, SH_AND, SH_IN].as_slice()
     );
     Ok(())
+}
+
+fn triple(s: Id, p: Id, o: Id) -> Triple {
+    Triple { s, p, o }
+}
+
+#[test]
+fn triples_are_ordered_by_subject_then_predicate_then_object(rt: HostRuntime) -> Result<(), Fail> {
+    let pool = Pool::with_vocabulary(rt.alloc(), 62)?;
+    let sorted = [
+        triple(RDF_FIRST, SH_IN, SH_AND),
+        triple(RDF_FIRST, SH_IN, SH_IN),
+        triple(RDF_TYPE, RDF_FIRST, SH_OR),
+        triple(RDF_TYPE, RDF_TYPE, RDF_FIRST),
+    ];
+    for (i, a) in sorted.iter().enumerate() {
+        for (j, b) in sorted.iter().enumerate() {
+            assert_eq!(rt; pool.cmp_triples(a, b), i.cmp(&j), "at {i} and {j}");
+        }
+    }
+    let mut given = Vec::new(rt.alloc());
+    for at in [2, 0, 3, 2, 1, 0] {
+        given.push(sorted[at])?;
+    }
+    let found = pool.triples_in_order(given)?;
+    assert_eq!(rt; found.as_slice(), sorted.as_slice());
+    Ok(())
+}
+
+#[test]
+fn equal_terms_are_one_term() {
+    equal_terms_are_one();
 }
 
 #[test]

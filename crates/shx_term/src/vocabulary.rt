@@ -1,4 +1,5 @@
 ghost use Rattle.std.specs.Prelude.{◌≡◌, ◌≤◌, map, IfOk, OnOk};
+ghost use Rattle.std.specs.List.{enumerate_from};
 ghost use Rattle.shx_term.specs.declared.term.Term.TheVariants.{Iri};
 ghost use Rattle.shx_term.specs.Pool.{with_terms};
 ghost use Rattle.shx_term.specs.Vocabulary.{vocabulary};
@@ -137,71 +138,130 @@ pub const SH_IN: Id = 61;
 /// How many terms the vocabulary has.
 pub const VOCABULARY_LEN: u32 = 62;
 
-/// The IRIs of the vocabulary, by number.
-const IRIS: [&str; 62] = [
-    "http://www.w3.org/1999/02/22-rdf-syntax-ns#type",
-    "http://www.w3.org/1999/02/22-rdf-syntax-ns#first",
-    "http://www.w3.org/1999/02/22-rdf-syntax-ns#rest",
-    "http://www.w3.org/1999/02/22-rdf-syntax-ns#nil",
-    "http://www.w3.org/2000/01/rdf-schema#subClassOf",
-    "http://www.w3.org/2000/01/rdf-schema#Class",
-    "http://www.w3.org/ns/shacl#NodeShape",
-    "http://www.w3.org/ns/shacl#PropertyShape",
-    "http://www.w3.org/ns/shacl#path",
-    "http://www.w3.org/ns/shacl#inversePath",
-    "http://www.w3.org/ns/shacl#alternativePath",
-    "http://www.w3.org/ns/shacl#zeroOrMorePath",
-    "http://www.w3.org/ns/shacl#oneOrMorePath",
-    "http://www.w3.org/ns/shacl#zeroOrOnePath",
-    "http://www.w3.org/ns/shacl#targetNode",
-    "http://www.w3.org/ns/shacl#targetClass",
-    "http://www.w3.org/ns/shacl#targetSubjectsOf",
-    "http://www.w3.org/ns/shacl#targetObjectsOf",
-    "http://www.w3.org/ns/shacl#severity",
-    "http://www.w3.org/ns/shacl#message",
-    "http://www.w3.org/ns/shacl#deactivated",
-    "http://www.w3.org/ns/shacl#Violation",
-    "http://www.w3.org/ns/shacl#sparql",
-    "http://www.w3.org/ns/shacl#IRI",
-    "http://www.w3.org/ns/shacl#BlankNode",
-    "http://www.w3.org/ns/shacl#Literal",
-    "http://www.w3.org/ns/shacl#BlankNodeOrIRI",
-    "http://www.w3.org/ns/shacl#BlankNodeOrLiteral",
-    "http://www.w3.org/ns/shacl#IRIOrLiteral",
-    "http://www.w3.org/ns/shacl#class",
-    "http://www.w3.org/ns/shacl#datatype",
-    "http://www.w3.org/ns/shacl#nodeKind",
-    "http://www.w3.org/ns/shacl#minCount",
-    "http://www.w3.org/ns/shacl#maxCount",
-    "http://www.w3.org/ns/shacl#minExclusive",
-    "http://www.w3.org/ns/shacl#minInclusive",
-    "http://www.w3.org/ns/shacl#maxExclusive",
-    "http://www.w3.org/ns/shacl#maxInclusive",
-    "http://www.w3.org/ns/shacl#minLength",
-    "http://www.w3.org/ns/shacl#maxLength",
-    "http://www.w3.org/ns/shacl#pattern",
-    "http://www.w3.org/ns/shacl#flags",
-    "http://www.w3.org/ns/shacl#languageIn",
-    "http://www.w3.org/ns/shacl#uniqueLang",
-    "http://www.w3.org/ns/shacl#equals",
-    "http://www.w3.org/ns/shacl#disjoint",
-    "http://www.w3.org/ns/shacl#lessThan",
-    "http://www.w3.org/ns/shacl#lessThanOrEquals",
-    "http://www.w3.org/ns/shacl#not",
-    "http://www.w3.org/ns/shacl#and",
-    "http://www.w3.org/ns/shacl#or",
-    "http://www.w3.org/ns/shacl#xone",
-    "http://www.w3.org/ns/shacl#node",
-    "http://www.w3.org/ns/shacl#property",
-    "http://www.w3.org/ns/shacl#qualifiedValueShape",
-    "http://www.w3.org/ns/shacl#qualifiedMinCount",
-    "http://www.w3.org/ns/shacl#qualifiedMaxCount",
-    "http://www.w3.org/ns/shacl#qualifiedValueShapesDisjoint",
-    "http://www.w3.org/ns/shacl#closed",
-    "http://www.w3.org/ns/shacl#ignoredProperties",
-    "http://www.w3.org/ns/shacl#hasValue",
-    "http://www.w3.org/ns/shacl#in",
+/// Each number of the vocabulary with its IRI, in order. `vocabulary_rows` says what they are.
+const VOCABULARY: [(Id, &str); 62] = [
+    (RDF_TYPE, "http://www.w3.org/1999/02/22-rdf-syntax-ns#type"),
+    (
+        RDF_FIRST,
+        "http://www.w3.org/1999/02/22-rdf-syntax-ns#first",
+    ),
+    (RDF_REST, "http://www.w3.org/1999/02/22-rdf-syntax-ns#rest"),
+    (RDF_NIL, "http://www.w3.org/1999/02/22-rdf-syntax-ns#nil"),
+    (
+        RDFS_SUB_CLASS_OF,
+        "http://www.w3.org/2000/01/rdf-schema#subClassOf",
+    ),
+    (RDFS_CLASS, "http://www.w3.org/2000/01/rdf-schema#Class"),
+    (SH_NODE_SHAPE, "http://www.w3.org/ns/shacl#NodeShape"),
+    (
+        SH_PROPERTY_SHAPE,
+        "http://www.w3.org/ns/shacl#PropertyShape",
+    ),
+    (SH_PATH, "http://www.w3.org/ns/shacl#path"),
+    (SH_INVERSE_PATH, "http://www.w3.org/ns/shacl#inversePath"),
+    (
+        SH_ALTERNATIVE_PATH,
+        "http://www.w3.org/ns/shacl#alternativePath",
+    ),
+    (
+        SH_ZERO_OR_MORE_PATH,
+        "http://www.w3.org/ns/shacl#zeroOrMorePath",
+    ),
+    (
+        SH_ONE_OR_MORE_PATH,
+        "http://www.w3.org/ns/shacl#oneOrMorePath",
+    ),
+    (
+        SH_ZERO_OR_ONE_PATH,
+        "http://www.w3.org/ns/shacl#zeroOrOnePath",
+    ),
+    (SH_TARGET_NODE, "http://www.w3.org/ns/shacl#targetNode"),
+    (SH_TARGET_CLASS, "http://www.w3.org/ns/shacl#targetClass"),
+    (
+        SH_TARGET_SUBJECTS_OF,
+        "http://www.w3.org/ns/shacl#targetSubjectsOf",
+    ),
+    (
+        SH_TARGET_OBJECTS_OF,
+        "http://www.w3.org/ns/shacl#targetObjectsOf",
+    ),
+    (SH_SEVERITY, "http://www.w3.org/ns/shacl#severity"),
+    (SH_MESSAGE, "http://www.w3.org/ns/shacl#message"),
+    (SH_DEACTIVATED, "http://www.w3.org/ns/shacl#deactivated"),
+    (SH_VIOLATION, "http://www.w3.org/ns/shacl#Violation"),
+    (SH_SPARQL, "http://www.w3.org/ns/shacl#sparql"),
+    (SH_IRI, "http://www.w3.org/ns/shacl#IRI"),
+    (SH_BLANK_NODE, "http://www.w3.org/ns/shacl#BlankNode"),
+    (SH_LITERAL, "http://www.w3.org/ns/shacl#Literal"),
+    (
+        SH_BLANK_NODE_OR_IRI,
+        "http://www.w3.org/ns/shacl#BlankNodeOrIRI",
+    ),
+    (
+        SH_BLANK_NODE_OR_LITERAL,
+        "http://www.w3.org/ns/shacl#BlankNodeOrLiteral",
+    ),
+    (SH_IRI_OR_LITERAL, "http://www.w3.org/ns/shacl#IRIOrLiteral"),
+    (SH_CLASS, "http://www.w3.org/ns/shacl#class"),
+    (SH_DATATYPE, "http://www.w3.org/ns/shacl#datatype"),
+    (SH_NODE_KIND, "http://www.w3.org/ns/shacl#nodeKind"),
+    (SH_MIN_COUNT, "http://www.w3.org/ns/shacl#minCount"),
+    (SH_MAX_COUNT, "http://www.w3.org/ns/shacl#maxCount"),
+    (SH_MIN_EXCLUSIVE, "http://www.w3.org/ns/shacl#minExclusive"),
+    (SH_MIN_INCLUSIVE, "http://www.w3.org/ns/shacl#minInclusive"),
+    (SH_MAX_EXCLUSIVE, "http://www.w3.org/ns/shacl#maxExclusive"),
+    (SH_MAX_INCLUSIVE, "http://www.w3.org/ns/shacl#maxInclusive"),
+    (SH_MIN_LENGTH, "http://www.w3.org/ns/shacl#minLength"),
+    (SH_MAX_LENGTH, "http://www.w3.org/ns/shacl#maxLength"),
+    (SH_PATTERN, "http://www.w3.org/ns/shacl#pattern"),
+    (SH_FLAGS, "http://www.w3.org/ns/shacl#flags"),
+    (SH_LANGUAGE_IN, "http://www.w3.org/ns/shacl#languageIn"),
+    (SH_UNIQUE_LANG, "http://www.w3.org/ns/shacl#uniqueLang"),
+    (SH_EQUALS, "http://www.w3.org/ns/shacl#equals"),
+    (SH_DISJOINT, "http://www.w3.org/ns/shacl#disjoint"),
+    (SH_LESS_THAN, "http://www.w3.org/ns/shacl#lessThan"),
+    (
+        SH_LESS_THAN_OR_EQUALS,
+        "http://www.w3.org/ns/shacl#lessThanOrEquals",
+    ),
+    (SH_NOT, "http://www.w3.org/ns/shacl#not"),
+    (SH_AND, "http://www.w3.org/ns/shacl#and"),
+    (SH_OR, "http://www.w3.org/ns/shacl#or"),
+    (SH_XONE, "http://www.w3.org/ns/shacl#xone"),
+    (SH_NODE, "http://www.w3.org/ns/shacl#node"),
+    (SH_PROPERTY, "http://www.w3.org/ns/shacl#property"),
+    (
+        SH_QUALIFIED_VALUE_SHAPE,
+        "http://www.w3.org/ns/shacl#qualifiedValueShape",
+    ),
+    (
+        SH_QUALIFIED_MIN_COUNT,
+        "http://www.w3.org/ns/shacl#qualifiedMinCount",
+    ),
+    (
+        SH_QUALIFIED_MAX_COUNT,
+        "http://www.w3.org/ns/shacl#qualifiedMaxCount",
+    ),
+    (
+        SH_QUALIFIED_VALUE_SHAPES_DISJOINT,
+        "http://www.w3.org/ns/shacl#qualifiedValueShapesDisjoint",
+    ),
+    (SH_CLOSED, "http://www.w3.org/ns/shacl#closed"),
+    (
+        SH_IGNORED_PROPERTIES,
+        "http://www.w3.org/ns/shacl#ignoredProperties",
+    ),
+    (SH_HAS_VALUE, "http://www.w3.org/ns/shacl#hasValue"),
+    (SH_IN, "http://www.w3.org/ns/shacl#in"),
 ];
+
+/// The rows of the vocabulary: at each place that place, as its constant, and the IRI of the term there. A pool begins with
+/// these terms and a number keeps its term, so each constant is the number of its IRI in every pool. It takes no memory.
+pub fn vocabulary_rows() -> &'static [(Id, &'static str)]
+    ensures { map (λ row. (row.0, Iri row.1.now)) result.now ≡ enumerate_from 0 vocabulary }
+{
+    &VOCABULARY
+}
 
 impl Pool {
     /// A pool that holds the vocabulary, and at most `limit` terms in all.
@@ -211,15 +271,15 @@ impl Pool {
         ensures limit { IfOk result (λ pool. pool.limit ≡ limit) }
     {
         let mut terms = IndexSet::new(alloc);
-        enter_iris(alloc, &mut terms, &IRIS)?;
+        enter_iris(alloc, &mut terms, &VOCABULARY)?;
         Ok(Pool::from_terms(alloc, terms, limit))
     }
 }
 
-fn enter_iris(alloc: Global, terms: &mut IndexSet<Term>, iris: &[&str]) -> Result<(), Memory>
-    ensures { OnOk result (terms.new.keys ≡ with_terms terms.old.keys (map (λ iri. Iri iri.now) iris.now)) }
+fn enter_iris(alloc: Global, terms: &mut IndexSet<Term>, rows: &[(Id, &str)]) -> Result<(), Memory>
+    ensures { OnOk result (terms.new.keys ≡ with_terms terms.old.keys (map (λ row. Iri row.1.now) rows.now)) }
 {
-    for iri in iris {
+    for (_, iri) in rows {
         let text = String::from_str(alloc, iri)?;
         terms.insert(Term::Iri(IriText::new(text)))?;
     }

@@ -4,7 +4,8 @@ use Rattle.shx_term.specs.declared.term.Term.{Term}
 use Rattle.shx_term.specs.declared.triple.Triple.{Triple}
 use Rattle.shx_term.specs.Triple.{same_triple}
 use Rattle.shx_term.specs.IdOrder.{in_term_order}
-use Rattle.graph_view.specs.declared.key.Key.TheVariants.{Out}
+use Rattle.shx_term.specs.TripleOrder.{in_triple_order}
+use Rattle.graph_view.specs.declared.key.Key.TheVariants.{Out, In, Subject, Predicate}
 use Rattle.graph_view.specs.Key.{look}
 
 pub record Graph : Type 0 where
@@ -35,6 +36,22 @@ first_places (t ∷ ts) = t ∷ filter (λ u. not (same_triple t u)) (first_plac
 abbrev pub objects_of : Graph → ℕ → ℕ → List ℕ
 objects_of g s p = in_term_order g.terms (map (λ t. t.o) (look g.triples (Out s p)))
 
+-- the subjects of a predicate and object, in term order
+abbrev pub subjects_of : Graph → ℕ → ℕ → List ℕ
+subjects_of g p o = in_term_order g.terms (map (λ t. t.s) (look g.triples (In p o)))
+
+-- the triples of a subject, by predicate and object
+abbrev pub triples_of : Graph → ℕ → List Triple
+triples_of g s = in_triple_order g.terms (look g.triples (Subject s))
+
+-- the triples of a predicate, by subject and object
+abbrev pub triples_with : Graph → ℕ → List Triple
+triples_with g p = in_triple_order g.terms (look g.triples (Predicate p))
+
 -- h holds the triples of g and t, and no others
 pub record HasAlso (g h : List Triple) (t : Triple) : Type 0 where
   pub each : (u : Triple) → Contains h u ↔ (Contains g u ⊎ (u ≡ t))
+
+-- h holds the triples of g other than t, and no others
+pub record HasNot (g h : List Triple) (t : Triple) : Type 0 where
+  pub each : (u : Triple) → Contains h u ↔ (Contains g u × (u ≡ t → ⊥))

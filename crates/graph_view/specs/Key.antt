@@ -1,9 +1,10 @@
 -- Keys: the parts of a graph that look-ups read.
-use Rattle.std.specs.Prelude.{◌≡◌, ℕ, Bool, true, ◌&&◌, ◌==◌, List, filter}
+use Rattle.std.specs.Prelude.{◌≡◌, ℕ, Bool, true, ◌&&◌, ◌==◌, List, filter, Contains, ◌↔◌}
 use Rattle.std.specs.Cmp.{IsEquivalence, on_equiv, and_equiv, nat_eq_equiv, first_so, second_so}
 use Rattle.std.proofs.Common.{ap}
-use Rattle.std.proofs.lemmas.Bool.{eqb-true}
+use Rattle.std.proofs.lemmas.Bool.{eqb-true, eq-eqb, and_from}
 use Rattle.shx_term.specs.declared.triple.Triple.{Triple}
+use Rattle.shx_term.specs.Members.{Contains-filter, Contains-from_filter}
 use Rattle.graph_view.specs.declared.key.Key.{Key}
 use Rattle.graph_view.specs.declared.key.Key.TheVariants.{Out, In, Subject, Predicate}
 
@@ -24,6 +25,25 @@ is_touching t (Predicate p) = t.p == p
 -- the triples that touch the key
 abbrev pub look : List Triple → Key → List Triple
 look triples key = filter (λ t. is_touching t key) triples
+
+both_equal : (a b c d : ℕ) → ((a == b) && (c == d) ≡ true) ↔ ((a ≡ b) × (c ≡ d))
+both_equal a b c d = (
+  λ h. (eqb-true a b (first_so (a == b) (c == d) h), eqb-true c d (second_so (a == b) (c == d) h)),
+  λ e. and_from (a == b) (c == d) (eq-eqb a b e.0) (eq-eqb c d e.1),
+)
+
+-- the test decides
+pub touching : (t : Triple) (key : Key) → (is_touching t key ≡ true) ↔ Touches t key
+touching t (Out s p) = both_equal t.s s t.p p
+touching t (In p o) = both_equal t.p p t.o o
+touching t (Subject s) = (eqb-true t.s s, eq-eqb t.s s)
+touching t (Predicate p) = (eqb-true t.p p, eq-eqb t.p p)
+
+pub Contains-look : (triples : List Triple) (key : Key) (t : Triple) → Contains (look triples key) t ↔ (Contains triples t × Touches t key)
+Contains-look triples key t = (
+  λ c. let kept = Contains-from_filter (λ u. is_touching u key) triples t c in (kept.0, (touching t key).0 kept.1),
+  λ held. Contains-filter (λ u. is_touching u key) triples t held.0 ((touching t key).1 held.1),
+)
 
 -- what keys are compared by
 abbrev pub key_kind : Key → ℕ

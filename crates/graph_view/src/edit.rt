@@ -1,7 +1,7 @@
 ghost use Rattle.std.specs.Prelude.{◌≡◌, ◌≤◌, ◌+◌, ◌↔◌, ℕ, Some, length, position, slice_get, Contains, if◌then◌else◌, IsTrue, IfOk, IfErr, OnOk, OnErr};
 ghost use Rattle.shx_term.specs.TermOrder.{same_term};
 ghost use Rattle.shx_term.specs.Pool.{with_term, IsFullFor};
-ghost use Rattle.graph_view.specs.Graph.{HasAlso, IsKnownTriple, IsAtLimit};
+ghost use Rattle.graph_view.specs.Graph.{HasAlso, HasNot, IsKnownTriple, IsAtLimit};
 
 use crate::GraphView;
 use shx_term::{Id, PoolFault, Term, Triple};
@@ -18,6 +18,11 @@ pub enum StoreFault {
 }
 
 impl fmt::Display for StoreFault {
+    ghost use Rattle.std.specs.Prelude.{Some};
+    ghost use Rattle.graph_view.specs.StoreFault.{fault_text};
+
+    ghost output = { λ fault. Some (fault_text fault) };
+
     fn fmt<W: fmt::Write>(&self, f: &mut fmt::Formatter<W>) -> fmt::Result {
         match self {
             StoreFault::TooMany => f.write_str("the graph is full"),
@@ -87,4 +92,13 @@ pub trait GraphEdit: GraphView {
         ensures full { IfErr result (λ fault. fault ≡ StoreFault.TooMany
             → IsAtLimit (Self.graph self.old).triples (triple_limit self.old) t) }
         ensures room { OnOk result (IsAtLimit (Self.graph self.old).triples (triple_limit self.old) t → ⊥) };
+
+    /// Removes a triple; `true` says that it was held. The pool stays. It takes no memory.
+    fn remove(&mut self, t: &Triple) -> bool
+        ensures terms { (Self.graph self.new).terms ≡ (Self.graph self.old).terms }
+        ensures term_limit { Self.term_limit self.new ≡ Self.term_limit self.old }
+        ensures triple_limit { triple_limit self.new ≡ triple_limit self.old }
+        ensures removed { HasNot (Self.graph self.old).triples (Self.graph self.new).triples t.now }
+        ensures held { IsTrue result ↔ Contains (Self.graph self.old).triples t.now }
+        ensures count { length (Self.graph self.new).triples + (if result then 1 else 0) ≡ length (Self.graph self.old).triples };
 }

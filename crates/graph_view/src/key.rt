@@ -1,5 +1,5 @@
 ghost use Rattle.std.specs.Prelude.{◌≡◌, ◌↔◌, IsTrue};
-ghost use Rattle.graph_view.specs.Key.{Touches, key_kind, key_first, key_second};
+ghost use Rattle.graph_view.specs.Key.{Touches, is_touching, key_kind, key_first, key_second};
 
 use shx_term::{Id, Triple};
 use std::hash::{Hash, Hasher};
@@ -85,7 +85,8 @@ impl Hash for Key {
 
 /// Whether the triple is in the part of the graph that the key names. It takes no memory.
 pub fn touches(t: &Triple, key: &Key) -> bool
-    ensures { IsTrue result ↔ Touches t.now key.now }
+    ensures touches { IsTrue result ↔ Touches t.now key.now }
+    ensures test { result ≡ is_touching t.now key.now }
 {
     match key {
         Key::Out(s, p) => t.s == *s && t.p == *p,

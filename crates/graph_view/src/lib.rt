@@ -5,11 +5,12 @@
 //! | `key.rt` | `Key`: the part of a graph that a look-up reads; `touches` |
 //! | `reads.rt` | `Reads`: a set of keys |
 //! | `view.rt` | `GraphView`: look-ups, each of which adds its key to the reads |
-//! | `edit.rt` | `GraphEdit`: a graph that takes new terms and triples |
+//! | `edit.rt` | `GraphEdit`: a graph that takes new terms, and takes and gives up triples |
 //! | `list_graph.rt` | `ListGraph`: the plain form, whose look-ups go over all triples |
 //!
-//! It stands on `shx_term` and `indexmap`. Start with `view.rt`; `specs/Graph.antt` says what a graph is, and
-//! `specs/Key.antt` when a triple touches a key.
+//! It stands on `shx_term` and `indexmap`. Start with `view.rt`; `specs/Graph.antt` says what a graph and a look-up are,
+//! `specs/Key.antt` when a triple touches a key, `specs/Agree.antt` when two graphs look the same to a reader of some keys,
+//! and `specs/Valid.antt` which views are valid.
 #![tactic(auto)]
 
 mod edit;
@@ -24,4 +25,4 @@ pub use edit::{GraphEdit, StoreFault};
 pub use key::{Key, touches};
 pub use list_graph::ListGraph;
 pub use reads::Reads;
-pub use view::GraphView;
+pub use view::{GraphView, look_ups_give_what_is_held};

@@ -1,6 +1,7 @@
-ghost use Rattle.std.specs.Prelude.{◌≡◌, ◌&&◌, ◌==◌, [], map, filter, IfOk};
+ghost use Rattle.std.specs.Prelude.{◌≡◌, [], map, IfOk};
+ghost use Rattle.graph_view.specs.Key.{look};
 
-use crate::{GraphEdit, GraphView, Key, Reads, StoreFault};
+use crate::{GraphEdit, GraphView, Key, Reads, StoreFault, touches};
 use indexmap::IndexSet;
 use shx_term::{Id, Memory, Pool, PoolFault, Term, Triple};
 use std::alloc::Global;
@@ -71,9 +72,31 @@ impl GraphView for ListGraph {
     }
 
     fn objects(&self, alloc: Global, s: Id, p: Id, reads: &mut Reads) -> Result<Vec<Id>, Memory> {
-        let found = objects_among(alloc, self.triples.as_slice(), s, p)?;
-        reads.add(Key::Out(s, p))?;
+        let key = Key::Out(s, p);
+        let found = objects_among(alloc, self.triples.as_slice(), &key)?;
+        reads.add(key)?;
         Ok(self.pool.in_order(found)?)
+    }
+
+    fn subjects(&self, alloc: Global, p: Id, o: Id, reads: &mut Reads) -> Result<Vec<Id>, Memory> {
+        let key = Key::In(p, o);
+        let found = subjects_among(alloc, self.triples.as_slice(), &key)?;
+        reads.add(key)?;
+        Ok(self.pool.in_order(found)?)
+    }
+
+    fn triples_of(&self, alloc: Global, s: Id, reads: &mut Reads) -> Result<Vec<Triple>, Memory> {
+        let key = Key::Subject(s);
+        let found = triples_among(alloc, self.triples.as_slice(), &key)?;
+        reads.add(key)?;
+        Ok(self.pool.triples_in_order(found)?)
+    }
+
+    fn triples_with(&self, alloc: Global, p: Id, reads: &mut Reads) -> Result<Vec<Triple>, Memory> {
+        let key = Key::Predicate(p);
+        let found = triples_among(alloc, self.triples.as_slice(), &key)?;
+        reads.add(key)?;
+        Ok(self.pool.triples_in_order(found)?)
     }
 }
 
@@ -98,15 +121,41 @@ impl GraphEdit for ListGraph {
         self.triples.insert(t)?;
         Ok(true)
     }
+
+    fn remove(&mut self, t: &Triple) -> bool {
+        self.triples.swap_remove(t)
+    }
 }
 
-// The objects of a subject and predicate, in the order of the list and with its repeats.
-fn objects_among(alloc: Global, triples: &[Triple], s: Id, p: Id) -> Result<Vec<Id>, Memory>
-    ensures { IfOk result (λ found. found.items ≡ map (λ t. t.o) (filter (λ t. (t.s == s) && (t.p == p)) triples.now)) }
+// The triples that touch the key, in the order of the list.
+fn triples_among(alloc: Global, triples: &[Triple], key: &Key) -> Result<Vec<Triple>, Memory>
+    ensures { IfOk result (λ found. found.items ≡ look triples.now key.now) }
 {
     triples
         .iter()
-        .filter(|t| t.s == s && t.p == p)
+        .filter(|t| touches(t, key))
+        .copied()
+        .collect(alloc)
+}
+
+// The objects of those triples, with repeats.
+fn objects_among(alloc: Global, triples: &[Triple], key: &Key) -> Result<Vec<Id>, Memory>
+    ensures { IfOk result (λ found. found.items ≡ map (λ t. t.o) (look triples.now key.now)) }
+{
+    triples
+        .iter()
+        .filter(|t| touches(t, key))
         .map(|t| t.o)
+        .collect(alloc)
+}
+
+// The subjects of those triples, with repeats.
+fn subjects_among(alloc: Global, triples: &[Triple], key: &Key) -> Result<Vec<Id>, Memory>
+    ensures { IfOk result (λ found. found.items ≡ map (λ t. t.s) (look triples.now key.now)) }
+{
+    triples
+        .iter()
+        .filter(|t| touches(t, key))
+        .map(|t| t.s)
         .collect(alloc)
 }

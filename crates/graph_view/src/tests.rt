@@ -1,6 +1,9 @@
 use super::*;
 use shx_term::vocabulary::*;
-use shx_term::{BlankName, Id, LocalName, Memory, Pool, PoolFault, Scope, Term, Triple};
+use shx_term::{
+    BlankName, Id, IriText, Label, Literal, LocalName, Memory, Pool, PoolFault, Scope, Term, Text,
+    Triple,
+};
 use std::alloc::Global;
 use std::process::Abort;
 use std::test::Fail;
@@ -110,43 +113,275 @@ fn store_faults_have_a_text(rt: HostRuntime) -> Result<(), Fail> {
     Ok(())
 }
 
-// Two objects of one subject and predicate, against the order of terms, among triples of other subjects and predicates.
-const TRIPLES: [(Id, Id, Id); 4] = [
-    (SH_AND, SH_OR, RDF_TYPE),
-    (SH_AND, SH_NOT, RDF_NIL),
-    (SH_AND, SH_OR, RDF_FIRST),
-    (SH_XONE, SH_OR, RDF_REST),
+// Terms of every kind, which are entered against their order: the higher the number, the lower the term.
+const PLAIN: Id = 62;
+
+const TYPED: Id = 63;
+
+const TAGGED: Id = 64;
+
+const SHAPES_ANONYMOUS: Id = 65;
+
+const DATA_ANONYMOUS: Id = 66;
+
+const SHAPES_LABELLED: Id = 67;
+
+const DATA_LABELLED: Id = 68;
+
+const Q: Id = 69;
+
+const P: Id = 70;
+
+const B: Id = 71;
+
+const A: Id = 72;
+
+fn iri(alloc: Global, iri: &str) -> Result<IriText, Memory> {
+    Ok(IriText::new(String::from_str(alloc, iri)?))
+}
+
+fn literal(alloc: Global, datatype: &str, tag: Option<Text>) -> Result<Term, Memory> {
+    Ok(Term::Lit(Literal {
+        lexical: Text::new(String::from_str(alloc, "5")?),
+        datatype: iri(alloc, datatype)?,
+        tag,
+    }))
+}
+
+fn labelled(alloc: Global, scope: Scope) -> Result<Term, Memory> {
+    let name = LocalName::Labelled(Label::new(String::from_str(alloc, "x")?));
+    Ok(Term::Blank(BlankName { scope, name }))
+}
+
+fn anonymous(scope: Scope) -> Term {
+    let name = LocalName::Anonymous(1);
+    Term::Blank(BlankName { scope, name })
+}
+
+fn kinds_of_term(alloc: Global) -> Result<Vec<Term>, Memory> {
+    let tag = Text::new(String::from_str(alloc, "en")?);
+    let mut terms = Vec::new(alloc);
+    terms.push(literal(alloc, "http://www.w3.org/2001/XMLSchema#string", None)?)?;
+    terms.push(literal(alloc, "http://www.w3.org/2001/XMLSchema#integer", None)?)?;
+    terms.push(literal(
+        alloc,
+        "http://www.w3.org/1999/02/22-rdf-syntax-ns#langString",
+        Some(tag),
+    )?)?;
+    terms.push(anonymous(Scope::Shapes))?;
+    terms.push(anonymous(Scope::Data))?;
+    terms.push(labelled(alloc, Scope::Shapes)?)?;
+    terms.push(labelled(alloc, Scope::Data)?)?;
+    for text in ["http://e/q", "http://e/p", "http://e/b", "http://e/a"] {
+        terms.push(Term::Iri(iri(alloc, text)?))?;
+    }
+    Ok(terms)
+}
+
+const TRIPLES: [(Id, Id, Id); 12] = [
+    (A, P, PLAIN),
+    (DATA_ANONYMOUS, Q, PLAIN),
+    (A, P, TAGGED),
+    (SHAPES_LABELLED, P, B),
+    (A, P, DATA_LABELLED),
+    (A, P, TYPED),
+    (DATA_LABELLED, P, B),
+    (A, Q, B),
+    (A, P, SHAPES_ANONYMOUS),
+    (B, P, B),
+    (A, P, B),
+    (A, P, DATA_ANONYMOUS),
 ];
+
+fn fill<E: GraphEdit>(rt: &impl Abort, alloc: Global, graph: &mut E) -> Result<(), Fail> {
+    for (term, id) in kinds_of_term(alloc)?.iter().zip(62..73) {
+        assert_eq!(rt; graph.enter(term), Ok(id));
+    }
+    for (s, p, o) in TRIPLES {
+        assert_eq!(rt; insert(rt, graph, triple(s, p, o)), Ok(true));
+    }
+    Ok(())
+}
+
+fn filled_graph(rt: &impl Abort, alloc: Global) -> Result<ListGraph, Fail> {
+    let pool = Pool::with_vocabulary(alloc, 80)?;
+    let mut graph = ListGraph::new(alloc, pool, 12);
+    fill(rt, alloc, &mut graph)?;
+    Ok(graph)
+}
+
+fn assert_triples(rt: &impl Abort, found: &[Triple], want: &[(Id, Id, Id)]) {
+    assert_eq!(rt; found.len(), want.len());
+    for (t, (s, p, o)) in found.iter().zip(want) {
+        assert_eq!(rt; *t, triple(*s, *p, *o));
+    }
+}
+
+fn assert_read(rt: &impl Abort, reads: &Reads, key: Key) {
+    assert_eq!(rt; reads.len(), 1);
+    assert_eq!(rt; *reads.key_at(0), key);
+}
 
 fn assert_objects<V: GraphView>(
     rt: &impl Abort,
     alloc: Global,
     graph: &V,
+    s: Id,
     p: Id,
     want: &[Id],
 ) -> Result<(), Fail> {
     let mut reads = Reads::new(alloc);
-    let found = graph.objects(alloc, SH_AND, p, &mut reads)?;
+    let found = graph.objects(alloc, s, p, &mut reads)?;
     assert_eq!(rt; found.as_slice(), want);
-    assert_eq!(rt; reads.len(), 1);
-    assert_eq!(rt; *reads.key_at(0), Key::Out(SH_AND, p));
+    assert_read(rt, &reads, Key::Out(s, p));
     Ok(())
 }
 
-fn assert_looked_up<V: GraphView>(rt: &impl Abort, alloc: Global, graph: &V) -> Result<(), Fail> {
-    assert_eq!(rt; graph.pool().len(), 62);
-    assert_eq!(rt; graph.len(), 4);
-    assert!(rt; graph.contains(&triple(SH_AND, SH_OR, RDF_TYPE)));
-    assert!(rt; !graph.contains(&triple(SH_AND, SH_OR, RDF_REST)));
-    assert_objects(rt, alloc, graph, SH_OR, &[RDF_FIRST, RDF_TYPE])?;
-    assert_objects(rt, alloc, graph, SH_XONE, &[])
+fn assert_subjects<V: GraphView>(
+    rt: &impl Abort,
+    alloc: Global,
+    graph: &V,
+    p: Id,
+    o: Id,
+    want: &[Id],
+) -> Result<(), Fail> {
+    let mut reads = Reads::new(alloc);
+    let found = graph.subjects(alloc, p, o, &mut reads)?;
+    assert_eq!(rt; found.as_slice(), want);
+    assert_read(rt, &reads, Key::In(p, o));
+    Ok(())
+}
+
+fn assert_triples_of<V: GraphView>(
+    rt: &impl Abort,
+    alloc: Global,
+    graph: &V,
+    s: Id,
+    want: &[(Id, Id, Id)],
+) -> Result<(), Fail> {
+    let mut reads = Reads::new(alloc);
+    let found = graph.triples_of(alloc, s, &mut reads)?;
+    assert_triples(rt, found.as_slice(), want);
+    assert_read(rt, &reads, Key::Subject(s));
+    Ok(())
+}
+
+fn assert_triples_with<V: GraphView>(
+    rt: &impl Abort,
+    alloc: Global,
+    graph: &V,
+    p: Id,
+    want: &[(Id, Id, Id)],
+) -> Result<(), Fail> {
+    let mut reads = Reads::new(alloc);
+    let found = graph.triples_with(alloc, p, &mut reads)?;
+    assert_triples(rt, found.as_slice(), want);
+    assert_read(rt, &reads, Key::Predicate(p));
+    Ok(())
+}
+
+const OBJECTS: [Id; 7] = [
+    B,
+    DATA_LABELLED,
+    DATA_ANONYMOUS,
+    SHAPES_ANONYMOUS,
+    TAGGED,
+    TYPED,
+    PLAIN,
+];
+
+const SUBJECTS: [Id; 4] = [A, B, DATA_LABELLED, SHAPES_LABELLED];
+
+const OF_A: [(Id, Id, Id); 8] = [
+    (A, P, B),
+    (A, P, DATA_LABELLED),
+    (A, P, DATA_ANONYMOUS),
+    (A, P, SHAPES_ANONYMOUS),
+    (A, P, TAGGED),
+    (A, P, TYPED),
+    (A, P, PLAIN),
+    (A, Q, B),
+];
+
+const WITH_P: [(Id, Id, Id); 10] = [
+    (A, P, B),
+    (A, P, DATA_LABELLED),
+    (A, P, DATA_ANONYMOUS),
+    (A, P, SHAPES_ANONYMOUS),
+    (A, P, TAGGED),
+    (A, P, TYPED),
+    (A, P, PLAIN),
+    (B, P, B),
+    (DATA_LABELLED, P, B),
+    (SHAPES_LABELLED, P, B),
+];
+
+#[test]
+fn objects_are_in_term_order(rt: HostRuntime) -> Result<(), Fail> {
+    let graph = filled_graph(&rt, rt.alloc())?;
+    assert_objects(&rt, rt.alloc(), &graph, A, P, &OBJECTS)?;
+    assert_objects(&rt, rt.alloc(), &graph, B, Q, &[])
 }
 
 #[test]
-fn graphs_are_looked_up(rt: HostRuntime) -> Result<(), Fail> {
-    let mut graph = empty_graph(rt.alloc(), 4)?;
+fn subjects_are_in_term_order(rt: HostRuntime) -> Result<(), Fail> {
+    let graph = filled_graph(&rt, rt.alloc())?;
+    assert_subjects(&rt, rt.alloc(), &graph, P, B, &SUBJECTS)?;
+    assert_subjects(&rt, rt.alloc(), &graph, Q, TYPED, &[])
+}
+
+#[test]
+fn triples_of_a_subject_are_in_term_order(rt: HostRuntime) -> Result<(), Fail> {
+    let graph = filled_graph(&rt, rt.alloc())?;
+    assert_triples_of(&rt, rt.alloc(), &graph, A, &OF_A)?;
+    assert_triples_of(&rt, rt.alloc(), &graph, PLAIN, &[])
+}
+
+#[test]
+fn triples_with_a_predicate_are_in_term_order(rt: HostRuntime) -> Result<(), Fail> {
+    let graph = filled_graph(&rt, rt.alloc())?;
+    assert_triples_with(&rt, rt.alloc(), &graph, P, &WITH_P)?;
+    assert_triples_with(&rt, rt.alloc(), &graph, A, &[])
+}
+
+fn assert_all_but<V: GraphView>(rt: &impl Abort, graph: &V, gone: Triple) {
     for (s, p, o) in TRIPLES {
-        assert!(rt; insert(&rt, &mut graph, triple(s, p, o))?);
+        let t = triple(s, p, o);
+        assert_eq!(rt; graph.contains(&t), t != gone, "{t:?}");
     }
-    assert_looked_up(&rt, rt.alloc(), &graph)
+}
+
+#[test]
+fn a_removed_triple_alone_is_gone(rt: HostRuntime) -> Result<(), Fail> {
+    let mut graph = filled_graph(&rt, rt.alloc())?;
+    let gone = triple(A, P, DATA_LABELLED);
+    assert!(rt; graph.remove(&gone));
+    assert!(rt; !graph.remove(&gone));
+    assert_all_but(&rt, &graph, gone);
+    assert_eq!(rt; graph.len(), 11);
+    assert_eq!(rt; graph.pool().len(), 73);
+    assert_eq!(rt; graph.limit(), 12);
+    Ok(())
+}
+
+#[test]
+fn a_triple_that_is_not_held_is_not_removed(rt: HostRuntime) -> Result<(), Fail> {
+    let mut graph = filled_graph(&rt, rt.alloc())?;
+    assert!(rt; !graph.remove(&triple(B, Q, A)));
+    assert_eq!(rt; graph.len(), 12);
+    assert_triples_of(&rt, rt.alloc(), &graph, A, &OF_A)
+}
+
+#[test]
+fn a_removed_triple_can_be_inserted_again(rt: HostRuntime) -> Result<(), Fail> {
+    let mut graph = filled_graph(&rt, rt.alloc())?;
+    let t = triple(A, P, DATA_LABELLED);
+    assert!(rt; graph.remove(&t));
+    assert_eq!(rt; insert(&rt, &mut graph, t), Ok(true));
+    assert_triples_of(&rt, rt.alloc(), &graph, A, &OF_A)
+}
+
+#[test]
+fn look_ups_give_what_they_say() {
+    look_ups_give_what_is_held();
 }

@@ -1,7 +1,8 @@
 ghost use Rattle.std.specs.Prelude.{◌≡◌, ◌↔◌, ℕ, [], ◌∷◌, length, Contains, IsTrue, IfOk, OnOk};
 ghost use Rattle.std.specs.List.{IsDistinct};
 ghost use Rattle.shx_term.specs.Triple.{same_triple};
-ghost use Rattle.graph_view.specs.Graph.{Graph, AllKnown, objects_of};
+ghost use Rattle.shx_term.specs.declared.triple.Triple.{Triple};
+ghost use Rattle.graph_view.specs.Graph.{Graph, AllKnown, objects_of, subjects_of, triples_of, triples_with};
 ghost use Rattle.graph_view.specs.Reads.{Adds};
 
 use crate::{Key, Reads};
@@ -37,4 +38,28 @@ pub trait GraphView {
     fn objects(&self, alloc: Global, s: Id, p: Id, reads: &mut Reads) -> Result<Vec<Id>, Memory>
         ensures objects { IfOk result (λ found. found.items ≡ objects_of (graph self.now) s p) }
         ensures reads { OnOk result (Adds reads.old reads.new (Key.Out s p ∷ [])) };
+
+    /// The subjects of a predicate and object, in term order. It reads `In(p, o)`.
+    fn subjects(&self, alloc: Global, p: Id, o: Id, reads: &mut Reads) -> Result<Vec<Id>, Memory>
+        ensures subjects { IfOk result (λ found. found.items ≡ subjects_of (graph self.now) p o) }
+        ensures reads { OnOk result (Adds reads.old reads.new (Key.In p o ∷ [])) };
+
+    /// The triples of a subject, by predicate and object in term order. It reads `Subject(s)`.
+    fn triples_of(&self, alloc: Global, s: Id, reads: &mut Reads) -> Result<Vec<Triple>, Memory>
+        ensures triples { IfOk result (λ found. found.items ≡ triples_of (graph self.now) s) }
+        ensures reads { OnOk result (Adds reads.old reads.new (Key.Subject s ∷ [])) };
+
+    /// The triples of a predicate, by subject and object in term order. It reads `Predicate(p)`.
+    fn triples_with(&self, alloc: Global, p: Id, reads: &mut Reads) -> Result<Vec<Triple>, Memory>
+        ensures triples { IfOk result (λ found. found.items ≡ triples_with (graph self.now) p) }
+        ensures reads { OnOk result (Adds reads.old reads.new (Key.Predicate p ∷ [])) };
 }
+
+/// What look-ups give is what is held, and nothing else: a number is given exactly where its triple is held, and a triple
+/// exactly where it is held and has the subject or the predicate that was asked for.
+pub fn look_ups_give_what_is_held()
+    ensures objects { (g : Graph) (s p o : ℕ) → Contains (objects_of g s p) o ↔ Contains g.triples (record { s = s; p = p; o = o }) }
+    ensures subjects { (g : Graph) (p o s : ℕ) → Contains (subjects_of g p o) s ↔ Contains g.triples (record { s = s; p = p; o = o }) }
+    ensures by_subject { (g : Graph) (s : ℕ) (t : Triple) → Contains (triples_of g s) t ↔ (Contains g.triples t × (t.s ≡ s)) }
+    ensures by_predicate { (g : Graph) (p : ℕ) (t : Triple) → Contains (triples_with g p) t ↔ (Contains g.triples t × (t.p ≡ p)) }
+{}

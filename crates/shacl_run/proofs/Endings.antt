@@ -12,9 +12,10 @@ use Rattle.shacl_run.specs.Serving.{Prefixed}
 use Rattle.shacl_run.specs.Status.{IsAnswered, IsCutShort}
 use Rattle.shacl_run.specs.Writers.{Grew-none, Grew-then, Fell-none, Fell-then, Put-then}
 
-append_none : (xs ys : List ℕ) → xs ++ ys ≡ [] → xs ≡ []
-append_none [] ys none = refl
-append_none (x ∷ xs) ys none = cc
+-- where two lists together are empty, each of them is
+pub append_none : (xs ys : List ℕ) → xs ++ ys ≡ [] → (xs ≡ []) × (ys ≡ [])
+append_none [] ys none = (refl, none)
+append_none (x ∷ xs) ys none = absurd (cc)
 
 nothing_due : (due : Option Output) (status : Status) → status ≢ WriteFault
     → IfSome due (λ output. (rest : List ℕ) × (output.text ≡ [] ++ rest) × (status ≡ WriteFault → rest ≢ []))
@@ -103,7 +104,7 @@ Ends-short due text inputs inputs' s0 s1 begins quiet short = record {
   front (Some told) (rest, is) = (
     short.rest ++ rest,
     is ∙ ap (λ bytes. bytes ++ rest) short.whole ∙ append_assoc short.front short.rest rest,
-    λ _ none. short.proper (append_none short.rest rest none),
+    λ _ none. short.proper ((append_none short.rest rest none).0),
   )
 
 -- a text was put, and then the run ended with what is due after it

@@ -8,7 +8,7 @@ use Rattle.shx_term.specs.declared.term.Term.{Term}
 use Rattle.shx_term.specs.declared.limits.Limits.{Limits}
 use Rattle.shx_term.specs.Vocabulary.{vocabulary}
 use Rattle.graph_view.specs.Graph.{Graph}
-use Rattle.shacl_run.specs.declared.session.Session.{Session}
+use Rattle.shacl_run.specs.declared.validation.Validation.{Validation}
 use Rattle.shacl_run.specs.declared.text.TextRead.{TextRead}
 use Rattle.shacl_run.specs.declared.text.TextRead.TheVariants.{Whole, TooLong}
 use Rattle.shacl_run.specs.Document.{graph_of}
@@ -48,8 +48,8 @@ module _ (limits : Limits) (shapes rest0 facts rest1 : Option (List ℕ)) (read0
         shapes_due limits P script shapes rest0 facts read0 (Some declared) reads0 declared_is
         (data_due limits P script declared facts rest1 read1 None reads1 is refl)
 
-    pub opened : (session : Session) → Opens limits declared.shapes (document_read limits declared.terms read1) session → OpensFor limits shapes facts session
-    opened session opens = record {
+    pub opened : (validation : Validation) → Opens limits declared.shapes (document_read limits declared.terms read1) validation → OpensFor limits shapes facts validation
+    opened validation opens = record {
       declared = declared.shapes;
       graph = graph_of opens.document;
       stored = opens.stored;

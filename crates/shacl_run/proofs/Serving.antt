@@ -7,7 +7,7 @@ use Rattle.shx_outside.specs.Told.{IsAtEnd}
 use Rattle.shx_term.specs.declared.limits.Limits.{Limits}
 use Rattle.graph_view.specs.Graph.{Graph}
 use Rattle.shacl_run.specs.declared.plan.Shape.{Shape}
-use Rattle.shacl_run.specs.declared.session.Session.{Session}
+use Rattle.shacl_run.specs.declared.validation.Validation.{Validation}
 use Rattle.shacl_run.specs.declared.reply.Reply.{Reply}
 use Rattle.shacl_run.specs.declared.result_row.ResultRow.{ResultRow}
 use Rattle.shacl_run.specs.declared.status.Status.{Status}
@@ -21,11 +21,11 @@ use Rattle.shacl_run.specs.RunClauses.{Ends, ReportsOrFails}
 use Rattle.shacl_run.specs.Script.{ScriptState, Step, script_step, script_lines, answers, state_after}
 use Rattle.shacl_run.specs.ScriptReader.{ReaderState, left_of, TookLine, TookEnd}
 use Rattle.shacl_run.specs.Serving.{due_from, due_at, Prefixed}
-use Rattle.shacl_run.specs.Session.{IsSession}
+use Rattle.shacl_run.specs.Validation.{IsValidation}
 use Rattle.shacl_run.specs.Status.{IsAnswered}
 use Rattle.shacl_run.specs.Writers.{Put-none}
 use Rattle.shacl_run.proofs.ScriptLines.{script_lines-none}
-use Rattle.shacl_run.proofs.Endings.{Ends-after, Ends-memory, Ends-short, Ends-whole}
+use Rattle.shacl_run.proofs.Endings.{append_none, Ends-after, Ends-memory, Ends-short, Ends-whole}
 
 -- a line was taken, so the text of its step is due, and then what is due after it
 module _ (limits : Limits) (shapes : List Shape) (s : ScriptState) (budget budget' : ℕ) (left' : Option (List ℕ)) where
@@ -53,13 +53,9 @@ end_due limits shapes s budget (Some bytes) left' past took =
     let (lines, over) = took.told bytes refl in
     λ i. record { text = answers limits shapes s (lines i) ++ end_text (over i); status = end_status (over i) shapes (state_after limits shapes s (lines i)) }
 
-append_none : (xs ys : List ℕ) → xs ++ ys ≡ [] → ys ≡ []
-append_none [] ys none = none
-append_none (x ∷ xs) ys none = cc
-
 -- and the inputs have nothing left
 pub end_met : (left : Option (List ℕ)) (budget : ℕ) (reader : ReaderState) (rest : Option (List ℕ)) → TookEnd left (left_of reader rest) budget false → IsAtEnd rest
-end_met left budget reader rest took = record { told = λ bytes is. append_none reader.pending bytes (took.at_end refl (reader.pending ++ bytes) (ap (left_of reader) is)) }
+end_met left budget reader rest took = record { told = λ bytes is. (append_none reader.pending bytes (took.at_end refl (reader.pending ++ bytes) (ap (left_of reader) is))).1 }
 
 left_of-start : (rest : Option (List ℕ)) → option_map (λ (bytes : List ℕ). [] ++ bytes) rest ≡ rest
 left_of-start None = refl
@@ -67,17 +63,17 @@ left_of-start (Some bytes) = refl
 
 -- what a script has come to: whatever ends from here on as is due here ends from its beginning as is due there
 pub record Reached (limits : Limits) (shapes : List Shape) (g : Graph) (rest0 : Option (List ℕ)) (inputs0 : ℕ) (sink0 : SinkState)
-    (session : Session) (reader : ReaderState) (rest : Option (List ℕ)) (inputs : ℕ) (sink : SinkState) (line : ℕ) (refused : Bool) : Type 0 where
+    (validation : Validation) (reader : ReaderState) (rest : Option (List ℕ)) (inputs : ℕ) (sink : SinkState) (line : ℕ) (refused : Bool) : Type 0 where
   pub state : ScriptState
-  pub stored : IsSession limits shapes state.graph session
+  pub stored : IsValidation limits shapes state.graph validation
   pub line_is : state.line ≡ line
   pub refused_is : state.refused ≡ refused
   pub onward : (status : Status) (inputs' : ℕ) (after : SinkState) → Ends (due_at limits shapes state reader.budget (left_of reader rest)) status inputs inputs' sink after
       → Ends (due_at limits shapes (start_state g) limits.script rest0) status inputs0 inputs' sink0 after
 
-pub Reached-start : (limits : Limits) (shapes : List Shape) (g : Graph) (rest : Option (List ℕ)) (inputs : ℕ) (sink : SinkState) (session : Session) → IsSession limits shapes g session
-    → Reached limits shapes g rest inputs sink session (record { pending = []; budget = limits.script; ended = false }) rest inputs sink 0 false
-Reached-start limits shapes g rest inputs sink session is = record {
+pub Reached-start : (limits : Limits) (shapes : List Shape) (g : Graph) (rest : Option (List ℕ)) (inputs : ℕ) (sink : SinkState) (validation : Validation) → IsValidation limits shapes g validation
+    → Reached limits shapes g rest inputs sink validation (record { pending = []; budget = limits.script; ended = false }) rest inputs sink 0 false
+Reached-start limits shapes g rest inputs sink validation is = record {
   state = start_state g;
   stored = is;
   line_is = refl;
@@ -86,16 +82,16 @@ Reached-start limits shapes g rest inputs sink session is = record {
 }
 
 module _ (limits : Limits) (shapes : List Shape) (g : Graph) (rest0 : Option (List ℕ)) (inputs0 : ℕ) (sink0 : SinkState)
-    (session session' : Session) (reader reader' : ReaderState) (rest rest' : Option (List ℕ)) (inputs inputs1 : ℕ) (sink sink' : SinkState) (line : ℕ) (refused : Bool)
-    (reached : Reached limits shapes g rest0 inputs0 sink0 session reader rest inputs sink line refused)
-    (step : Step) (reply : Reply) (replies : Replies limits shapes reached.state step reply session')
+    (validation validation' : Validation) (reader reader' : ReaderState) (rest rest' : Option (List ℕ)) (inputs inputs1 : ℕ) (sink sink' : SinkState) (line : ℕ) (refused : Bool)
+    (reached : Reached limits shapes g rest0 inputs0 sink0 validation reader rest inputs sink line refused)
+    (step : Step) (reply : Reply) (replies : Replies limits shapes reached.state step reply validation')
     (due : IfSome (due_at limits shapes reached.state reader.budget (left_of reader rest)) (Prefixed step.text (due_at limits shapes step.state reader'.budget (left_of reader' rest'))))
     (quiet : inputs1 ≡ inputs) where
-  text_is : step.text ≡ reply_text (line + 1) session'.graph.pool.terms session'.shapes.items reply
-  text_is = replies.text ∙ ap (λ n. reply_text (n + 1) session'.graph.pool.terms session'.shapes.items reply) reached.line_is
+  text_is : step.text ≡ reply_text (line + 1) validation'.graph.pool.terms validation'.shapes.items reply
+  text_is = replies.text ∙ ap (λ n. reply_text (n + 1) validation'.graph.pool.terms validation'.shapes.items reply) reached.line_is
 
-  pub Reached-step : Put sink sink' (reply_text (line + 1) session'.graph.pool.terms session'.shapes.items reply)
-      → Reached limits shapes g rest0 inputs0 sink0 session' reader' rest' inputs1 sink' (line + 1) (refused || is_refusal reply)
+  pub Reached-step : Put sink sink' (reply_text (line + 1) validation'.graph.pool.terms validation'.shapes.items reply)
+      → Reached limits shapes g rest0 inputs0 sink0 validation' reader' rest' inputs1 sink' (line + 1) (refused || is_refusal reply)
   Reached-step put = record {
     state = step.state;
     stored = replies.stored;
@@ -106,7 +102,7 @@ module _ (limits : Limits) (shapes : List Shape) (g : Graph) (rest0 : Option (Li
         step.text status inputs inputs1 inputs' sink sink' after due quiet (subst (Put sink sink') (sym text_is) put) ends);
   }
 
-  pub Reached-short : FellShort sink sink' (reply_text (line + 1) session'.graph.pool.terms session'.shapes.items reply)
+  pub Reached-short : FellShort sink sink' (reply_text (line + 1) validation'.graph.pool.terms validation'.shapes.items reply)
       → Ends (due_at limits shapes (start_state g) limits.script rest0) WriteFault inputs0 inputs1 sink0 sink'
   Reached-short short = reached.onward WriteFault inputs1 sink'
       (Ends-short (due_at limits shapes reached.state reader.budget (left_of reader rest)) step.text inputs inputs1 sink sink'

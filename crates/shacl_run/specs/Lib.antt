@@ -16,7 +16,7 @@ pub mod SameGraph
 pub mod Script
 pub mod ScriptReader
 pub mod Serving
-pub mod Session
+pub mod Validation
 pub mod Shapes
 pub mod Status
 pub mod Stored

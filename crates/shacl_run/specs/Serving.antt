@@ -3,14 +3,14 @@ use Rattle.std.specs.Prelude.{◌≡◌, ℕ, ◌<◌, List, [], ◌++◌, Optio
 use Rattle.std.specs.Option.{option_map}
 use Rattle.shx_term.specs.declared.limits.Limits.{Limits}
 use Rattle.shacl_run.specs.declared.plan.Shape.{Shape}
-use Rattle.shacl_run.specs.declared.session.Session.{Session}
+use Rattle.shacl_run.specs.declared.validation.Validation.{Validation}
 use Rattle.shacl_run.specs.declared.status.Status.TheVariants.{Refused}
 use Rattle.shacl_run.specs.declared.take_line.Taken.{Taken}
 use Rattle.shacl_run.specs.declared.take_line.Taken.TheVariants.{Replied, End, PastLimit}
 use Rattle.shacl_run.specs.Reply.{Replies}
 use Rattle.shacl_run.specs.Run.{Output, text_from, status_from, status_of_state, script_too_long}
 use Rattle.shacl_run.specs.Script.{ScriptState, Step}
-use Rattle.shacl_run.specs.Session.{IsSession}
+use Rattle.shacl_run.specs.Validation.{IsValidation}
 
 -- the output that is due from a state on, where the rest of the script is told
 abbrev pub due_from : Limits → List Shape → ScriptState → ℕ → List ℕ → Output
@@ -27,14 +27,14 @@ pub record Prefixed (front : List ℕ) (later : Option Output) (output : Output)
   pub status : output.status ≡ rest.status
 
 -- a line was answered by a step: its text is due, and then what is due from where it leads
-abbrev pub Takes : Limits → List Shape → ScriptState → Session → Option (List ℕ) → Option (List ℕ) → ℕ → ℕ → Taken → Type 0
-Takes limits shapes s session left left' budget budget' (Replied reply) =
-    (step : Step) × Replies limits shapes s step reply session
+abbrev pub Takes : Limits → List Shape → ScriptState → Validation → Option (List ℕ) → Option (List ℕ) → ℕ → ℕ → Taken → Type 0
+Takes limits shapes s validation left left' budget budget' (Replied reply) =
+    (step : Step) × Replies limits shapes s step reply validation
     × IfSome (due_at limits shapes s budget left) (Prefixed step.text (due_at limits shapes step.state budget' left'))
-Takes limits shapes s session left left' budget budget' End =
-    IsSession limits shapes s.graph session
+Takes limits shapes s validation left left' budget budget' End =
+    IsValidation limits shapes s.graph validation
     × IfSome (due_at limits shapes s budget left) (λ due. due ≡ record { text = []; status = status_of_state shapes s })
-Takes limits shapes s session left left' budget budget' PastLimit =
+Takes limits shapes s validation left left' budget budget' PastLimit =
     IfSome (due_at limits shapes s budget left) (λ due. due ≡ record { text = script_too_long; status = Refused })
 
 -- each line takes at least a byte

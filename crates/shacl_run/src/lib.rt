@@ -8,9 +8,9 @@
 //! | `text.rt` | reading a text from the inputs, in pieces and within its limit |
 //! | `line_form.rt`, `document.rt` | the line form of texts, and what a text states |
 //! | `load.rt`, `plan.rt`, `shapes.rt`, `declare.rt` | from a shapes text to shapes |
-//! | `session.rt`, `open_session.rt`, `prepare.rt` | from the texts to a session: shapes and a stored graph |
+//! | `validation.rt`, `open_validation.rt`, `prepare.rt` | from the texts to a validation: shapes and a stored graph |
 //! | `result_row.rt`, `evaluation.rt` | the results of shapes in a graph |
-//! | `run_session.rt`, `serve.rt`, `ending.rt` | the report of a session, its script, and how the run ends |
+//! | `run_validation.rt`, `serve.rt`, `ending.rt` | the report of a validation, its script, and how the run ends |
 //! | `script_reader.rt`, `take_line.rt`, `command.rt`, `edit.rt`, `reply.rt` | one line of a script: read, done, answered |
 //! | `output.rt`, `buffer.rt`, `term_text.rt`, `report.rt` | putting texts into a sink |
 //!
@@ -27,23 +27,23 @@ mod ending;
 mod evaluation;
 mod line_form;
 mod load;
-mod open_session;
+mod open_validation;
 mod output;
 mod plan;
 mod prepare;
 mod reply;
 mod report;
 mod result_row;
-mod run_session;
+mod run_validation;
 mod script_reader;
 mod serve;
-mod session;
 mod shapes;
 mod status;
 mod take_line;
 mod term_text;
 mod text;
 mod top;
+mod validation;
 mod words;
 
 pub use status::Status;

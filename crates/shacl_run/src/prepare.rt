@@ -1,4 +1,4 @@
-//! Before anything is written: the two texts are read, and a session is opened.
+//! Before anything is written: the two texts are read, and a validation is opened.
 ghost use Rattle.std.specs.Prelude.{◌≡◌, IfOk};
 ghost use Rattle.shx_outside.specs.declared.role.Role.TheVariants.{Shapes, Data};
 ghost use Rattle.shx_outside.specs.Told.{IsAtEnd, IsFixed};
@@ -7,18 +7,18 @@ ghost use Rattle.shacl_run.specs.Prepared.{Prepares, IsOpen};
 ghost use Rattle.shacl_run.specs.TextRead.{HasInputCause};
 
 use crate::declare::declare;
-use crate::open_session::open_session;
-use crate::session::Session;
+use crate::open_validation::open_validation;
 use crate::text::{ReadFault, read_text};
+use crate::validation::Validation;
 use shx_outside::{Inputs, Role};
 use shx_term::Limits;
 use std::alloc::Global;
 
-/// A session, or which text is not built.
+/// A validation, or which text is not built.
 pub enum Prepared {
     ShapesNotBuilt,
     DataNotBuilt,
-    Open(Session),
+    Open(Validation),
 }
 
 impl Drop for Prepared {
@@ -26,12 +26,12 @@ impl Drop for Prepared {
         match self {
             Prepared::ShapesNotBuilt => {}
             Prepared::DataNotBuilt => {}
-            Prepared::Open(_session) => {}
+            Prepared::Open(_validation) => {}
         }
     }
 }
 
-/// Reads the two texts and opens a session over them.
+/// Reads the two texts and opens a validation over them.
 pub fn prepare<I: Inputs>(
     alloc: Global,
     shapes_file: &str,
@@ -52,8 +52,8 @@ pub fn prepare<I: Inputs>(
         return Ok(Prepared::ShapesNotBuilt);
     };
     let data_text = read_text(alloc, host, Role::Data, data_file, limits.text)?;
-    let Some(session) = open_session(alloc, declared, &data_text, limits)? else {
+    let Some(validation) = open_validation(alloc, declared, &data_text, limits)? else {
         return Ok(Prepared::DataNotBuilt);
     };
-    Ok(Prepared::Open(session))
+    Ok(Prepared::Open(validation))
 }

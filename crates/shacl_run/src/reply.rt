@@ -5,7 +5,7 @@ ghost use Rattle.shacl_run.specs.declared.plan.Shape.{Shape as ShapeOf};
 ghost use Rattle.shacl_run.specs.Output.{state_of, Writes};
 ghost use Rattle.shacl_run.specs.Reply.{reply_text, is_refusal, Replies};
 ghost use Rattle.shacl_run.specs.Script.{ScriptState, command_step, script_step};
-ghost use Rattle.shacl_run.specs.Session.{IsSession};
+ghost use Rattle.shacl_run.specs.Validation.{IsValidation};
 
 use crate::buffer::Buffer;
 use crate::command::{Command, Edited, read_command};
@@ -14,8 +14,8 @@ use crate::evaluation::evaluate;
 use crate::output::put_all;
 use crate::report::write_report;
 use crate::result_row::ResultRow;
-use crate::session::Session;
 use crate::term_text::add_three;
+use crate::validation::Validation;
 use graph_view::GraphView;
 use shx_outside::{Failed, Sink};
 use shx_term::Memory;
@@ -41,26 +41,30 @@ impl Drop for Reply {
 }
 
 /// Does what a line asks for, a line that is not too long. A refused line changes nothing.
-pub fn reply_to(alloc: Global, session: &mut Session, line: &[u8]) -> Result<Reply, Memory>
-    ensures { (limits : LimitsOf) (shapes : List ShapeOf) (s : ScriptState) → IsSession limits shapes s.graph session.old → length line.now ≤ limits.line
-        → IfOk result (λ reply. Replies limits shapes s (script_step limits shapes s line.now) reply session.new) }
+pub fn reply_to(alloc: Global, validation: &mut Validation, line: &[u8]) -> Result<Reply, Memory>
+    ensures { (limits : LimitsOf) (shapes : List ShapeOf) (s : ScriptState) → IsValidation limits shapes s.graph validation.old → length line.now ≤ limits.line
+        → IfOk result (λ reply. Replies limits shapes s (script_step limits shapes s line.now) reply validation.new) }
 {
     match read_command(alloc, line)? {
-        Some(command) => do_command(alloc, session, &command),
+        Some(command) => do_command(alloc, validation, &command),
         None => Ok(Reply::Refused),
     }
 }
 
-fn do_command(alloc: Global, session: &mut Session, command: &Command) -> Result<Reply, Memory>
-    ensures { (limits : LimitsOf) (shapes : List ShapeOf) (s : ScriptState) → IsSession limits shapes s.graph session.old
-        → IfOk result (λ reply. Replies limits shapes s (command_step limits shapes s (Some command.now)) reply session.new) }
+fn do_command(
+    alloc: Global,
+    validation: &mut Validation,
+    command: &Command,
+) -> Result<Reply, Memory>
+    ensures { (limits : LimitsOf) (shapes : List ShapeOf) (s : ScriptState) → IsValidation limits shapes s.graph validation.old
+        → IfOk result (λ reply. Replies limits shapes s (command_step limits shapes s (Some command.now)) reply validation.new) }
 {
     match command {
         Command::Report => {
-            let rows = evaluate(alloc, &session.graph, &session.shapes)?;
+            let rows = evaluate(alloc, &validation.graph, &validation.shapes)?;
             Ok(Reply::Report(rows))
         }
-        Command::Insert(triple) => match insert(&mut session.graph, triple)? {
+        Command::Insert(triple) => match insert(&mut validation.graph, triple)? {
             Edited::Changed => Ok(Reply::Changed),
             Edited::Unchanged => Ok(Reply::Unchanged),
             Edited::Refused => Ok(Reply::Refused),
@@ -72,17 +76,17 @@ fn do_command(alloc: Global, session: &mut Session, command: &Command) -> Result
 pub fn put_reply<O: Sink>(
     reply: &Reply,
     line: u64,
-    session: &Session,
+    validation: &Validation,
     out: &mut O,
 ) -> Result<(), Failed>
     ensures { Writes (state_of O.held O.room O.faults out.old) (state_of O.held O.room O.faults out.new)
-        (reply_text line session.now.graph.pool.terms session.now.shapes.items reply.now) result }
+        (reply_text line validation.now.graph.pool.terms validation.now.shapes.items reply.now) result }
 {
     match reply {
         Reply::Changed => put_all(b"ok changed\n", out),
         Reply::Unchanged => put_all(b"ok unchanged\n", out),
         Reply::Refused => put_refusal(line, out),
-        Reply::Report(rows) => write_report(rows, &session.shapes, session.graph.pool(), out),
+        Reply::Report(rows) => write_report(rows, &validation.shapes, validation.graph.pool(), out),
     }
 }
 

@@ -10,17 +10,17 @@ ghost use Rattle.shacl_run.specs.Run.{start_state, status_of_state};
 ghost use Rattle.shacl_run.specs.RunClauses.{Ends};
 ghost use Rattle.shacl_run.specs.Serving.{due_at};
 ghost use Rattle.shacl_run.specs.Script.{ScriptState};
-ghost use Rattle.shacl_run.specs.Session.{IsSession};
+ghost use Rattle.shacl_run.specs.Validation.{IsValidation};
 ghost use Rattle.shacl_run.specs.Status.{IsReported};
 
 use crate::ending::{put_last, status_of_rows};
 use crate::evaluation::evaluate;
 use crate::reply::{is_refusal, put_reply};
 use crate::script_reader::ScriptReader;
-use crate::session::Session;
 use crate::status::Status;
 use crate::take_line::{Taken, take_line};
 use crate::text::ReadFault;
+use crate::validation::Validation;
 use shx_outside::{Failed, Inputs, Sink};
 use shx_term::Limits;
 use std::alloc::Global;
@@ -30,13 +30,13 @@ const SCRIPT_TOO_LONG: &str = "fault script: 59 NotBuilt\n";
 /// Answers the lines of an opened script, each before the next is taken.
 pub fn serve<I: Inputs, O: Sink>(
     alloc: Global,
-    session: &mut Session,
+    validation: &mut Validation,
     host: &mut I,
     out: &mut O,
     limits: &Limits,
 ) -> Status
     requires { I.opened host.old Script ≡ true }
-    ensures ends { (shapes : List Shape) (g : Graph) → IsSession limits.now shapes g session.old
+    ensures ends { (shapes : List Shape) (g : Graph) → IsValidation limits.now shapes g validation.old
         → Ends (due_at limits.now shapes (start_state g) limits.now.script (I.rest host.old Script)) result
         (I.faults host.old) (I.faults host.new) (state_of O.held O.room O.faults out.old) (state_of O.held O.room O.faults out.new) }
     ensures read_to_end { IsReported result → IsAtEnd (I.rest host.new Script) }
@@ -46,7 +46,7 @@ pub fn serve<I: Inputs, O: Sink>(
     let mut line = 0;
     let mut refused = false;
     loop {
-        let taken = match take_line(alloc, &mut reader, session, host, limits) {
+        let taken = match take_line(alloc, &mut reader, validation, host, limits) {
             Ok(taken) => taken,
             Err(ReadFault::Input) => return Status::InputFault,
             Err(ReadFault::Memory) => return Status::Memory,
@@ -55,26 +55,26 @@ pub fn serve<I: Inputs, O: Sink>(
             Taken::Replied(reply) => {
                 line += 1;
                 refused = refused | is_refusal(reply);
-                match put_reply(reply, line, session, out) {
+                match put_reply(reply, line, validation, out) {
                     Ok(()) => {}
                     Err(Failed) => return Status::WriteFault,
                 }
             }
-            Taken::End => return last_status(alloc, session, refused),
+            Taken::End => return last_status(alloc, validation, refused),
             Taken::PastLimit => return put_last(SCRIPT_TOO_LONG, Status::Refused, out),
         }
     }
 }
 
 // How the run ends after the last line.
-fn last_status(alloc: Global, session: &Session, refused: bool) -> Status
-    ensures { (limits : LimitsOf) (shapes : List Shape) (s : ScriptState) → IsSession limits shapes s.graph session.now → s.refused ≡ refused
+fn last_status(alloc: Global, validation: &Validation, refused: bool) -> Status
+    ensures { (limits : LimitsOf) (shapes : List Shape) (s : ScriptState) → IsValidation limits shapes s.graph validation.now → s.refused ≡ refused
         → (result ≡ Status.Memory) ⊎ (result ≡ status_of_state shapes s) }
 {
     if refused {
         return Status::LinesRefused;
     }
-    match evaluate(alloc, &session.graph, &session.shapes) {
+    match evaluate(alloc, &validation.graph, &validation.shapes) {
         Ok(rows) => status_of_rows(&rows),
         Err(_) => Status::Memory,
     }

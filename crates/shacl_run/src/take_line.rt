@@ -6,13 +6,13 @@ ghost use Rattle.shacl_run.specs.declared.plan.Shape.{Shape};
 ghost use Rattle.shacl_run.specs.Script.{ScriptState};
 ghost use Rattle.shacl_run.specs.ScriptReader.{left_of, MetEnd};
 ghost use Rattle.shacl_run.specs.Serving.{Takes, TakesBytes};
-ghost use Rattle.shacl_run.specs.Session.{IsSession};
+ghost use Rattle.shacl_run.specs.Validation.{IsValidation};
 ghost use Rattle.shacl_run.specs.TextRead.{HasInputCause};
 
 use crate::reply::{Reply, reply_to};
 use crate::script_reader::{Line, ScriptReader};
-use crate::session::Session;
 use crate::text::ReadFault;
+use crate::validation::Validation;
 use shx_outside::Inputs;
 use shx_term::Limits;
 use std::alloc::Global;
@@ -39,14 +39,14 @@ impl Drop for Taken {
 pub fn take_line<I: Inputs>(
     alloc: Global,
     reader: &mut ScriptReader,
-    session: &mut Session,
+    validation: &mut Validation,
     host: &mut I,
     limits: &Limits,
 ) -> Result<Taken, ReadFault>
     requires opened { I.opened host.old Script ≡ true }
     requires met { MetEnd reader.old.ended (I.rest host.old Script) }
-    ensures taken { (shapes : List Shape) (s : ScriptState) → IsSession limits.now shapes s.graph session.old
-        → IfOk result (Takes limits.now shapes s session.new (left_of reader.old (I.rest host.old Script)) (left_of reader.new (I.rest host.new Script))
+    ensures taken { (shapes : List Shape) (s : ScriptState) → IsValidation limits.now shapes s.graph validation.old
+        → IfOk result (Takes limits.now shapes s validation.new (left_of reader.old (I.rest host.old Script)) (left_of reader.new (I.rest host.new Script))
         reader.old.budget reader.new.budget) }
     ensures bytes { IfOk result (TakesBytes reader.old.budget reader.new.budget) }
     ensures end { IfOk result (λ taken. taken ≡ Taken.End → IsAtEnd (I.rest host.new Script)) }
@@ -58,7 +58,7 @@ pub fn take_line<I: Inputs>(
     let line = reader.next_line(alloc, host, limits.line)?;
     match &line {
         Line::Is(bytes) => {
-            let reply = reply_to(alloc, session, bytes)?;
+            let reply = reply_to(alloc, validation, bytes)?;
             Ok(Taken::Replied(reply))
         }
         Line::TooLong => Ok(Taken::Replied(Reply::Refused)),

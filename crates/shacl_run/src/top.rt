@@ -5,13 +5,13 @@ ghost use Rattle.shx_term.specs.Limits.{AreUsable};
 ghost use Rattle.shacl_run.specs.Output.{state_of};
 ghost use Rattle.shacl_run.specs.Run.{run_output, files_output};
 ghost use Rattle.shacl_run.specs.RunClauses.{Answers, StopsShort, HasCauses, Ends, ScriptAtEnd, ScriptEnds};
-ghost use Rattle.shacl_run.specs.Session.{files_of};
+ghost use Rattle.shacl_run.specs.Validation.{files_of};
 ghost use Rattle.shacl_run.specs.Status.{IsAnswered, IsReported, IsCutShort};
 ghost use Rattle.shacl_run.specs.Words.{command_words, AdmitsFiles};
 
 use crate::ending::put_last;
 use crate::prepare::{Prepared, prepare};
-use crate::run_session::run_session;
+use crate::run_validation::run_validation;
 use crate::status::Status;
 use crate::text::ReadFault;
 use crate::words::{Files, read_words};
@@ -86,9 +86,9 @@ fn run_files<H: Inputs, O: Sink>(
     match &mut prepared {
         Prepared::ShapesNotBuilt => put_last(SHAPES_NOT_BUILT, Status::Refused, out),
         Prepared::DataNotBuilt => put_last(DATA_NOT_BUILT, Status::Refused, out),
-        Prepared::Open(session) => run_session(
+        Prepared::Open(validation) => run_validation(
             alloc,
-            session,
+            validation,
             files.script_file,
             host,
             out,

@@ -10,4 +10,4 @@ returns-clause-prepared g c =
     (record { terms = c.in-Some.declared.pool.terms; shapes = c.in-Some.declared.shapes.items })
     (rw c.in-Some.is at c.in_ok-declared.ensures.declared)
     (rw (c.read_text.ensures.fixed.texts c.args.data_file.now) at c.in_ok-data_text.ensures.read)
-    c.in-Some-2.session (rw c.in-Some-2.is at c.in_ok-session.ensures)
+    c.in-Some-2.validation (rw c.in-Some-2.is at c.in_ok-validation.ensures)

@@ -18,7 +18,7 @@ loop-taken-init g c = rw c.new-reader.ensures (record {
   few = omega arith;
   others = record { opened_same = λ other apart. refl; rest_same = λ other apart. refl };
   reached = λ shapes start is. Reached-start c.args.limits.now shapes start (g.I.Inputs.rest c.args.host.now Script) (g.I.Inputs.faults c.args.host.now)
-      (state_of g.O.Sink.held g.O.Sink.room g.O.Sink.faults c.args.out.now) c.args.session.now is;
+      (state_of g.O.Sink.held g.O.Sink.room g.O.Sink.faults c.args.out.now) c.args.validation.now is;
 })
 
 pub returns-in-Err-Input-clause-ends : goal.returns-in-Err-Input-clause-ends
@@ -65,7 +65,7 @@ returns-in-Err-clause-ends g c = λ shapes start is.
     let state = state_of g.O.Sink.held g.O.Sink.room g.O.Sink.faults in
     let (step, replies, due) = (rw c.in-Replied.is at c.in-Ok.ensures.taken) shapes reached.state reached.stored in
     Reached-short c.args.limits.now shapes start (g.I.Inputs.rest c.args.host.now Script) (g.I.Inputs.faults c.args.host.now) (state c.args.out.now)
-    c.loop-taken.session c.take_line.new.session c.loop-taken.reader c.take_line.new.reader (g.I.Inputs.rest c.loop-taken.host Script) (g.I.Inputs.rest c.take_line.new.host Script)
+    c.loop-taken.validation c.take_line.new.validation c.loop-taken.reader c.take_line.new.reader (g.I.Inputs.rest c.loop-taken.host Script) (g.I.Inputs.rest c.take_line.new.host Script)
     (g.I.Inputs.faults c.loop-taken.host) (g.I.Inputs.faults c.take_line.new.host) (state c.loop-taken.out) (state c.put_reply.new.out) c.loop-taken.line c.loop-taken.refused
     reached step c.in-Replied.reply replies due c.in-Ok.ensures.cause c.in-Err.ensures.err
 
@@ -85,7 +85,7 @@ loop-taken-preserved g c =
           let state = state_of g.O.Sink.held g.O.Sink.room g.O.Sink.faults in
           let (step, replies, due) = (rw c.in-Replied.is at c.in-Ok.ensures.taken) shapes reached.state reached.stored in
           rw c.is_refusal-refused.ensures (Reached-step c.args.limits.now shapes start (g.I.Inputs.rest c.args.host.now Script) (g.I.Inputs.faults c.args.host.now) (state c.args.out.now)
-          c.loop-taken.session c.take_line.new.session c.loop-taken.reader c.take_line.new.reader (g.I.Inputs.rest c.loop-taken.host Script) (g.I.Inputs.rest c.take_line.new.host Script)
+          c.loop-taken.validation c.take_line.new.validation c.loop-taken.reader c.take_line.new.reader (g.I.Inputs.rest c.loop-taken.host Script) (g.I.Inputs.rest c.take_line.new.host Script)
           (g.I.Inputs.faults c.loop-taken.host) (g.I.Inputs.faults c.take_line.new.host) (state c.loop-taken.out) (state c.put_reply.new.out) c.loop-taken.line c.loop-taken.refused
           reached step c.in-Replied.reply replies due c.in-Ok.ensures.cause c.in-Ok-put_reply.ensures.ok);
     }

@@ -5,7 +5,7 @@ use Rattle.graph_view.specs.Graph.{Graph}
 use Rattle.shacl_run.specs.declared.plan.Shape.{Shape}
 use Rattle.shacl_run.specs.Output.{state_of}
 use Rattle.shacl_run.specs.ScriptReader.{MetEnd}
-use Rattle.shacl_run.specs.Session.{IsSession}
+use Rattle.shacl_run.specs.Validation.{IsValidation}
 use Rattle.shacl_run.proofs.Serving.{Reached}
 use Rattle.shacl_run.proofs.serve.serve.Given as goal
 
@@ -15,9 +15,9 @@ invariant-loop-taken g l = record {
   met : MetEnd l.reader.ended (g.I.Inputs.rest l.host Script);
   few : l.line + l.reader.budget ≤ l.limits.script;
   others : OthersStay Script (g.I.Inputs.opened l.fn.host) (g.I.Inputs.opened l.host) (g.I.Inputs.rest l.fn.host) (g.I.Inputs.rest l.host);
-  reached : (shapes : List Shape) (start : Graph) → IsSession l.limits shapes start l.fn.session
+  reached : (shapes : List Shape) (start : Graph) → IsValidation l.limits shapes start l.fn.validation
       → Reached l.limits shapes start (g.I.Inputs.rest l.fn.host Script) (g.I.Inputs.faults l.fn.host) (state_of g.O.Sink.held g.O.Sink.room g.O.Sink.faults l.fn.out)
-      l.session l.reader (g.I.Inputs.rest l.host Script) (g.I.Inputs.faults l.host) (state_of g.O.Sink.held g.O.Sink.room g.O.Sink.faults l.out) l.line l.refused;
+      l.validation l.reader (g.I.Inputs.rest l.host Script) (g.I.Inputs.faults l.host) (state_of g.O.Sink.held g.O.Sink.room g.O.Sink.faults l.out) l.line l.refused;
 }
 
 abbrev pub decreases-loop-taken : goal.decreases-loop-taken

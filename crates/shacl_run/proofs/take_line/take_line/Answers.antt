@@ -22,7 +22,7 @@ returns-in-TooLong-clause-taken g c = λ shapes s is.
     let limits = c.args.limits.now in
     let read = rw c.in-TooLong.is at c.in_ok-line.ensures.line in (
       refusal s,
-      Replies-refused limits shapes s c.args.session.now is,
+      Replies-refused limits shapes s c.args.validation.now is,
       line_due limits shapes s c.args.reader.now.budget c.next_line.new.self.budget (left_of c.next_line.new.self (g.I.Inputs.rest c.next_line.new.host Script))
           (left_of c.args.reader.now (g.I.Inputs.rest c.args.host.now Script)) (λ first. limits.line < length first) (refusal s) (λ line past. step_past limits shapes s line past) read.0,
     )

@@ -3,7 +3,7 @@ use Rattle.std.proofs.lemmas.Option.{IfSome_then}
 use Rattle.shacl_run.specs.Output.{state_of}
 use Rattle.shacl_run.specs.Run.{files_output, with_script, script_text, shapes_not_built, data_not_built}
 use Rattle.shacl_run.specs.RunClauses.{Ends}
-use Rattle.shacl_run.specs.Session.{files_of}
+use Rattle.shacl_run.specs.Validation.{files_of}
 use Rattle.shacl_run.proofs.Endings.{Ends-input, Ends-memory, Ends-told}
 use Rattle.shacl_run.proofs.Preparing.{script_text-fixed}
 use Rattle.shacl_run.proofs.top.run_files.Goals as goal
@@ -47,7 +47,7 @@ returns-clause-ends g c =
     let script = script_text texts name in
     let state = state_of g.O.Sink.held g.O.Sink.room g.O.Sink.faults in
     let opens = rw c.in-Open.is at c.in-Ok.ensures.prepared in
-    let ran = c.run_session in
+    let ran = c.run_validation in
     Ends-told (files_output limits (files_of c.args.files.now) texts) (with_script limits opens.declared opens.graph script) ran.result
     (g.H.Inputs.faults c.args.host.now) (g.H.Inputs.faults ran.new.host) (state c.args.out.now) (state ran.new.out) (opens.due script)
     (subst (λ n. Ends (with_script limits opens.declared opens.graph script) ran.result n (g.H.Inputs.faults ran.new.host) (state c.args.out.now) (state ran.new.out)) c.in-Ok.ensures.cause

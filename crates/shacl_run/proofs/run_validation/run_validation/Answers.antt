@@ -9,7 +9,7 @@ use Rattle.std.specs.Option.{option_map}
 use Rattle.shacl_run.specs.Serving.{due_at}
 use Rattle.shacl_run.proofs.Endings.{Ends-after, Ends-input}
 use Rattle.shacl_run.proofs.Serving.{script_prefixed, Ends-unreported, Ends-unscripted}
-use Rattle.shacl_run.proofs.run_session.run_session.Goals as goal
+use Rattle.shacl_run.proofs.run_validation.run_validation.Goals as goal
 
 pub returns-in-Err-clause-ends : goal.returns-in-Err-clause-ends
 returns-in-Err-clause-ends g c = λ shapes start is.

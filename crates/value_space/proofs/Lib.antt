@@ -1,0 +1,10 @@
+mod CalendarLemmas
+mod CanonicalLemmas
+mod DatatypeLemmas
+mod DigitLemmas
+mod FormLemmas
+mod MomentLemmas
+mod NumberLemmas
+mod NumeralForm
+mod NumeralLemmas
+mod OrderLemmas

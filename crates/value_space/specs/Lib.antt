@@ -1,0 +1,10 @@
+pub mod Canonical
+pub mod Comparison
+pub mod DigitRuns
+pub mod Laws
+pub mod MomentParts
+pub mod Moments
+pub mod Numbers
+pub mod Numerals
+pub mod Spaces
+pub mod Values

@@ -1,0 +1,36 @@
+//! The values of literals and their comparison (XML Schema 1.1 part 2; SPARQL 1.1, section 17).
+//!
+//! | file | what it holds |
+//! |---|---|
+//! | `value.rt` | `Value`: what a literal stands for |
+//! | `values.rt` | `value_of`, `wide`, `is_float`, `matches_datatype` |
+//! | `comparison.rt` | `less` and `less_eq` |
+//! | `laws.rt` | the laws of that order |
+//! | `datatype.rt` | the table of datatypes |
+//! | `numeral.rt`, `number.rt` | the form of a number, read in one walk, and its value |
+//! | `moment.rt`, `zone.rt` | moments and days by theirs, and their zones |
+//! | `digits.rt` | signs and digits, which these forms are made of |
+//!
+//! It stands on `shx_term`, and on `jiff` for the numbers of days. Start with `value.rt`; `specs/Values.antt` says which value a literal has, and
+//! `specs/Comparison.antt` when one is less than another.
+#![tactic(auto)]
+
+mod comparison;
+mod datatype;
+mod digits;
+mod laws;
+mod moment;
+mod number;
+mod numeral;
+#[cfg(test)]
+mod tests;
+mod value;
+mod values;
+mod zone;
+
+pub use comparison::{less, less_eq};
+pub use laws::{
+    less_eq_is_less_or_equal, less_is_irreflexive, less_is_transitive, numbers_are_ordered,
+};
+pub use value::Value;
+pub use values::{is_float, matches_datatype, value_of, wide};

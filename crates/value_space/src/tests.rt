@@ -73,35 +73,45 @@ fn seen(alloc: Global, literal: &Literal) -> Result<String, AllocError> {
     spelled(alloc, value_of(literal))
 }
 
-// The place of the first row whose literal has another value.
-fn first_other_value(
-    alloc: Global,
-    rows: &[(&str, &str, &str)],
-) -> Result<Option<usize>, AllocError> {
-    for (place, (lexical, datatype, value)) in rows.iter().enumerate() {
+// A line as the part before its first bar, and the rest.
+fn cut(line: &str) -> (&str, &str) {
+    match line.split_once('|') {
+        Some(parts) => parts,
+        None => (line, ""),
+    }
+}
+
+// The first row whose literal has another value.
+fn first_other_value(alloc: Global, rows: &'static str) -> Result<&'static str, AllocError> {
+    for row in rows.lines() {
+        let (lexical, rest) = cut(row);
+        let (datatype, value) = cut(rest);
         let literal = literal(alloc, lexical, datatype)?;
-        if seen(alloc, &literal)?.as_str() != *value {
-            return Ok(Some(place));
+        if seen(alloc, &literal)?.as_str() != value {
+            return Ok(row);
         }
     }
-    Ok(None)
+    Ok("")
 }
 
 #[test]
 fn numbers_have_their_values(rt: HostRuntime) -> Result<(), Fail> {
-    assert_eq!(rt; first_other_value(rt.alloc(), &values::NUMBERS)?, None);
+    assert_eq!(rt; first_other_value(rt.alloc(), values::NUMBERS)?, "");
+    let line_feed = literal(rt.alloc(), "5\n", "integer")?;
+    let seen = seen(rt.alloc(), &line_feed)?;
+    assert_eq!(rt; seen.as_str(), "ill");
     Ok(())
 }
 
 #[test]
 fn other_literals_have_their_values(rt: HostRuntime) -> Result<(), Fail> {
-    assert_eq!(rt; first_other_value(rt.alloc(), &values::OTHERS)?, None);
+    assert_eq!(rt; first_other_value(rt.alloc(), values::OTHERS)?, "");
     Ok(())
 }
 
 #[test]
 fn moments_have_their_values(rt: HostRuntime) -> Result<(), Fail> {
-    assert_eq!(rt; first_other_value(rt.alloc(), &values::MOMENTS)?, None);
+    assert_eq!(rt; first_other_value(rt.alloc(), values::MOMENTS)?, "");
     Ok(())
 }
 
@@ -126,30 +136,31 @@ fn turned(order: &str) -> &str {
     }
 }
 
-// The place of the first row whose literals compare in another way, in this or in the other direction.
-fn first_other_order(
-    alloc: Global,
-    rows: &[(&str, &str, &str, &str, &str)],
-) -> Result<Option<usize>, AllocError> {
-    for (place, (a, datatype_a, b, datatype_b, order)) in rows.iter().enumerate() {
+// The first row whose literals compare in another way, in this or in the other direction.
+fn first_other_order(alloc: Global, rows: &'static str) -> Result<&'static str, AllocError> {
+    for row in rows.lines() {
+        let (a, rest) = cut(row);
+        let (datatype_a, rest) = cut(rest);
+        let (b, rest) = cut(rest);
+        let (datatype_b, order) = cut(rest);
         let first = literal(alloc, a, datatype_a)?;
         let second = literal(alloc, b, datatype_b)?;
-        if how(&first, &second) != *order || how(&second, &first) != turned(order) {
-            return Ok(Some(place));
+        if how(&first, &second) != order || how(&second, &first) != turned(order) {
+            return Ok(row);
         }
     }
-    Ok(None)
+    Ok("")
 }
 
 #[test]
 fn values_compare(rt: HostRuntime) -> Result<(), Fail> {
-    assert_eq!(rt; first_other_order(rt.alloc(), &orders::VALUES)?, None);
+    assert_eq!(rt; first_other_order(rt.alloc(), orders::VALUES)?, "");
     Ok(())
 }
 
 #[test]
 fn moments_compare(rt: HostRuntime) -> Result<(), Fail> {
-    assert_eq!(rt; first_other_order(rt.alloc(), &orders::MOMENTS)?, None);
+    assert_eq!(rt; first_other_order(rt.alloc(), orders::MOMENTS)?, "");
     Ok(())
 }
 

@@ -1,532 +1,174 @@
-//! Pairs of literals: the lexical form and the datatype of each, and how the first compares with the second.
+//! Pairs of literals, one a line: the lexical form and the datatype of each, and how the first compares with the second.
 
 /// Numbers, texts, booleans, and literals that are incomparable.
-pub const VALUES: [(&str, &str, &str, &str, &str); 106] = [
-    ("1.0", "decimal", "1", "integer", "equal"),
-    ("1", "integer", "2", "integer", "less"),
-    ("10", "integer", "9", "integer", "greater"),
-    ("9", "integer", "10", "integer", "less"),
-    ("1.5", "decimal", "2", "integer", "less"),
-    ("1.50", "decimal", "1.5", "decimal", "equal"),
-    ("1.49", "decimal", "1.5", "decimal", "less"),
-    ("1.5", "decimal", "1.49999", "decimal", "greater"),
-    ("-1", "integer", "1", "integer", "less"),
-    ("-1", "integer", "-2", "integer", "greater"),
-    ("-1.5", "decimal", "-1.4", "decimal", "less"),
-    ("-0", "integer", "0", "integer", "equal"),
-    ("-0.0", "decimal", "0", "integer", "equal"),
-    ("-0.0", "decimal", "+0", "decimal", "equal"),
-    ("-0.1", "decimal", "0", "integer", "less"),
-    ("-0", "decimal", "-0.1", "decimal", "greater"),
-    ("0", "integer", "0.1", "decimal", "less"),
-    ("5", "byte", "5", "integer", "equal"),
-    ("5", "byte", "6", "unsignedLong", "less"),
-    ("127", "byte", "128", "short", "less"),
-    ("-128", "byte", "0", "unsignedByte", "less"),
-    ("00", "integer", "0", "decimal", "equal"),
-    ("+7", "integer", "7", "integer", "equal"),
-    (".5", "decimal", "0.5", "decimal", "equal"),
-    ("5.", "decimal", "5", "integer", "equal"),
-    (
-        "18446744073709551615",
-        "unsignedLong",
-        "9223372036854775807",
-        "long",
-        "greater",
-    ),
-    (
-        "99999999999999999999999999999999999999",
-        "integer",
-        "99999999999999999999999999999999999998",
-        "integer",
-        "greater",
-    ),
-    (
-        "99999999999999999999999999999999999999",
-        "integer",
-        "99999999999999999999999999999999999999.1",
-        "decimal",
-        "less",
-    ),
-    (
-        "-99999999999999999999999999999999999999",
-        "integer",
-        "-99999999999999999999999999999999999999.1",
-        "decimal",
-        "greater",
-    ),
-    (
-        "0.00000000000000000000000000000000000001",
-        "decimal",
-        "0",
-        "integer",
-        "greater",
-    ),
-    (
-        "0.00000000000000000000000000000000000001",
-        "decimal",
-        "0.00000000000000000000000000000000000002",
-        "decimal",
-        "less",
-    ),
-    (
-        "-0.00000000000000000000000000000000000001",
-        "decimal",
-        "0",
-        "decimal",
-        "less",
-    ),
-    (
-        "1",
-        "integer",
-        "0.99999999999999999999999999999999999999",
-        "decimal",
-        "greater",
-    ),
-    (
-        "-1",
-        "integer",
-        "-0.99999999999999999999999999999999999999",
-        "decimal",
-        "less",
-    ),
-    ("1.1", "decimal", "2.0", "decimal", "less"),
-    ("2.1", "decimal", "1.9", "decimal", "greater"),
-    ("-2.1", "decimal", "1.9", "decimal", "less"),
-    ("-2.1", "decimal", "-2.1", "decimal", "equal"),
-    ("2.1", "decimal", "-2.1", "decimal", "greater"),
-    ("0", "integer", "0", "integer", "equal"),
-    (
-        "0000000000000000000000000000000000000000",
-        "integer",
-        "0",
-        "integer",
-        "equal",
-    ),
-    (
-        "0.1000000000000000000000000000000000000000000000000000000000000",
-        "decimal",
-        "0.1",
-        "decimal",
-        "equal",
-    ),
-    ("1", "positiveInteger", "-1", "negativeInteger", "greater"),
-    (
-        "0",
-        "nonNegativeInteger",
-        "0",
-        "nonPositiveInteger",
-        "equal",
-    ),
-    ("100", "decimal", "20", "decimal", "greater"),
-    ("1.10", "decimal", "1.9", "decimal", "less"),
-    ("12", "integer", "12.0", "decimal", "equal"),
-    (
-        "12",
-        "integer",
-        "12.00000000000000000001",
-        "decimal",
-        "less",
-    ),
-    ("128", "byte", "1", "integer", "none"),
-    ("128", "byte", "128", "byte", "none"),
-    ("1.0", "byte", "1", "integer", "none"),
-    ("x", "integer", "x", "integer", "none"),
-    ("", "integer", "0", "integer", "none"),
-    ("1", "integer", "1", "string", "none"),
-    ("1", "integer", "1", "boolean", "none"),
-    ("1", "string", "1", "boolean", "none"),
-    ("1", "integer", "1", "double", "none"),
-    ("1", "double", "1", "double", "none"),
-    ("1", "double", "2", "double", "none"),
-    ("1", "float", "2", "float", "none"),
-    ("a", "http://e/t", "a", "http://e/t", "none"),
-    ("a", "http://e/t", "b", "http://e/t", "none"),
-    ("a", "http://e/t", "a", "http://e/u", "none"),
-    ("a", "@en", "a", "@en", "none"),
-    ("a", "@en", "b", "@en", "none"),
-    ("a", "@en", "a", "string", "none"),
-    ("a", "string", "b", "@en", "none"),
-    ("1", "http://e/integer", "2", "integer", "none"),
-    ("2020", "integer", "2020-01-01", "date", "none"),
-    (
-        "2020-01-01T00:00:00",
-        "dateTime",
-        "2020-01-01T00:00:00",
-        "string",
-        "none",
-    ),
-    ("2020-01-01", "string", "2020-01-01", "date", "none"),
-    ("true", "boolean", "true", "string", "none"),
-    ("12:00:00", "time", "13:00:00", "time", "none"),
-    ("2019", "gYear", "2020", "gYear", "none"),
-    ("P1D", "duration", "P2D", "duration", "none"),
-    ("a", "token", "b", "token", "none"),
-    ("tru", "boolean", "true", "boolean", "none"),
-    (
-        "2020-01-01T00:00:00",
-        "dateTimeStamp",
-        "2020-01-01T00:00:00",
-        "dateTime",
-        "none",
-    ),
-    ("false", "boolean", "true", "boolean", "less"),
-    ("0", "boolean", "1", "boolean", "less"),
-    ("false", "boolean", "1", "boolean", "less"),
-    ("0", "boolean", "true", "boolean", "less"),
-    ("1", "boolean", "true", "boolean", "equal"),
-    ("0", "boolean", "false", "boolean", "equal"),
-    ("true", "boolean", "true", "boolean", "equal"),
-    ("false", "boolean", "false", "boolean", "equal"),
-    ("true", "boolean", "0", "boolean", "greater"),
-    ("a", "string", "b", "string", "less"),
-    ("b", "string", "a", "string", "greater"),
-    ("a", "string", "a", "string", "equal"),
-    ("", "string", "a", "string", "less"),
-    ("", "string", "", "string", "equal"),
-    ("a", "string", "aa", "string", "less"),
-    ("Z", "string", "a", "string", "less"),
-    ("10", "string", "9", "string", "less"),
-    ("a ", "string", "a", "string", "greater"),
-    ("z", "string", "\u{e4}", "string", "less"),
-    ("\u{e4}", "string", "\u{f6}", "string", "less"),
-    ("\u{ffff}", "string", "\u{10000}", "string", "less"),
-    ("\u{e000}", "string", "\u{10000}", "string", "less"),
-    ("\u{10000}", "string", "\u{10ffff}", "string", "less"),
-    ("\u{e9}", "string", "e\u{301}", "string", "greater"),
-    ("1.0", "string", "1", "string", "greater"),
-    ("A", "string", "a", "string", "less"),
-    ("\u{7f}", "string", "\u{80}", "string", "less"),
-    ("\u{7ff}", "string", "\u{800}", "string", "less"),
-];
+pub const VALUES: &str = "1.0|decimal|1|integer|equal
+1|integer|2|integer|less
+10|integer|9|integer|greater
+9|integer|10|integer|less
+1.5|decimal|2|integer|less
+1.50|decimal|1.5|decimal|equal
+1.49|decimal|1.5|decimal|less
+1.5|decimal|1.49999|decimal|greater
+-1|integer|1|integer|less
+-1|integer|-2|integer|greater
+-1.5|decimal|-1.4|decimal|less
+-0|integer|0|integer|equal
+-0.0|decimal|0|integer|equal
+-0.0|decimal|+0|decimal|equal
+-0.1|decimal|0|integer|less
+-0|decimal|-0.1|decimal|greater
+0|integer|0.1|decimal|less
+5|byte|5|integer|equal
+5|byte|6|unsignedLong|less
+127|byte|128|short|less
+-128|byte|0|unsignedByte|less
+00|integer|0|decimal|equal
++7|integer|7|integer|equal
+.5|decimal|0.5|decimal|equal
+5.|decimal|5|integer|equal
+18446744073709551615|unsignedLong|9223372036854775807|long|greater
+99999999999999999999999999999999999999|integer|99999999999999999999999999999999999998|integer|greater
+99999999999999999999999999999999999999|integer|99999999999999999999999999999999999999.1|decimal|less
+-99999999999999999999999999999999999999|integer|-99999999999999999999999999999999999999.1|decimal|greater
+0.00000000000000000000000000000000000001|decimal|0|integer|greater
+0.00000000000000000000000000000000000001|decimal|0.00000000000000000000000000000000000002|decimal|less
+-0.00000000000000000000000000000000000001|decimal|0|decimal|less
+1|integer|0.99999999999999999999999999999999999999|decimal|greater
+-1|integer|-0.99999999999999999999999999999999999999|decimal|less
+1.1|decimal|2.0|decimal|less
+2.1|decimal|1.9|decimal|greater
+-2.1|decimal|1.9|decimal|less
+-2.1|decimal|-2.1|decimal|equal
+2.1|decimal|-2.1|decimal|greater
+0|integer|0|integer|equal
+0000000000000000000000000000000000000000|integer|0|integer|equal
+0.1000000000000000000000000000000000000000000000000000000000000|decimal|0.1|decimal|equal
+1|positiveInteger|-1|negativeInteger|greater
+0|nonNegativeInteger|0|nonPositiveInteger|equal
+100|decimal|20|decimal|greater
+1.10|decimal|1.9|decimal|less
+12|integer|12.0|decimal|equal
+12|integer|12.00000000000000000001|decimal|less
+128|byte|1|integer|none
+128|byte|128|byte|none
+1.0|byte|1|integer|none
+x|integer|x|integer|none
+|integer|0|integer|none
+1|integer|1|string|none
+1|integer|1|boolean|none
+1|string|1|boolean|none
+1|integer|1|double|none
+1|double|1|double|none
+1|double|2|double|none
+1|float|2|float|none
+a|http://e/t|a|http://e/t|none
+a|http://e/t|b|http://e/t|none
+a|http://e/t|a|http://e/u|none
+a|@en|a|@en|none
+a|@en|b|@en|none
+a|@en|a|string|none
+a|string|b|@en|none
+1|http://e/integer|2|integer|none
+2020|integer|2020-01-01|date|none
+2020-01-01T00:00:00|dateTime|2020-01-01T00:00:00|string|none
+2020-01-01|string|2020-01-01|date|none
+true|boolean|true|string|none
+12:00:00|time|13:00:00|time|none
+2019|gYear|2020|gYear|none
+P1D|duration|P2D|duration|none
+a|token|b|token|none
+tru|boolean|true|boolean|none
+2020-01-01T00:00:00|dateTimeStamp|2020-01-01T00:00:00|dateTime|none
+false|boolean|true|boolean|less
+0|boolean|1|boolean|less
+false|boolean|1|boolean|less
+0|boolean|true|boolean|less
+1|boolean|true|boolean|equal
+0|boolean|false|boolean|equal
+true|boolean|true|boolean|equal
+false|boolean|false|boolean|equal
+true|boolean|0|boolean|greater
+a|string|b|string|less
+b|string|a|string|greater
+a|string|a|string|equal
+|string|a|string|less
+|string||string|equal
+a|string|aa|string|less
+Z|string|a|string|less
+10|string|9|string|less
+a |string|a|string|greater
+z|string|\u{e4}|string|less
+\u{e4}|string|\u{f6}|string|less
+\u{ffff}|string|\u{10000}|string|less
+\u{e000}|string|\u{10000}|string|less
+\u{10000}|string|\u{10ffff}|string|less
+\u{e9}|string|e\u{301}|string|greater
+1.0|string|1|string|greater
+A|string|a|string|less
+\u{7f}|string|\u{80}|string|less
+\u{7ff}|string|\u{800}|string|less";
 
 /// Moments and days.
-pub const MOMENTS: [(&str, &str, &str, &str, &str); 63] = [
-    (
-        "2020-01-01",
-        "date",
-        "2020-01-01T00:00:00",
-        "dateTime",
-        "none",
-    ),
-    (
-        "2020-01-01",
-        "date",
-        "2021-01-01T00:00:00",
-        "dateTime",
-        "none",
-    ),
-    (
-        "2020-01-01Z",
-        "date",
-        "2020-01-01T00:00:00Z",
-        "dateTime",
-        "none",
-    ),
-    ("2020-02-30", "date", "2020-02-30", "date", "none"),
-    ("2020-02-30", "date", "2020-03-01", "date", "none"),
-    (
-        "2020-01-01T00:00:00",
-        "dateTime",
-        "2020-01-01T00:00:01",
-        "dateTime",
-        "less",
-    ),
-    (
-        "2020-01-01T00:00:00",
-        "dateTime",
-        "2020-01-01T00:00:00",
-        "dateTime",
-        "equal",
-    ),
-    (
-        "2020-01-01T00:00:00.0",
-        "dateTime",
-        "2020-01-01T00:00:00",
-        "dateTime",
-        "equal",
-    ),
-    (
-        "2020-01-01T00:00:00.000000001",
-        "dateTime",
-        "2020-01-01T00:00:00",
-        "dateTime",
-        "greater",
-    ),
-    (
-        "2020-01-01T00:00:00.1",
-        "dateTime",
-        "2020-01-01T00:00:00.09",
-        "dateTime",
-        "greater",
-    ),
-    (
-        "2020-01-01T00:00:00.0001",
-        "dateTime",
-        "2020-01-01T00:00:00.0002",
-        "dateTime",
-        "less",
-    ),
-    (
-        "2020-01-01T24:00:00",
-        "dateTime",
-        "2020-01-02T00:00:00",
-        "dateTime",
-        "equal",
-    ),
-    (
-        "2020-12-31T24:00:00",
-        "dateTime",
-        "2021-01-01T00:00:00",
-        "dateTime",
-        "equal",
-    ),
-    (
-        "2020-01-01T12:00:00Z",
-        "dateTime",
-        "2020-01-01T13:00:00+01:00",
-        "dateTime",
-        "equal",
-    ),
-    (
-        "2020-01-01T12:00:00Z",
-        "dateTime",
-        "2020-01-01T12:00:00+01:00",
-        "dateTime",
-        "greater",
-    ),
-    (
-        "2020-01-01T12:00:00Z",
-        "dateTime",
-        "2020-01-01T12:00:00-01:00",
-        "dateTime",
-        "less",
-    ),
-    (
-        "2020-01-01T00:00:00+14:00",
-        "dateTime",
-        "2019-12-30T20:00:00-14:00",
-        "dateTime",
-        "equal",
-    ),
-    (
-        "2020-01-01T00:00:00Z",
-        "dateTime",
-        "2020-01-01T00:00:00-00:00",
-        "dateTime",
-        "equal",
-    ),
-    (
-        "2020-01-01T00:00:00Z",
-        "dateTime",
-        "2020-01-01T00:00:00+00:00",
-        "dateTime",
-        "equal",
-    ),
-    (
-        "0000-12-31T23:59:59",
-        "dateTime",
-        "0001-01-01T00:00:00",
-        "dateTime",
-        "less",
-    ),
-    (
-        "-0001-01-01T00:00:00",
-        "dateTime",
-        "0000-01-01T00:00:00",
-        "dateTime",
-        "less",
-    ),
-    (
-        "-0002-01-01T00:00:00",
-        "dateTime",
-        "-0001-01-01T00:00:00",
-        "dateTime",
-        "less",
-    ),
-    (
-        "-9999-01-01T00:00:00",
-        "dateTime",
-        "9999-12-31T24:00:00",
-        "dateTime",
-        "less",
-    ),
-    (
-        "1969-12-31T23:59:59",
-        "dateTime",
-        "1970-01-01T00:00:00",
-        "dateTime",
-        "less",
-    ),
-    (
-        "2000-02-29T00:00:00",
-        "dateTime",
-        "2000-03-01T00:00:00",
-        "dateTime",
-        "less",
-    ),
-    (
-        "1900-02-28T24:00:00",
-        "dateTime",
-        "1900-03-01T00:00:00",
-        "dateTime",
-        "equal",
-    ),
-    (
-        "2020-01-02T00:00:00",
-        "dateTime",
-        "2020-01-01T10:00:00Z",
-        "dateTime",
-        "none",
-    ),
-    (
-        "2020-01-01T10:00:00Z",
-        "dateTime",
-        "2020-01-02T00:00:00",
-        "dateTime",
-        "none",
-    ),
-    (
-        "2020-01-01T09:59:59.999999999Z",
-        "dateTime",
-        "2020-01-02T00:00:00",
-        "dateTime",
-        "less",
-    ),
-    (
-        "2020-01-02T00:00:00",
-        "dateTime",
-        "2020-01-01T09:59:59.999999999Z",
-        "dateTime",
-        "greater",
-    ),
-    (
-        "2020-01-02T14:00:00Z",
-        "dateTime",
-        "2020-01-02T00:00:00",
-        "dateTime",
-        "none",
-    ),
-    (
-        "2020-01-02T00:00:00",
-        "dateTime",
-        "2020-01-02T14:00:00Z",
-        "dateTime",
-        "none",
-    ),
-    (
-        "2020-01-02T14:00:00.000000001Z",
-        "dateTime",
-        "2020-01-02T00:00:00",
-        "dateTime",
-        "greater",
-    ),
-    (
-        "2020-01-02T00:00:00",
-        "dateTime",
-        "2020-01-02T14:00:00.000000001Z",
-        "dateTime",
-        "less",
-    ),
-    (
-        "2020-01-02T00:00:00",
-        "dateTime",
-        "2020-01-02T00:00:00Z",
-        "dateTime",
-        "none",
-    ),
-    (
-        "2020-01-02T00:00:00Z",
-        "dateTime",
-        "2020-01-02T00:00:00",
-        "dateTime",
-        "none",
-    ),
-    (
-        "2020-01-02T00:00:00",
-        "dateTime",
-        "2020-01-02T14:00:00+14:00",
-        "dateTime",
-        "none",
-    ),
-    (
-        "2020-01-02T00:00:00",
-        "dateTime",
-        "2020-01-03T04:00:00+14:00",
-        "dateTime",
-        "none",
-    ),
-    (
-        "2020-01-02T00:00:00",
-        "dateTime",
-        "2020-01-03T04:00:00.000000001+14:00",
-        "dateTime",
-        "less",
-    ),
-    (
-        "2020-01-01T00:00:00",
-        "dateTime",
-        "2021-01-01T00:00:00Z",
-        "dateTime",
-        "less",
-    ),
-    (
-        "2021-01-01T00:00:00",
-        "dateTime",
-        "2020-01-01T00:00:00Z",
-        "dateTime",
-        "greater",
-    ),
-    (
-        "2020-01-01T00:00:00Z",
-        "dateTime",
-        "2021-01-01T00:00:00",
-        "dateTime",
-        "less",
-    ),
-    (
-        "2021-01-01T00:00:00Z",
-        "dateTime",
-        "2020-01-01T00:00:00",
-        "dateTime",
-        "greater",
-    ),
-    (
-        "-9999-01-01T00:00:00+14:00",
-        "dateTime",
-        "-9999-01-01T00:00:00",
-        "dateTime",
-        "none",
-    ),
-    (
-        "-9999-01-01T00:00:00+14:00",
-        "dateTime",
-        "-9999-01-01T00:00:00.000000001",
-        "dateTime",
-        "less",
-    ),
-    ("2020-01-01", "date", "2020-01-02", "date", "less"),
-    ("2020-01-01", "date", "2020-01-01", "date", "equal"),
-    ("2020-01-02", "date", "2020-01-01", "date", "greater"),
-    ("2020-01-01Z", "date", "2020-01-01+00:00", "date", "equal"),
-    ("2020-01-01+01:00", "date", "2020-01-01Z", "date", "less"),
-    ("2020-01-01-01:00", "date", "2020-01-01Z", "date", "greater"),
-    (
-        "2020-01-01+14:00",
-        "date",
-        "2019-12-31-10:00",
-        "date",
-        "equal",
-    ),
-    ("2020-01-01", "date", "2020-01-01Z", "date", "none"),
-    ("2020-01-01", "date", "2020-01-02Z", "date", "less"),
-    ("2020-01-01", "date", "2020-01-02+10:00", "date", "none"),
-    ("2020-01-01", "date", "2020-01-02+09:59", "date", "less"),
-    ("2020-01-01", "date", "2019-12-31-10:00", "date", "none"),
-    ("2020-01-01", "date", "2019-12-31-09:59", "date", "greater"),
-    ("2020-01-02Z", "date", "2020-01-01", "date", "greater"),
-    ("2019-12-31", "date", "2020-01-01", "date", "less"),
-    ("0000-02-29", "date", "0000-03-01", "date", "less"),
-    ("-0001-12-31", "date", "0000-01-01", "date", "less"),
-    ("-9999-01-01", "date", "9999-12-31", "date", "less"),
-];
+pub const MOMENTS: &str = "2020-01-01|date|2020-01-01T00:00:00|dateTime|none
+2020-01-01|date|2021-01-01T00:00:00|dateTime|none
+2020-01-01Z|date|2020-01-01T00:00:00Z|dateTime|none
+2020-02-30|date|2020-02-30|date|none
+2020-02-30|date|2020-03-01|date|none
+2020-01-01T00:00:00|dateTime|2020-01-01T00:00:01|dateTime|less
+2020-01-01T00:00:00|dateTime|2020-01-01T00:00:00|dateTime|equal
+2020-01-01T00:00:00.0|dateTime|2020-01-01T00:00:00|dateTime|equal
+2020-01-01T00:00:00.000000001|dateTime|2020-01-01T00:00:00|dateTime|greater
+2020-01-01T00:00:00.1|dateTime|2020-01-01T00:00:00.09|dateTime|greater
+2020-01-01T00:00:00.0001|dateTime|2020-01-01T00:00:00.0002|dateTime|less
+2020-01-01T24:00:00|dateTime|2020-01-02T00:00:00|dateTime|equal
+2020-12-31T24:00:00|dateTime|2021-01-01T00:00:00|dateTime|equal
+2020-01-01T12:00:00Z|dateTime|2020-01-01T13:00:00+01:00|dateTime|equal
+2020-01-01T12:00:00Z|dateTime|2020-01-01T12:00:00+01:00|dateTime|greater
+2020-01-01T12:00:00Z|dateTime|2020-01-01T12:00:00-01:00|dateTime|less
+2020-01-01T00:00:00+14:00|dateTime|2019-12-30T20:00:00-14:00|dateTime|equal
+2020-01-01T00:00:00Z|dateTime|2020-01-01T00:00:00-00:00|dateTime|equal
+2020-01-01T00:00:00Z|dateTime|2020-01-01T00:00:00+00:00|dateTime|equal
+0000-12-31T23:59:59|dateTime|0001-01-01T00:00:00|dateTime|less
+-0001-01-01T00:00:00|dateTime|0000-01-01T00:00:00|dateTime|less
+-0002-01-01T00:00:00|dateTime|-0001-01-01T00:00:00|dateTime|less
+-9999-01-01T00:00:00|dateTime|9999-12-31T24:00:00|dateTime|less
+1969-12-31T23:59:59|dateTime|1970-01-01T00:00:00|dateTime|less
+2000-02-29T00:00:00|dateTime|2000-03-01T00:00:00|dateTime|less
+1900-02-28T24:00:00|dateTime|1900-03-01T00:00:00|dateTime|equal
+2020-01-02T00:00:00|dateTime|2020-01-01T10:00:00Z|dateTime|none
+2020-01-01T10:00:00Z|dateTime|2020-01-02T00:00:00|dateTime|none
+2020-01-01T09:59:59.999999999Z|dateTime|2020-01-02T00:00:00|dateTime|less
+2020-01-02T00:00:00|dateTime|2020-01-01T09:59:59.999999999Z|dateTime|greater
+2020-01-02T14:00:00Z|dateTime|2020-01-02T00:00:00|dateTime|none
+2020-01-02T00:00:00|dateTime|2020-01-02T14:00:00Z|dateTime|none
+2020-01-02T14:00:00.000000001Z|dateTime|2020-01-02T00:00:00|dateTime|greater
+2020-01-02T00:00:00|dateTime|2020-01-02T14:00:00.000000001Z|dateTime|less
+2020-01-02T00:00:00|dateTime|2020-01-02T00:00:00Z|dateTime|none
+2020-01-02T00:00:00Z|dateTime|2020-01-02T00:00:00|dateTime|none
+2020-01-02T00:00:00|dateTime|2020-01-02T14:00:00+14:00|dateTime|none
+2020-01-02T00:00:00|dateTime|2020-01-03T04:00:00+14:00|dateTime|none
+2020-01-02T00:00:00|dateTime|2020-01-03T04:00:00.000000001+14:00|dateTime|less
+2020-01-01T00:00:00|dateTime|2021-01-01T00:00:00Z|dateTime|less
+2021-01-01T00:00:00|dateTime|2020-01-01T00:00:00Z|dateTime|greater
+2020-01-01T00:00:00Z|dateTime|2021-01-01T00:00:00|dateTime|less
+2021-01-01T00:00:00Z|dateTime|2020-01-01T00:00:00|dateTime|greater
+-9999-01-01T00:00:00+14:00|dateTime|-9999-01-01T00:00:00|dateTime|none
+-9999-01-01T00:00:00+14:00|dateTime|-9999-01-01T00:00:00.000000001|dateTime|less
+2020-01-01|date|2020-01-02|date|less
+2020-01-01|date|2020-01-01|date|equal
+2020-01-02|date|2020-01-01|date|greater
+2020-01-01Z|date|2020-01-01+00:00|date|equal
+2020-01-01+01:00|date|2020-01-01Z|date|less
+2020-01-01-01:00|date|2020-01-01Z|date|greater
+2020-01-01+14:00|date|2019-12-31-10:00|date|equal
+2020-01-01|date|2020-01-01Z|date|none
+2020-01-01|date|2020-01-02Z|date|less
+2020-01-01|date|2020-01-02+10:00|date|none
+2020-01-01|date|2020-01-02+09:59|date|less
+2020-01-01|date|2019-12-31-10:00|date|none
+2020-01-01|date|2019-12-31-09:59|date|greater
+2020-01-02Z|date|2020-01-01|date|greater
+2019-12-31|date|2020-01-01|date|less
+0000-02-29|date|0000-03-01|date|less
+-0001-12-31|date|0000-01-01|date|less
+-9999-01-01|date|9999-12-31|date|less";

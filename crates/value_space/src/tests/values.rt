@@ -1,508 +1,297 @@
-//! Literals and their values: the lexical form; the datatype, by its name in the namespace of XML Schema or by its IRI, or a language tag;
-//! and the value as `spelled` writes it.
+//! Literals and their values, one a line: the lexical form; the datatype, by its name in the namespace of XML Schema or by its IRI, or a
+//! language tag; and the value as `spelled` writes it.
 
 /// Integers, decimals and derived types.
-pub const NUMBERS: [(&str, &str, &str); 127] = [
-    ("0", "integer", "0"),
-    ("5", "integer", "5"),
-    ("+5", "integer", "5"),
-    ("-5", "integer", "-5"),
-    ("007", "integer", "7"),
-    ("-0", "integer", "0"),
-    ("+0", "integer", "0"),
-    ("-000", "integer", "0"),
-    ("", "integer", "ill"),
-    ("+", "integer", "ill"),
-    ("-", "integer", "ill"),
-    ("--5", "integer", "ill"),
-    ("+-5", "integer", "ill"),
-    (" 5", "integer", "ill"),
-    ("5 ", "integer", "ill"),
-    ("5\n", "integer", "ill"),
-    ("5.", "integer", "ill"),
-    ("1.0", "integer", "ill"),
-    ("1e3", "integer", "ill"),
-    ("\u{663}", "integer", "ill"),
-    ("0x10", "integer", "ill"),
-    ("1_000", "integer", "ill"),
-    ("5a", "integer", "ill"),
-    ("/", "integer", "ill"),
-    (":", "integer", "ill"),
-    (
-        "10000000000000000000000000000000000000",
-        "integer",
-        "10000000000000000000000000000000000000",
-    ),
-    (
-        "99999999999999999999999999999999999999",
-        "integer",
-        "99999999999999999999999999999999999999",
-    ),
-    (
-        "-99999999999999999999999999999999999999",
-        "integer",
-        "-99999999999999999999999999999999999999",
-    ),
-    ("0000000000000000000000000000000000000000", "integer", "0"),
-    (
-        "000000000000000000000000000000000000000099999999999999999999999999999999999999",
-        "integer",
-        "99999999999999999999999999999999999999",
-    ),
-    ("100000000000000000000000000000000000000", "integer", "wide"),
-    ("999999999999999999999999999999999999999", "integer", "wide"),
-    (
-        "-999999999999999999999999999999999999999",
-        "integer",
-        "wide",
-    ),
-    (
-        "+111111111111111111111111111111111111111",
-        "integer",
-        "wide",
-    ),
-    ("111111111111111111111111111111111111111", "byte", "wide"),
-    (
-        "111111111111111111111111111111111111111",
-        "negativeInteger",
-        "wide",
-    ),
-    (" 111111111111111111111111111111111111111", "integer", "ill"),
-    ("111111111111111111111111111111111111111 ", "decimal", "ill"),
-    ("111111111111111111111111111111111111111a", "byte", "ill"),
-    ("5", "decimal", "5"),
-    ("5.", "decimal", "5"),
-    (".5", "decimal", "0.5"),
-    ("+.5", "decimal", "0.5"),
-    ("-.5", "decimal", "-0.5"),
-    ("-5.", "decimal", "-5"),
-    (".", "decimal", "ill"),
-    ("+.", "decimal", "ill"),
-    ("", "decimal", "ill"),
-    ("+", "decimal", "ill"),
-    ("--5", "decimal", "ill"),
-    ("+-5", "decimal", "ill"),
-    ("1.2.3", "decimal", "ill"),
-    ("1..2", "decimal", "ill"),
-    ("1,5", "decimal", "ill"),
-    ("1.5e3", "decimal", "ill"),
-    ("INF", "decimal", "ill"),
-    (" 1.5", "decimal", "ill"),
-    ("1.-5", "decimal", "ill"),
-    ("-0.0", "decimal", "0"),
-    ("-0", "decimal", "0"),
-    ("-.0", "decimal", "0"),
-    ("0.1", "decimal", "0.1"),
-    (
-        "0.1000000000000000000000000000000000000000000000000000000000000",
-        "decimal",
-        "0.1",
-    ),
-    ("00012.3400", "decimal", "12.34"),
-    ("-12.34", "decimal", "-12.34"),
-    (
-        "0.00000000000000000000000000000000000001",
-        "decimal",
-        "0.00000000000000000000000000000000000001",
-    ),
-    (
-        "-0.00000000000000000000000000000000000001",
-        "decimal",
-        "-0.00000000000000000000000000000000000001",
-    ),
-    (
-        "0.000000000000000000000000000000000000001",
-        "decimal",
-        "wide",
-    ),
-    (
-        "-0.000000000000000000000000000000000000001",
-        "decimal",
-        "wide",
-    ),
-    (
-        "99999999999999999999999999999999999999.99999999999999999999999999999999999999",
-        "decimal",
-        "99999999999999999999999999999999999999.99999999999999999999999999999999999999",
-    ),
-    (
-        "99999999999999999999999999999999999999.999999999999999999999999999999999999999",
-        "decimal",
-        "wide",
-    ),
-    (
-        "999999999999999999999999999999999999999.5",
-        "decimal",
-        "wide",
-    ),
-    (
-        "111111111111111111111111111111111111111.",
-        "decimal",
-        "wide",
-    ),
-    (
-        ".111111111111111111111111111111111111111",
-        "decimal",
-        "wide",
-    ),
-    (
-        "0.000000000000000000000000000000000000000000000000000000000000",
-        "decimal",
-        "0",
-    ),
-    (
-        "000000000000000000000000000000000000000000000000000000000000.000000000000000000000000000000000000000000000000000000000000",
-        "decimal",
-        "0",
-    ),
-    (
-        "-99999999999999999999999999999999999999",
-        "nonPositiveInteger",
-        "-99999999999999999999999999999999999999",
-    ),
-    ("0", "nonPositiveInteger", "0"),
-    ("1", "nonPositiveInteger", "ill"),
-    (
-        "-99999999999999999999999999999999999999",
-        "negativeInteger",
-        "-99999999999999999999999999999999999999",
-    ),
-    ("-1", "negativeInteger", "-1"),
-    ("0", "negativeInteger", "ill"),
-    ("0", "nonNegativeInteger", "0"),
-    ("-1", "nonNegativeInteger", "ill"),
-    (
-        "99999999999999999999999999999999999999",
-        "nonNegativeInteger",
-        "99999999999999999999999999999999999999",
-    ),
-    ("1", "positiveInteger", "1"),
-    ("0", "positiveInteger", "ill"),
-    (
-        "99999999999999999999999999999999999999",
-        "positiveInteger",
-        "99999999999999999999999999999999999999",
-    ),
-    ("-9223372036854775808", "long", "-9223372036854775808"),
-    ("-9223372036854775809", "long", "ill"),
-    ("9223372036854775807", "long", "9223372036854775807"),
-    ("9223372036854775808", "long", "ill"),
-    ("-2147483648", "int", "-2147483648"),
-    ("-2147483649", "int", "ill"),
-    ("2147483647", "int", "2147483647"),
-    ("2147483648", "int", "ill"),
-    ("-32768", "short", "-32768"),
-    ("-32769", "short", "ill"),
-    ("32767", "short", "32767"),
-    ("32768", "short", "ill"),
-    ("-128", "byte", "-128"),
-    ("-129", "byte", "ill"),
-    ("127", "byte", "127"),
-    ("128", "byte", "ill"),
-    ("0", "unsignedLong", "0"),
-    ("-1", "unsignedLong", "ill"),
-    (
-        "18446744073709551615",
-        "unsignedLong",
-        "18446744073709551615",
-    ),
-    ("18446744073709551616", "unsignedLong", "ill"),
-    ("0", "unsignedInt", "0"),
-    ("-1", "unsignedInt", "ill"),
-    ("4294967295", "unsignedInt", "4294967295"),
-    ("4294967296", "unsignedInt", "ill"),
-    ("0", "unsignedShort", "0"),
-    ("-1", "unsignedShort", "ill"),
-    ("65535", "unsignedShort", "65535"),
-    ("65536", "unsignedShort", "ill"),
-    ("0", "unsignedByte", "0"),
-    ("-1", "unsignedByte", "ill"),
-    ("255", "unsignedByte", "255"),
-    ("256", "unsignedByte", "ill"),
-    ("1.0", "byte", "ill"),
-    ("5", "byte", "5"),
-    ("+127", "byte", "127"),
-    ("-0", "unsignedByte", "0"),
-    ("-0", "nonPositiveInteger", "0"),
-    ("-0", "negativeInteger", "ill"),
-    ("00000000255", "unsignedByte", "255"),
-];
+pub const NUMBERS: &str = "0|integer|0
+5|integer|5
++5|integer|5
+-5|integer|-5
+007|integer|7
+-0|integer|0
++0|integer|0
+-000|integer|0
+|integer|ill
++|integer|ill
+-|integer|ill
+--5|integer|ill
++-5|integer|ill
+ 5|integer|ill
+5 |integer|ill
+5.|integer|ill
+1.0|integer|ill
+1e3|integer|ill
+\u{663}|integer|ill
+0x10|integer|ill
+1_000|integer|ill
+5a|integer|ill
+/|integer|ill
+:|integer|ill
+10000000000000000000000000000000000000|integer|10000000000000000000000000000000000000
+99999999999999999999999999999999999999|integer|99999999999999999999999999999999999999
+-99999999999999999999999999999999999999|integer|-99999999999999999999999999999999999999
+0000000000000000000000000000000000000000|integer|0
+000000000000000000000000000000000000000099999999999999999999999999999999999999|integer|99999999999999999999999999999999999999
+100000000000000000000000000000000000000|integer|wide
+999999999999999999999999999999999999999|integer|wide
+-999999999999999999999999999999999999999|integer|wide
++111111111111111111111111111111111111111|integer|wide
+111111111111111111111111111111111111111|byte|wide
+111111111111111111111111111111111111111|negativeInteger|wide
+ 111111111111111111111111111111111111111|integer|ill
+111111111111111111111111111111111111111 |decimal|ill
+111111111111111111111111111111111111111a|byte|ill
+5|decimal|5
+5.|decimal|5
+.5|decimal|0.5
++.5|decimal|0.5
+-.5|decimal|-0.5
+-5.|decimal|-5
+.|decimal|ill
++.|decimal|ill
+|decimal|ill
++|decimal|ill
+--5|decimal|ill
++-5|decimal|ill
+1.2.3|decimal|ill
+1..2|decimal|ill
+1,5|decimal|ill
+1.5e3|decimal|ill
+INF|decimal|ill
+ 1.5|decimal|ill
+1.-5|decimal|ill
+-0.0|decimal|0
+-0|decimal|0
+-.0|decimal|0
+0.1|decimal|0.1
+0.1000000000000000000000000000000000000000000000000000000000000|decimal|0.1
+00012.3400|decimal|12.34
+-12.34|decimal|-12.34
+0.00000000000000000000000000000000000001|decimal|0.00000000000000000000000000000000000001
+-0.00000000000000000000000000000000000001|decimal|-0.00000000000000000000000000000000000001
+0.000000000000000000000000000000000000001|decimal|wide
+-0.000000000000000000000000000000000000001|decimal|wide
+99999999999999999999999999999999999999.99999999999999999999999999999999999999|decimal|99999999999999999999999999999999999999.99999999999999999999999999999999999999
+99999999999999999999999999999999999999.999999999999999999999999999999999999999|decimal|wide
+999999999999999999999999999999999999999.5|decimal|wide
+111111111111111111111111111111111111111.|decimal|wide
+.111111111111111111111111111111111111111|decimal|wide
+0.000000000000000000000000000000000000000000000000000000000000|decimal|0
+000000000000000000000000000000000000000000000000000000000000.000000000000000000000000000000000000000000000000000000000000|decimal|0
+-99999999999999999999999999999999999999|nonPositiveInteger|-99999999999999999999999999999999999999
+0|nonPositiveInteger|0
+1|nonPositiveInteger|ill
+-99999999999999999999999999999999999999|negativeInteger|-99999999999999999999999999999999999999
+-1|negativeInteger|-1
+0|negativeInteger|ill
+0|nonNegativeInteger|0
+-1|nonNegativeInteger|ill
+99999999999999999999999999999999999999|nonNegativeInteger|99999999999999999999999999999999999999
+1|positiveInteger|1
+0|positiveInteger|ill
+99999999999999999999999999999999999999|positiveInteger|99999999999999999999999999999999999999
+-9223372036854775808|long|-9223372036854775808
+-9223372036854775809|long|ill
+9223372036854775807|long|9223372036854775807
+9223372036854775808|long|ill
+-2147483648|int|-2147483648
+-2147483649|int|ill
+2147483647|int|2147483647
+2147483648|int|ill
+-32768|short|-32768
+-32769|short|ill
+32767|short|32767
+32768|short|ill
+-128|byte|-128
+-129|byte|ill
+127|byte|127
+128|byte|ill
+0|unsignedLong|0
+-1|unsignedLong|ill
+18446744073709551615|unsignedLong|18446744073709551615
+18446744073709551616|unsignedLong|ill
+0|unsignedInt|0
+-1|unsignedInt|ill
+4294967295|unsignedInt|4294967295
+4294967296|unsignedInt|ill
+0|unsignedShort|0
+-1|unsignedShort|ill
+65535|unsignedShort|65535
+65536|unsignedShort|ill
+0|unsignedByte|0
+-1|unsignedByte|ill
+255|unsignedByte|255
+256|unsignedByte|ill
+1.0|byte|ill
+5|byte|5
++127|byte|127
+-0|unsignedByte|0
+-0|nonPositiveInteger|0
+-0|negativeInteger|ill
+00000000255|unsignedByte|255";
 
 /// Booleans, texts, and types whose values are not known.
-pub const OTHERS: [(&str, &str, &str); 40] = [
-    ("111111111111111111111111111111111111111", "string", "text"),
-    ("111111111111111111111111111111111111111", "boolean", "ill"),
-    ("111111111111111111111111111111111111111", "double", "float"),
-    ("true", "boolean", "true"),
-    ("1", "boolean", "true"),
-    ("false", "boolean", "false"),
-    ("0", "boolean", "false"),
-    ("TRUE", "boolean", "ill"),
-    ("True", "boolean", "ill"),
-    ("", "boolean", "ill"),
-    ("00", "boolean", "ill"),
-    ("01", "boolean", "ill"),
-    (" true", "boolean", "ill"),
-    ("2", "boolean", "ill"),
-    ("yes", "boolean", "ill"),
-    ("", "string", "text"),
-    ("a", "string", "text"),
-    ("12", "string", "text"),
-    ("12", "@en", "opaque"),
-    ("a", "@en", "opaque"),
-    ("a", "@de-at", "opaque"),
-    ("1", "double", "float"),
-    ("x", "double", "float"),
-    ("1.5", "float", "float"),
-    ("INF", "float", "float"),
-    ("1", "http://e/integer", "opaque"),
-    ("1", "http://www.w3.org/2001/XMLSchema", "opaque"),
-    ("1", "http://www.w3.org/2001/XMLSchema#", "opaque"),
-    ("1", "http://www.w3.org/2001/XMLSchema#integers", "opaque"),
-    ("1", "Integer", "opaque"),
-    ("1", "xhttp://www.w3.org/2001/XMLSchema#integer", "opaque"),
-    ("a", "anyURI", "opaque"),
-    ("12:00:00", "time", "opaque"),
-    ("2020", "gYear", "opaque"),
-    ("P1D", "duration", "opaque"),
-    ("a", "token", "opaque"),
-    ("2020-01-01T00:00:00Z", "dateTimeStamp", "opaque"),
-    (
-        "x",
-        "http://www.w3.org/1999/02/22-rdf-syntax-ns#langString",
-        "opaque",
-    ),
-    (
-        "x",
-        "http://www.w3.org/1999/02/22-rdf-syntax-ns#HTML",
-        "opaque",
-    ),
-    ("1", "doubles", "opaque"),
-];
+pub const OTHERS: &str = "111111111111111111111111111111111111111|string|text
+111111111111111111111111111111111111111|boolean|ill
+111111111111111111111111111111111111111|double|float
+true|boolean|true
+1|boolean|true
+false|boolean|false
+0|boolean|false
+TRUE|boolean|ill
+True|boolean|ill
+|boolean|ill
+00|boolean|ill
+01|boolean|ill
+ true|boolean|ill
+2|boolean|ill
+yes|boolean|ill
+|string|text
+a|string|text
+12|string|text
+12|@en|opaque
+a|@en|opaque
+a|@de-at|opaque
+1|double|float
+x|double|float
+1.5|float|float
+INF|float|float
+1|http://e/integer|opaque
+1|http://www.w3.org/2001/XMLSchema|opaque
+1|http://www.w3.org/2001/XMLSchema#|opaque
+1|http://www.w3.org/2001/XMLSchema#integers|opaque
+1|Integer|opaque
+1|xhttp://www.w3.org/2001/XMLSchema#integer|opaque
+a|anyURI|opaque
+12:00:00|time|opaque
+2020|gYear|opaque
+P1D|duration|opaque
+a|token|opaque
+2020-01-01T00:00:00Z|dateTimeStamp|opaque
+x|http://www.w3.org/1999/02/22-rdf-syntax-ns#langString|opaque
+x|http://www.w3.org/1999/02/22-rdf-syntax-ns#HTML|opaque
+1|doubles|opaque";
 
 /// Moments and days.
-pub const MOMENTS: [(&str, &str, &str); 123] = [
-    ("1970-01-01T00:00:00", "dateTime", "stamp 0"),
-    ("1970-01-01T00:00:00Z", "dateTime", "stamp 0 Z"),
-    ("1970-01-01T00:00:01Z", "dateTime", "stamp 1000000000 Z"),
-    ("1969-12-31T23:59:59Z", "dateTime", "stamp -1000000000 Z"),
-    ("1970-01-02T00:00:00", "dateTime", "stamp 86400000000000"),
-    (
-        "2020-01-01T00:00:00",
-        "dateTime",
-        "stamp 1577836800000000000",
-    ),
-    (
-        "2000-02-29T12:34:56.789Z",
-        "dateTime",
-        "stamp 951827696789000000 Z",
-    ),
-    (
-        "2000-03-01T00:00:00",
-        "dateTime",
-        "stamp 951868800000000000",
-    ),
-    (
-        "0000-01-01T00:00:00",
-        "dateTime",
-        "stamp -62167219200000000000",
-    ),
-    (
-        "0001-01-01T00:00:00",
-        "dateTime",
-        "stamp -62135596800000000000",
-    ),
-    (
-        "-0001-12-31T23:59:59",
-        "dateTime",
-        "stamp -62167219201000000000",
-    ),
-    (
-        "9999-12-31T23:59:59.999999999",
-        "dateTime",
-        "stamp 253402300799999999999",
-    ),
-    (
-        "-9999-01-01T00:00:00",
-        "dateTime",
-        "stamp -377705116800000000000",
-    ),
-    (
-        "9999-12-31T24:00:00",
-        "dateTime",
-        "stamp 253402300800000000000",
-    ),
-    (
-        "-9999-01-01T00:00:00+14:00",
-        "dateTime",
-        "stamp -377705167200000000000 Z",
-    ),
-    (
-        "9999-12-31T24:00:00-14:00",
-        "dateTime",
-        "stamp 253402351200000000000 Z",
-    ),
-    (
-        "2020-02-28T24:00:00.0",
-        "dateTime",
-        "stamp 1582934400000000000",
-    ),
-    (
-        "2020-12-31T24:00:00.000Z",
-        "dateTime",
-        "stamp 1609459200000000000 Z",
-    ),
-    ("2020-01-01T24:00:00.1", "dateTime", "ill"),
-    ("2020-01-01T24:00:00.000000001", "dateTime", "ill"),
-    ("2020-01-01T24:00:01", "dateTime", "ill"),
-    ("2020-01-01T24:01:00", "dateTime", "ill"),
-    ("2020-01-01T25:00:00", "dateTime", "ill"),
-    ("2020-01-01T23:60:00", "dateTime", "ill"),
-    ("2020-01-01T23:59:60", "dateTime", "ill"),
-    ("2016-12-31T23:59:60Z", "dateTime", "ill"),
-    ("2020-01-01T00:00:00.", "dateTime", "ill"),
-    ("2020-01-01T00:00:00.Z", "dateTime", "ill"),
-    (
-        "2020-01-01T00:00:00.5",
-        "dateTime",
-        "stamp 1577836800500000000",
-    ),
-    (
-        "2020-01-01T00:00:00.123456789",
-        "dateTime",
-        "stamp 1577836800123456789",
-    ),
-    (
-        "2020-01-01T00:00:00.1234567890",
-        "dateTime",
-        "stamp 1577836800123456789",
-    ),
-    ("2020-01-01T00:00:00.1234567891", "dateTime", "wide"),
-    ("2020-01-01T00:00:00.0000000001Z", "dateTime", "wide"),
-    (
-        "2020-01-01T00:00:00.0000000000000000000000000000000000000000",
-        "dateTime",
-        "stamp 1577836800000000000",
-    ),
-    (
-        "2020-01-01T00:00:00.10000000000000000000000000000000000000000-05:30",
-        "dateTime",
-        "stamp 1577856600100000000 Z",
-    ),
-    (
-        "2020-06-15T12:00:00+13:59",
-        "dateTime",
-        "stamp 1592172060000000000 Z",
-    ),
-    (
-        "2020-06-15T12:00:00-13:59",
-        "dateTime",
-        "stamp 1592272740000000000 Z",
-    ),
-    (
-        "2020-06-15T12:00:00+14:00",
-        "dateTime",
-        "stamp 1592172000000000000 Z",
-    ),
-    (
-        "2020-06-15T12:00:00-14:00",
-        "dateTime",
-        "stamp 1592272800000000000 Z",
-    ),
-    (
-        "2020-06-15T12:00:00+00:00",
-        "dateTime",
-        "stamp 1592222400000000000 Z",
-    ),
-    (
-        "2020-06-15T12:00:00-00:00",
-        "dateTime",
-        "stamp 1592222400000000000 Z",
-    ),
-    (
-        "2020-06-15T12:00:00+05:30",
-        "dateTime",
-        "stamp 1592202600000000000 Z",
-    ),
-    ("2020-06-15T12:00:00z", "dateTime", "ill"),
-    ("2020-06-15T12:00:00+14:01", "dateTime", "ill"),
-    ("2020-06-15T12:00:00-14:01", "dateTime", "ill"),
-    ("2020-06-15T12:00:00+15:00", "dateTime", "ill"),
-    ("2020-06-15T12:00:00+13:60", "dateTime", "ill"),
-    ("2020-06-15T12:00:00+1:00", "dateTime", "ill"),
-    ("2020-06-15T12:00:00+0100", "dateTime", "ill"),
-    ("2020-06-15T12:00:00+01", "dateTime", "ill"),
-    ("2020-06-15T12:00:00+01:0", "dateTime", "ill"),
-    ("2020-06-15T12:00:00+01:000", "dateTime", "ill"),
-    ("2020-06-15T12:00:0001:00", "dateTime", "ill"),
-    ("2020-06-15T12:00:00 Z", "dateTime", "ill"),
-    ("2020-06-15T12:00:00Z ", "dateTime", "ill"),
-    ("2020-06-15T12:00:00ZZ", "dateTime", "ill"),
-    ("2020-06-15T12:00:00+-1:00", "dateTime", "ill"),
-    ("2020-06-15T12:00:00Z+01:00", "dateTime", "ill"),
-    ("2020-06-15T12:00:00+24:00", "dateTime", "ill"),
-    ("2020-01-01", "dateTime", "ill"),
-    ("2020-01-01 00:00:00", "dateTime", "ill"),
-    ("2020-01-01t00:00:00", "dateTime", "ill"),
-    (" 2020-01-01T00:00:00", "dateTime", "ill"),
-    ("2020-1-01T00:00:00", "dateTime", "ill"),
-    ("2020-01-01T0:00:00", "dateTime", "ill"),
-    ("2020-01-01T00:00", "dateTime", "ill"),
-    ("2020-01-01T00:00:0", "dateTime", "ill"),
-    ("2020-00-01T00:00:00", "dateTime", "ill"),
-    ("2020-13-01T00:00:00", "dateTime", "ill"),
-    ("2020-01-00T00:00:00", "dateTime", "ill"),
-    ("2020-01-32T00:00:00", "dateTime", "ill"),
-    ("2021-02-29T00:00:00", "dateTime", "ill"),
-    ("", "dateTime", "ill"),
-    ("-", "dateTime", "ill"),
-    ("+2020-01-01T00:00:00", "dateTime", "ill"),
-    ("--2020-01-01T00:00:00", "dateTime", "ill"),
-    ("2020-01-01T00-00-00", "dateTime", "ill"),
-    ("2020:01:01T00:00:00", "dateTime", "ill"),
-    ("020-01-01T00:00:00", "dateTime", "ill"),
-    ("2020-01-01T00:00:00,5", "dateTime", "ill"),
-    ("-0000-01-01T00:00:00", "dateTime", "ill"),
-    ("12020-01-01T00:00:00", "dateTime", "wide"),
-    ("02020-01-01T00:00:00", "dateTime", "wide"),
-    ("-12020-01-01T00:00:00Z", "dateTime", "wide"),
-    ("-00000-01-01T00:00:00", "dateTime", "wide"),
-    ("12020-13-45T99:99:99", "dateTime", "wide"),
-    ("12020-13-45T99:99:99+15:00", "dateTime", "ill"),
-    ("12020-13-45T99:99:9", "dateTime", "ill"),
-    ("2020-13-45T99:99:99", "dateTime", "ill"),
-    ("2020-13-45T99:99:99.0000000001", "dateTime", "wide"),
-    ("1970-01-01", "date", "day 0"),
-    ("1970-01-01Z", "date", "day 0 Z"),
-    ("2020-01-01", "date", "day 1577836800000000000"),
-    ("2020-01-01+14:00", "date", "day 1577786400000000000 Z"),
-    ("2020-01-01-14:00", "date", "day 1577887200000000000 Z"),
-    ("0000-02-29", "date", "day -62162121600000000000"),
-    ("-0004-02-29", "date", "day -62288352000000000000"),
-    ("-0001-02-29", "date", "ill"),
-    ("0001-02-29", "date", "ill"),
-    ("1900-02-28", "date", "day -2203977600000000000"),
-    ("1900-02-29", "date", "ill"),
-    ("2000-02-29", "date", "day 951782400000000000"),
-    ("2100-02-29", "date", "ill"),
-    ("2020-02-30", "date", "ill"),
-    ("2020-04-31", "date", "ill"),
-    ("2020-06-30", "date", "day 1593475200000000000"),
-    ("2020-12-31", "date", "day 1609372800000000000"),
-    ("9999-12-31", "date", "day 253402214400000000000"),
-    ("-9999-01-01", "date", "day -377705116800000000000"),
-    ("-0000-01-01", "date", "ill"),
-    ("12020-01-01", "date", "wide"),
-    ("02020-01-01", "date", "wide"),
-    ("12020-99-99Z", "date", "wide"),
-    ("12020-99-99z", "date", "ill"),
-    ("2020-01-01z", "date", "ill"),
-    ("2020-01-01+14:01", "date", "ill"),
-    ("2020-01-01T00:00:00", "date", "ill"),
-    ("2020-01-01.5", "date", "ill"),
-    ("2020-1-1", "date", "ill"),
-    ("20200101", "date", "ill"),
-    ("", "date", "ill"),
-    ("2020-01-01 ", "date", "ill"),
-    ("999-01-01", "date", "ill"),
-];
+pub const MOMENTS: &str = "1970-01-01T00:00:00|dateTime|stamp 0
+1970-01-01T00:00:00Z|dateTime|stamp 0 Z
+1970-01-01T00:00:01Z|dateTime|stamp 1000000000 Z
+1969-12-31T23:59:59Z|dateTime|stamp -1000000000 Z
+1970-01-02T00:00:00|dateTime|stamp 86400000000000
+2020-01-01T00:00:00|dateTime|stamp 1577836800000000000
+2000-02-29T12:34:56.789Z|dateTime|stamp 951827696789000000 Z
+2000-03-01T00:00:00|dateTime|stamp 951868800000000000
+0000-01-01T00:00:00|dateTime|stamp -62167219200000000000
+0001-01-01T00:00:00|dateTime|stamp -62135596800000000000
+-0001-12-31T23:59:59|dateTime|stamp -62167219201000000000
+9999-12-31T23:59:59.999999999|dateTime|stamp 253402300799999999999
+-9999-01-01T00:00:00|dateTime|stamp -377705116800000000000
+9999-12-31T24:00:00|dateTime|stamp 253402300800000000000
+-9999-01-01T00:00:00+14:00|dateTime|stamp -377705167200000000000 Z
+9999-12-31T24:00:00-14:00|dateTime|stamp 253402351200000000000 Z
+2020-02-28T24:00:00.0|dateTime|stamp 1582934400000000000
+2020-12-31T24:00:00.000Z|dateTime|stamp 1609459200000000000 Z
+2020-01-01T24:00:00.1|dateTime|ill
+2020-01-01T24:00:00.000000001|dateTime|ill
+2020-01-01T24:00:01|dateTime|ill
+2020-01-01T24:01:00|dateTime|ill
+2020-01-01T25:00:00|dateTime|ill
+2020-01-01T23:60:00|dateTime|ill
+2020-01-01T23:59:60|dateTime|ill
+2016-12-31T23:59:60Z|dateTime|ill
+2020-01-01T00:00:00.|dateTime|ill
+2020-01-01T00:00:00.Z|dateTime|ill
+2020-01-01T00:00:00.5|dateTime|stamp 1577836800500000000
+2020-01-01T00:00:00.123456789|dateTime|stamp 1577836800123456789
+2020-01-01T00:00:00.1234567890|dateTime|stamp 1577836800123456789
+2020-01-01T00:00:00.1234567891|dateTime|wide
+2020-01-01T00:00:00.0000000001Z|dateTime|wide
+2020-01-01T00:00:00.0000000000000000000000000000000000000000|dateTime|stamp 1577836800000000000
+2020-01-01T00:00:00.10000000000000000000000000000000000000000-05:30|dateTime|stamp 1577856600100000000 Z
+2020-06-15T12:00:00+13:59|dateTime|stamp 1592172060000000000 Z
+2020-06-15T12:00:00-13:59|dateTime|stamp 1592272740000000000 Z
+2020-06-15T12:00:00+14:00|dateTime|stamp 1592172000000000000 Z
+2020-06-15T12:00:00-14:00|dateTime|stamp 1592272800000000000 Z
+2020-06-15T12:00:00+00:00|dateTime|stamp 1592222400000000000 Z
+2020-06-15T12:00:00-00:00|dateTime|stamp 1592222400000000000 Z
+2020-06-15T12:00:00+05:30|dateTime|stamp 1592202600000000000 Z
+2020-06-15T12:00:00z|dateTime|ill
+2020-06-15T12:00:00+14:01|dateTime|ill
+2020-06-15T12:00:00-14:01|dateTime|ill
+2020-06-15T12:00:00+15:00|dateTime|ill
+2020-06-15T12:00:00+13:60|dateTime|ill
+2020-06-15T12:00:00+1:00|dateTime|ill
+2020-06-15T12:00:00+0100|dateTime|ill
+2020-06-15T12:00:00+01|dateTime|ill
+2020-06-15T12:00:00+01:0|dateTime|ill
+2020-06-15T12:00:00+01:000|dateTime|ill
+2020-06-15T12:00:0001:00|dateTime|ill
+2020-06-15T12:00:00 Z|dateTime|ill
+2020-06-15T12:00:00Z |dateTime|ill
+2020-06-15T12:00:00ZZ|dateTime|ill
+2020-06-15T12:00:00+-1:00|dateTime|ill
+2020-06-15T12:00:00Z+01:00|dateTime|ill
+2020-06-15T12:00:00+24:00|dateTime|ill
+2020-01-01|dateTime|ill
+2020-01-01 00:00:00|dateTime|ill
+2020-01-01t00:00:00|dateTime|ill
+ 2020-01-01T00:00:00|dateTime|ill
+2020-1-01T00:00:00|dateTime|ill
+2020-01-01T0:00:00|dateTime|ill
+2020-01-01T00:00|dateTime|ill
+2020-01-01T00:00:0|dateTime|ill
+2020-00-01T00:00:00|dateTime|ill
+2020-13-01T00:00:00|dateTime|ill
+2020-01-00T00:00:00|dateTime|ill
+2020-01-32T00:00:00|dateTime|ill
+2021-02-29T00:00:00|dateTime|ill
+|dateTime|ill
+-|dateTime|ill
++2020-01-01T00:00:00|dateTime|ill
+--2020-01-01T00:00:00|dateTime|ill
+2020-01-01T00-00-00|dateTime|ill
+2020:01:01T00:00:00|dateTime|ill
+020-01-01T00:00:00|dateTime|ill
+2020-01-01T00:00:00,5|dateTime|ill
+-0000-01-01T00:00:00|dateTime|ill
+12020-01-01T00:00:00|dateTime|wide
+02020-01-01T00:00:00|dateTime|wide
+-12020-01-01T00:00:00Z|dateTime|wide
+-00000-01-01T00:00:00|dateTime|wide
+12020-13-45T99:99:99|dateTime|wide
+12020-13-45T99:99:99+15:00|dateTime|ill
+12020-13-45T99:99:9|dateTime|ill
+2020-13-45T99:99:99|dateTime|ill
+2020-13-45T99:99:99.0000000001|dateTime|wide
+1970-01-01|date|day 0
+1970-01-01Z|date|day 0 Z
+2020-01-01|date|day 1577836800000000000
+2020-01-01+14:00|date|day 1577786400000000000 Z
+2020-01-01-14:00|date|day 1577887200000000000 Z
+0000-02-29|date|day -62162121600000000000
+-0004-02-29|date|day -62288352000000000000
+-0001-02-29|date|ill
+0001-02-29|date|ill
+1900-02-28|date|day -2203977600000000000
+1900-02-29|date|ill
+2000-02-29|date|day 951782400000000000
+2100-02-29|date|ill
+2020-02-30|date|ill
+2020-04-31|date|ill
+2020-06-30|date|day 1593475200000000000
+2020-12-31|date|day 1609372800000000000
+9999-12-31|date|day 253402214400000000000
+-9999-01-01|date|day -377705116800000000000
+-0000-01-01|date|ill
+12020-01-01|date|wide
+02020-01-01|date|wide
+12020-99-99Z|date|wide
+12020-99-99z|date|ill
+2020-01-01z|date|ill
+2020-01-01+14:01|date|ill
+2020-01-01T00:00:00|date|ill
+2020-01-01.5|date|ill
+2020-1-1|date|ill
+20200101|date|ill
+|date|ill
+2020-01-01 |date|ill
+999-01-01|date|ill";

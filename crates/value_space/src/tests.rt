@@ -165,6 +165,30 @@ fn moments_compare(rt: HostRuntime) -> Result<(), Fail> {
 }
 
 #[test]
+fn less_than_per_pair_of_values(rt: HostRuntime) -> Result<(), Fail> {
+    assert_eq!(rt;
+        first_other_order(rt.alloc(), orders::LESS_THAN_PER_PAIR_OF_VALUES)?,
+        ""
+    );
+    Ok(())
+}
+
+#[test]
+fn ill_typed_byte(rt: HostRuntime) -> Result<(), Fail> {
+    assert_eq!(rt; first_other_value(rt.alloc(), "300|byte|ill")?, "");
+    Ok(())
+}
+
+#[test]
+fn zoned_against_unzoned(rt: HostRuntime) -> Result<(), Fail> {
+    assert_eq!(rt;
+        first_other_order(rt.alloc(), orders::ZONED_AGAINST_UNZONED)?,
+        ""
+    );
+    Ok(())
+}
+
+#[test]
 fn datatypes_match(rt: HostRuntime) -> Result<(), Fail> {
     let byte = iri(rt.alloc(), "byte")?;
     let fits = literal(rt.alloc(), "127", "byte")?;

@@ -172,3 +172,14 @@ pub const MOMENTS: &str = "2020-01-01|date|2020-01-01T00:00:00|dateTime|none
 0000-02-29|date|0000-03-01|date|less
 -0001-12-31|date|0000-01-01|date|less
 -9999-01-01|date|9999-12-31|date|less";
+
+/// The values of one path against each of those of another.
+pub const LESS_THAN_PER_PAIR_OF_VALUES: &str = "1|integer|3|integer|less
+1|integer|4|integer|less
+5|integer|3|integer|greater
+5|integer|4|integer|greater";
+
+/// A least moment without a zone, and two with one.
+pub const ZONED_AGAINST_UNZONED: &str =
+    "2020-01-01T00:00:00|dateTime|2020-01-01T13:00:00Z|dateTime|none
+2020-01-01T00:00:00|dateTime|2020-01-01T15:00:00Z|dateTime|less";

@@ -3,6 +3,7 @@ mod CanonicalLemmas
 mod DatatypeLemmas
 mod DigitLemmas
 mod FormLemmas
+mod MomentForm
 mod MomentLemmas
 mod NumberLemmas
 mod NumeralForm

@@ -14,7 +14,7 @@ use Rattle.value_space.proofs.NumberLemmas.{are_digits-all, no_point, whole_are_
 use Rattle.value_space.proofs.NumeralLemmas.{no_rest}
 
 -- digits, and what stands behind them
-digits_then_rest : (text : List ℕ) → take_while is_digit text ++ behind_digits text ≡ text
+pub digits_then_rest : (text : List ℕ) → take_while is_digit text ++ behind_digits text ≡ text
 digits_then_rest [] = refl
 digits_then_rest (b ∷ bs) =
     ap (λ ds. ds ++ behind_digits (b ∷ bs)) (take_while-cons is_digit b bs)
@@ -102,7 +102,7 @@ ends (b ∷ bs) other whole fraction =
     ]
     refl
 
-nonempty_digits : (xs : List ℕ) → list_all is_digit xs ≡ true → 0 < length xs → are_digits xs ≡ true
+pub nonempty_digits : (xs : List ℕ) → list_all is_digit xs ≡ true → 0 < length xs → are_digits xs ≡ true
 nonempty_digits [] h long = absurd (omega arith)
 nonempty_digits (x ∷ xs) h long = h
 
@@ -143,7 +143,7 @@ pub is_numeral :
     → numeral.negative ≡ begins_with is_minus text
     → numeral.has_point ≡ begins_with is_point (behind_digits (without_first is_sign text))
     → numeral.whole ≡ narrow_number (take_while is_digit (without_first is_sign text))
-    → numeral.fraction ≡ narrow_fraction (take_while is_digit (without_first is_point (behind_digits (without_first is_sign text))))
+    → numeral.fraction ≡ narrow_fraction 38 (take_while is_digit (without_first is_point (behind_digits (without_first is_sign text))))
     → IsNumeral text numeral
 is_numeral text numeral empty long negative has_point whole fraction =
     let unsigned = without_first is_sign text in
@@ -164,7 +164,7 @@ is_numeral text numeral empty long negative has_point whole fraction =
       negative = negative;
       integer = is_integer unsigned end (omega (arith, long)) ∙ sym (ap not has_point);
       whole = whole ∙ sym (ap narrow_number before);
-      fraction = fraction ∙ sym (ap narrow_fraction after);
+      fraction = fraction ∙ sym (ap (narrow_fraction 38) after);
     }
 
 pub not_decimal :

@@ -53,10 +53,10 @@ number_run-none : (ds : List ℕ) → number_run None ds ≡ None
 number_run-none [] = refl
 number_run-none (d ∷ ds) = number_run-none ds
 
-is_below : (m n : ℕ) → m < n → nat_lt m n ≡ true
+pub is_below : (m n : ℕ) → m < n → nat_lt m n ≡ true
 is_below m n h = grind (arith, common_steps)
 
-not_below : (m n : ℕ) → n ≤ m → nat_lt m n ≡ false
+pub not_below : (m n : ℕ) → n ≤ m → nat_lt m n ≡ false
 not_below m n h = grind (arith, common_steps)
 
 number_run-is : (n : ℕ) (ds : List ℕ) → list_all is_digit ds ≡ true → n < 10 ^ 38 → number_run (Some n) ds ≡ cond (nat_lt (number_from_digits_after 10 n (map digit_of ds)) (10 ^ 38)) (Some (number_from_digits_after 10 n (map digit_of ds))) None
@@ -246,5 +246,12 @@ fraction_run-is (suc p) f (d ∷ ds) h =
     ∙ ap (λ t. cond t None (Some (next + number_in_places p ds))) (sym (wide_at_next p (eqb d 48) _ _ (trailing-more d ds)))
     ∙ ap (λ v. cond (nat_lt (suc p) (length (without_trailing_zeros (d ∷ ds)))) None (Some v)) same
 
-pub fraction_behind-is : (text : List ℕ) → fraction_behind (Some 0) (10 ^ 37) text ≡ narrow_fraction (take_while is_digit text)
-fraction_behind-is text = fraction_behind-run (Some 0) (10 ^ 37) text ∙ fraction_run-is 38 0 (take_while is_digit text) (take_while-all is_digit text) ∙ ap (λ n. cond (nat_lt 38 (length (without_trailing_zeros (take_while is_digit text)))) None (Some n)) (nothing_more (number_in_places 38 (take_while is_digit text)))
+pub fraction_behind-is : (places : ℕ) (text : List ℕ) → 0 < places → fraction_behind (Some 0) (10 ^ (places - 1)) text ≡ narrow_fraction places (take_while is_digit text)
+fraction_behind-is zero text some = absurd (omega arith)
+fraction_behind-is (suc places) text some =
+    let digits = take_while is_digit text in
+    let first : suc places - 1 ≡ places = omega arith in
+    ap (λ n. fraction_behind (Some 0) (10 ^ n) text) first
+    ∙ fraction_behind-run (Some 0) (10 ^ places) text
+    ∙ fraction_run-is (suc places) 0 digits (take_while-all is_digit text)
+    ∙ ap (λ n. cond (nat_lt (suc places) (length (without_trailing_zeros digits))) None (Some n)) (nothing_more (number_in_places (suc places) digits))

@@ -1,4 +1,4 @@
--- What is read of the digits of a number: what takes more than 38 digits is none.
+-- What is read of the digits of a number: what takes more digits than there is room for is none.
 use Rattle.std.specs.Prelude.{ℕ, ◌+◌, ◌*◌, ◌^◌, ◌≤◌, ◌<◌, Bool, true, false, not, ◌==◌, ◌||◌, ◌&&◌, nat_lt, ℤ, pos, neg_ℤ, List, [], ◌∷◌, length, Option, Some, None, if◌then◌else◌}
 use Rattle.shx_term.specs.NumberForm.{is_digit, number_of, without_leading_zeros, without_trailing_zeros}
 use Rattle.value_space.specs.Numbers.{number_in_places}
@@ -14,9 +14,9 @@ behind_digits (b ∷ bs) = if is_digit b then behind_digits bs else b ∷ bs
 abbrev pub narrow_number : List ℕ → Option ℕ
 narrow_number digits = if nat_lt 38 (length (without_leading_zeros digits)) then None else Some (number_of digits)
 
--- the digits as a fraction, in units of 10^-38
-abbrev pub narrow_fraction : List ℕ → Option ℕ
-narrow_fraction digits = if nat_lt 38 (length (without_trailing_zeros digits)) then None else Some (number_in_places 38 digits)
+-- the digits as a fraction of so many places; one that takes more is none
+abbrev pub narrow_fraction : ℕ → List ℕ → Option ℕ
+narrow_fraction places digits = if nat_lt places (length (without_trailing_zeros digits)) then None else Some (number_in_places places digits)
 
 -- a digit more behind a number
 abbrev pub with_digit : Option ℕ → ℕ → Option ℕ

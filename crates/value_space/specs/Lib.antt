@@ -3,6 +3,7 @@ pub mod Comparison
 pub mod DigitRuns
 pub mod Laws
 pub mod MomentParts
+pub mod MomentTexts
 pub mod Moments
 pub mod Numbers
 pub mod Numerals

@@ -10,4 +10,4 @@ pub record IsNumeral (text : List ℕ) (numeral : Numeral) : Type 0 where
   pub negative : numeral.negative ≡ begins_with is_minus text
   pub integer : is_integer_form text ≡ not numeral.has_point
   pub whole : numeral.whole ≡ narrow_number (whole_digits text)
-  pub fraction : numeral.fraction ≡ narrow_fraction (fraction_digits text)
+  pub fraction : numeral.fraction ≡ narrow_fraction 38 (fraction_digits text)

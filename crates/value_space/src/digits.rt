@@ -1,21 +1,13 @@
-//! Signs and digits at the ends of a lexical form, and the number that digits write.
-ghost use Rattle.std.specs.Prelude.{◌≡◌, ℕ, ◌-◌, ◌*◌, ◌^◌, ◌≤◌, ◌<◌, true, length, drop, take, IsTrue, position, not, slice_index_or};
-ghost use Rattle.std.specs.List.{list_all, take_while};
-ghost use Rattle.shx_term.specs.NumberForm.{is_digit, is_minus, is_sign, is_point, begins_with, without_first, are_digits, number_of, without_trailing_zeros};
-ghost use Rattle.value_space.specs.Numbers.{number_in_places};
+//! Signs, points and digits of lexical forms.
+ghost use Rattle.std.specs.Prelude.{◌≡◌, ◌-◌, ◌&&◌, false, MatchOption};
+ghost use Rattle.shx_term.specs.NumberForm.{is_digit, is_minus, is_sign, is_point, begins_with, without_first};
+ghost use Rattle.value_space.specs.MomentParts.{IsTwoDigits};
 
 /// Whether a minus stands first.
 pub fn has_minus(text: &[u8]) -> bool
     ensures { result ≡ begins_with is_minus text.now }
 {
     matches!(text, [b'-', ..])
-}
-
-/// Whether a sign stands first.
-pub fn has_sign(text: &[u8]) -> bool
-    ensures { result ≡ begins_with is_sign text.now }
-{
-    matches!(text, [b'+' | b'-', ..])
 }
 
 /// Whether a point stands first.
@@ -62,70 +54,15 @@ pub fn is_digit(byte: u8) -> bool
     byte.is_ascii_digit()
 }
 
-/// Whether each byte is a digit.
-pub fn all_digits(text: &[u8]) -> bool
-    ensures { result ≡ list_all is_digit text.now }
+/// The number of two digits.
+pub fn two_digits(tens: u8, ones: u8) -> Option<u8>
+    ensures { MatchOption result ((is_digit tens && is_digit ones) ≡ false) (IsTwoDigits tens ones) }
 {
-    text.iter().all(|b| is_digit(*b))
-}
-
-/// Whether there are bytes, and each is a digit.
-pub fn are_digits(text: &[u8]) -> bool
-    ensures { result ≡ are_digits text.now }
-{
-    !text.is_empty() && all_digits(text)
-}
-
-/// The digits that a text begins with, and what stands behind them.
-pub fn split_digits(text: &[u8]) -> (&[u8], &[u8])
-    ensures digits { result.0.now ≡ take_while is_digit text.now }
-    ensures rest { result.1.now ≡ drop (length (take_while is_digit text.now)) text.now }
-{
-    match first_other(text) {
-        Some(at) => (&text[..at], &text[at..]),
-        None => (text, &[]),
-    }
-}
-
-fn first_other(text: &[u8]) -> Option<usize>
-    ensures { result ≡ position (λ b. not (is_digit b)) text.now }
-{
-    text.iter().position(|b| !is_digit(*b))
-}
-
-/// The first bytes, so many where there are so many, and what stands behind them.
-pub fn split_at_length(text: &[u8], length: usize) -> (&[u8], &[u8])
-    ensures front { result.0.now ≡ take length text.now }
-    ensures back { result.1.now ≡ drop length text.now }
-{
-    if length <= text.len() {
-        text.split_at(length)
+    if is_digit(tens) && is_digit(ones) {
+        Some((tens - b'0') * 10 + (ones - b'0'))
     } else {
-        (text, &[])
+        None
     }
-}
-
-/// The digits before the zeros at the end.
-pub fn without_trailing_zeros(digits: &[u8]) -> &[u8]
-    ensures { result.now ≡ without_trailing_zeros digits.now }
-{
-    let mut rest = digits;
-    while let [before @ .., b'0'] = rest {
-        rest = before;
-    }
-    rest
-}
-
-/// The number that digits write.
-pub fn number_of(digits: &[u8]) -> u128
-    requires { number_of digits.now < 2 ^ 128 }
-    ensures { result ≡ number_of digits.now }
-{
-    let mut number: u128 = 0;
-    for digit in digits {
-        number = number * 10 + digit_value(*digit);
-    }
-    number
 }
 
 /// The value of a digit; a byte below them counts as 0.
@@ -133,30 +70,4 @@ pub fn digit_value(digit: u8) -> u128
     ensures { result ≡ digit - 48 }
 {
     u128::from(digit.saturating_sub(b'0'))
-}
-
-/// The digits as a fraction of so many places: zeros are added behind, or what is behind those places is left out.
-pub fn number_in_places(places: usize, digits: &[u8]) -> u128
-    requires few { places ≤ 38 }
-    requires digits { list_all is_digit digits.now ≡ true }
-    ensures value { result ≡ number_in_places places digits.now }
-    ensures below { result < 10 ^ places }
-{
-    let mut number: u128 = 0;
-    for place in 0..places {
-        number = number * 10 + digit_at(digits, place);
-    }
-    number
-}
-
-// The digit at a place behind the point, which is 0 behind the last one.
-fn digit_at(digits: &[u8], place: usize) -> u128
-    requires { list_all is_digit digits.now ≡ true }
-    ensures value { result ≡ slice_index_or digits.now place 48 - 48 }
-    ensures digit { result < 10 }
-{
-    match digits.get(place) {
-        Some(digit) => digit_value(*digit),
-        None => 0,
-    }
 }

@@ -8,7 +8,7 @@
 //! | `laws.rt` | the laws of that order |
 //! | `datatype.rt` | the table of datatypes |
 //! | `numeral.rt`, `number.rt` | the form of a number, read in one walk, and its value |
-//! | `moment.rt`, `zone.rt` | moments and days by theirs, and their zones |
+//! | `moment_text.rt`, `zone.rt`, `moment.rt` | the forms of moments and days, read in one walk, and their values |
 //! | `digits.rt` | signs and digits, which these forms are made of |
 //!
 //! It stands on `shx_term`, and on `jiff` for the numbers of days. Start with `value.rt`; `specs/Values.antt` says which value a literal has, and
@@ -20,6 +20,7 @@ mod datatype;
 mod digits;
 mod laws;
 mod moment;
+mod moment_text;
 mod number;
 mod numeral;
 #[cfg(test)]

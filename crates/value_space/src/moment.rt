@@ -1,72 +1,40 @@
 //! Moments and days by their lexical forms (XML Schema 1.1 part 2, sections 3.3.7 and 3.3.9). A moment is counted in nanoseconds from
-//! 1970-01-01T00:00:00; each call reads the text a constant number of times.
-ghost use Rattle.std.specs.Prelude.{◌≡◌, ◌<◌, ◌^◌, true, false, length, IfSome};
-ghost use Rattle.std.specs.List.{list_all};
+//! 1970-01-01T00:00:00; each call reads each byte of the text once.
+ghost use Rattle.std.specs.Prelude.{◌≡◌, ◌<◌, ◌^◌, false, not, ◌&&◌, ◌==◌, IfSome, IsSome};
 ghost use Rattle.jiff.specs.Words.{IsYear, epoch_day};
-ghost use Rattle.shx_term.specs.NumberForm.{is_digit};
 ghost use Rattle.shx_term.specs.Datatypes.Space.{Moments, Days};
 ghost use Rattle.shx_term.specs.WideLiterals.{is_wide_in};
-ghost use Rattle.shx_term.specs.MomentForm.{day_pattern, moment_pattern, year_digits, behind_year, fraction_of, behind_fraction, calendar_of, end_of, is_day_form, is_moment_form, is_wide_day, is_wide_moment};
+ghost use Rattle.value_space.specs.DigitRuns.{signed};
 ghost use Rattle.value_space.specs.Values.{value_in};
-ghost use Rattle.value_space.specs.Numbers.{number_in_places};
-ghost use Rattle.value_space.specs.Moments.{is_year, year_of, is_date, day_number, has_date, day_of_text, is_time, hour_of, minute_of, second_of};
-ghost use Rattle.value_space.specs.MomentParts.{IsTwoDigits, some_where, day_in_nanos, time_at, IsSmall};
+ghost use Rattle.value_space.specs.Moments.{is_date, day_number, is_time};
+ghost use Rattle.value_space.specs.MomentParts.{some_where, day_in_nanos, date_at, time_at, IsSmall};
 
 use crate::Value;
-use crate::digits::{
-    are_digits, has_minus, has_point, number_in_places, number_of, split_at_length, split_digits,
-    without_minus, without_trailing_zeros,
-};
-use crate::zone::{fits, has_zone, is_zone, two_digits, zone_nanos};
+use crate::moment_text::{DateText, DayText, MomentText};
+use crate::zone::zone_nanos;
 use jiff::civil::{Date, date};
-
-/// What stands behind the year of a day.
-const DAY: [u8; 6] = *b"-00-00";
-
-/// What stands behind the year of a moment, before its fraction.
-const MOMENT: [u8; 15] = *b"-00-00T00:00:00";
 
 /// Nanoseconds in a second.
 const SECOND: i128 = 1_000_000_000;
 
-/// Whether the text has the form of a day.
-pub fn is_day_form(text: &[u8]) -> bool
-    ensures { result ≡ is_day_form text.now }
-{
-    let (year, rest) = split_year(text);
-    let (calendar, zone) = split_at_length(rest, 6);
-    year.len() >= 4 && fits(&DAY, calendar) && is_zone(zone)
-}
-
-/// Whether the text has the form of a moment.
-pub fn is_moment_form(text: &[u8]) -> bool
-    ensures { result ≡ is_moment_form text.now }
-{
-    let (year, rest) = split_year(text);
-    let (calendar, end) = split_at_length(rest, 15);
-    let (fraction, zone) = split_fraction(end);
-    year.len() >= 4
-        && fits(&MOMENT, calendar)
-        && (!has_point(end) || are_digits(fraction))
-        && is_zone(zone)
-}
-
-/// Whether the year has more than four digits.
+/// Whether the text is a day of a year of more than four digits.
 pub fn is_wide_day(text: &[u8]) -> bool
-    ensures { result ≡ is_wide_day text.now }
+    ensures { result ≡ is_wide_in Days text.now }
 {
-    let (year, _) = split_year(text);
-    year.len() > 4
+    match DayText::read(text) {
+        Some(day) => day.date.year.is_none(),
+        None => false,
+    }
 }
 
-/// Whether the year has more than four digits, or the fraction more than nine.
+/// Whether the text is a moment of a year of more than four digits, or of a fraction of more than nine.
 pub fn is_wide_moment(text: &[u8]) -> bool
-    ensures { result ≡ is_wide_moment text.now }
+    ensures { result ≡ is_wide_in Moments text.now }
 {
-    let (_, rest) = split_year(text);
-    let (_, end) = split_at_length(rest, 15);
-    let (fraction, _) = split_fraction(end);
-    is_wide_day(text) || without_trailing_zeros(fraction).len() > 9
+    match MomentText::read(text) {
+        Some(moment) => moment.date.year.is_none() || moment.nanos.is_none(),
+        None => false,
+    }
 }
 
 /// The value of a moment.
@@ -74,19 +42,18 @@ pub fn moment_value(text: &[u8]) -> Value
     requires { is_wide_in Moments text.now ≡ false }
     ensures { result ≡ value_in Moments text.now }
 {
-    if !is_moment_form(text) {
-        return Value::IllTyped;
-    }
-    let (calendar, fraction, zone) = split_moment(text);
-    let Some(day) = date_nanos(text, calendar) else {
+    let Some(moment) = MomentText::read(text) else {
         return Value::IllTyped;
     };
-    let Some(time) = time_nanos(calendar, fraction) else {
+    let Some(day) = date_nanos(moment.date) else {
+        return Value::IllTyped;
+    };
+    let Some(time) = time_nanos(moment) else {
         return Value::IllTyped;
     };
     Value::Stamp {
-        nanos: day + time - zone_nanos(zone),
-        zoned: has_zone(zone),
+        nanos: day + time - zone_nanos(moment.zone),
+        zoned: moment.zoned,
     }
 }
 
@@ -95,80 +62,39 @@ pub fn day_value(text: &[u8]) -> Value
     requires { is_wide_in Days text.now ≡ false }
     ensures { result ≡ value_in Days text.now }
 {
-    if !is_day_form(text) {
+    let Some(day) = DayText::read(text) else {
         return Value::IllTyped;
-    }
-    let (calendar, zone) = split_day(text);
-    match date_nanos(text, calendar) {
-        Some(day) => Value::Day {
-            nanos: day - zone_nanos(zone),
-            zoned: has_zone(zone),
+    };
+    match date_nanos(day.date) {
+        Some(nanos) => Value::Day {
+            nanos: nanos - zone_nanos(day.zone),
+            zoned: day.zoned,
         },
         None => Value::IllTyped,
     }
 }
 
-// Month, day and time; the digits of the fraction; and the zone.
-fn split_moment(text: &[u8]) -> (&[u8], &[u8], &[u8])
-    ensures calendar { result.0.now ≡ calendar_of moment_pattern text.now }
-    ensures fraction { result.1.now ≡ fraction_of (end_of moment_pattern text.now) }
-    ensures zone { result.2.now ≡ behind_fraction (end_of moment_pattern text.now) }
-{
-    let (_, rest) = split_year(text);
-    let (calendar, end) = split_at_length(rest, 15);
-    let (fraction, zone) = split_fraction(end);
-    (calendar, fraction, zone)
-}
-
-// Month and day, and the zone.
-fn split_day(text: &[u8]) -> (&[u8], &[u8])
-    ensures calendar { result.0.now ≡ calendar_of day_pattern text.now }
-    ensures zone { result.1.now ≡ end_of day_pattern text.now }
-{
-    let (_, rest) = split_year(text);
-    split_at_length(rest, 6)
-}
-
-// The digits of the year, and what stands behind them.
-fn split_year(text: &[u8]) -> (&[u8], &[u8])
-    ensures year { result.0.now ≡ year_digits text.now }
-    ensures rest { result.1.now ≡ behind_year text.now }
-{
-    split_digits(without_minus(text))
-}
-
-// The digits of a fraction that the end begins with, and what stands behind them.
-fn split_fraction(end: &[u8]) -> (&[u8], &[u8])
-    ensures fraction { result.0.now ≡ fraction_of end.now }
-    ensures rest { result.1.now ≡ behind_fraction end.now }
-{
-    match end {
-        [b'.', rest @ ..] => split_digits(rest),
-        _ => (&[], end),
-    }
-}
-
-// The nanoseconds of the first moment of the text's day, where the calendar has it.
-fn date_nanos(text: &[u8], calendar: &[u8]) -> Option<i128>
-    requires year { length (year_digits text.now) ≡ 4 }
-    requires month { IsTwoDigits 1 calendar.now }
-    requires day { IsTwoDigits 4 calendar.now }
-    ensures value { result ≡ some_where (has_date text.now calendar.now) (day_in_nanos (day_of_text text.now calendar.now)) }
+// The nanoseconds of the first moment of a date, where the calendar has it.
+fn date_nanos(date: DateText) -> Option<i128>
+    requires { IsSome date.year }
+    ensures value { IfSome date.year (λ year. result ≡ date_at date.negative year date.month date.day) }
     ensures small { IfSome result (λ n. IsSmall n) }
 {
-    let year = year_of(text)?;
-    civil_nanos(year, two_digits(calendar, 1), two_digits(calendar, 4))
+    let year = year_of(date)?;
+    civil_nanos(year, date.month, date.day)
 }
 
-// The year of the text: 0000 is the one before 0001, and there is no -0000.
-fn year_of(text: &[u8]) -> Option<i16>
-    requires { length (year_digits text.now) ≡ 4 }
-    ensures value { result ≡ some_where (is_year text.now) (year_of text.now) }
+// The year of a date: 0000 is the one before 0001, and there is no -0000.
+fn year_of(date: DateText) -> Option<i16>
+    requires { IsSome date.year }
+    ensures value { IfSome date.year (λ year. result ≡ some_where (not (date.negative && (year == 0))) (signed date.negative year)) }
     ensures range { IfSome result (λ year. IsYear year) }
 {
-    let (digits, _) = split_year(text);
-    let year = number_of(digits) as i16;
-    if !has_minus(text) {
+    let Some(year) = date.year else {
+        unreachable!()
+    };
+    let year = year as i16;
+    if !date.negative {
         Some(year)
     } else if year == 0 {
         None
@@ -199,22 +125,16 @@ fn nanos_at(civil: Date) -> i128
     civil.duration_since(date(1970, 1, 1)).as_nanos()
 }
 
-// The nanoseconds from midnight to a time, where a day has it.
-fn time_nanos(calendar: &[u8], fraction: &[u8]) -> Option<i128>
-    requires hour { IsTwoDigits 7 calendar.now }
-    requires minute { IsTwoDigits 10 calendar.now }
-    requires second { IsTwoDigits 13 calendar.now }
-    requires fraction { list_all is_digit fraction.now ≡ true }
-    ensures value { result ≡ time_at (hour_of calendar.now) (minute_of calendar.now) (second_of calendar.now) (number_in_places 9 fraction.now) }
+// The nanoseconds from midnight to the time of a moment, where a day has it.
+fn time_nanos(moment: MomentText) -> Option<i128>
+    requires { IsSome moment.nanos }
+    ensures value { IfSome moment.nanos (λ nanos. result ≡ time_at moment.hour moment.minute moment.second nanos) }
     ensures small { IfSome result (λ n. IsSmall n) }
 {
-    let nanos = number_in_places(9, fraction) as u32;
-    clock_nanos(
-        two_digits(calendar, 7),
-        two_digits(calendar, 10),
-        two_digits(calendar, 13),
-        nanos,
-    )
+    let Some(nanos) = moment.nanos else {
+        unreachable!()
+    };
+    clock_nanos(moment.hour, moment.minute, moment.second, nanos)
 }
 
 fn clock_nanos(hour: u8, minute: u8, second: u8, nanos: u32) -> Option<i128>

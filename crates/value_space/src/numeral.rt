@@ -1,5 +1,5 @@
 //! The reader of a number's form, which reads each byte of it once.
-ghost use Rattle.std.specs.Prelude.{◌≡◌, ◌*◌, ◌<◌, ◌^◌, IfSome, MatchOption, false};
+ghost use Rattle.std.specs.Prelude.{◌≡◌, ◌*◌, ◌<◌, ◌≤◌, ◌^◌, IfSome, MatchOption, false};
 ghost use Rattle.std.proofs.Props.{props};
 ghost use Rattle.std.specs.List.{take_while};
 ghost use Rattle.shx_term.specs.NumberForm.{is_digit, is_decimal_form};
@@ -38,7 +38,7 @@ impl Numeral {
         let unsigned = without_sign(text);
         let (whole, rest) = read_whole(unsigned);
         let has_point = has_point(rest);
-        let (fraction, end) = read_fraction(without_point(rest));
+        let (fraction, end) = read_fraction(38, without_point(rest));
         if end.is_empty() && unsigned.len() > usize::from(has_point) {
             Some(Self {
                 negative: has_minus(text),
@@ -59,8 +59,8 @@ impl Numeral {
     }
 }
 
-// The number that a text begins with, and what stands behind it.
-fn read_whole(text: &[u8]) -> (Option<u128>, &[u8])
+/// The number that a text begins with, and what stands behind it. One that takes more than 38 digits is none.
+pub fn read_whole(text: &[u8]) -> (Option<u128>, &[u8])
     ensures below { IfSome result.0 (λ number. number < 10 ^ 38) }
     ensures number { result.0 ≡ narrow_number (take_while is_digit text.now) }
     ensures rest { result.1.now ≡ behind_digits text.now }
@@ -86,14 +86,16 @@ fn with_digit(number: Option<u128>, digit: u128) -> Option<u128>
     }
 }
 
-// The fraction that a text begins with, in units of 10^-38, and what stands behind it.
-fn read_fraction(text: &[u8]) -> (Option<u128>, &[u8])
+/// The digits that a text begins with, as a fraction of so many places, and what stands behind them. One that takes more is none.
+pub fn read_fraction(places: u32, text: &[u8]) -> (Option<u128>, &[u8])
+    requires some { 0 < places }
+    requires few { places ≤ 38 }
     ensures below { IfSome result.0 (λ fraction. fraction < 10 ^ 38) }
-    ensures fraction { result.0 ≡ narrow_fraction (take_while is_digit text.now) }
+    ensures fraction { result.0 ≡ narrow_fraction places (take_while is_digit text.now) }
     ensures rest { result.1.now ≡ behind_digits text.now }
 {
     let mut fraction = Some(0);
-    let mut unit = TENTH;
+    let mut unit = 10u128.pow(places - 1);
     let mut rest = text;
     while let [digit @ b'0'..=b'9', behind @ ..] = rest {
         fraction = with_place(fraction, unit, digit_value(*digit));

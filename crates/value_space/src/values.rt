@@ -6,9 +6,7 @@ ghost use Rattle.value_space.specs.Spaces.{space_meant};
 
 use crate::Value;
 use crate::datatype::{Space, is_float_datatype, space_of};
-use crate::moment::{
-    day_value, is_day_form, is_moment_form, is_wide_day, is_wide_moment, moment_value,
-};
+use crate::moment::{day_value, is_wide_day, is_wide_moment, moment_value};
 use crate::number::{decimal_value, integer_value, is_wide_decimal, is_wide_integer};
 use shx_term::{IriText, Literal};
 
@@ -49,8 +47,8 @@ fn is_wide_in(space: Space, text: &[u8]) -> bool
     match space {
         Space::Integers { .. } => is_wide_integer(text),
         Space::Decimals => is_wide_decimal(text),
-        Space::Moments => is_moment_form(text) && is_wide_moment(text),
-        Space::Days => is_day_form(text) && is_wide_day(text),
+        Space::Moments => is_wide_moment(text),
+        Space::Days => is_wide_day(text),
         Space::Booleans | Space::Strings | Space::Opaques => false,
     }
 }

@@ -1,67 +1,32 @@
-use Rattle.std.proofs.Common.{◌≡◌, true, sym, ap, ◌∙◌, refl, arith}
-use Rattle.std.specs.List.{list_all}
+use Rattle.std.proofs.Common.{Some, None, arith}
 use Rattle.std.proofs.lemmas.Int.{ints}
-use Rattle.shx_term.specs.NumberForm.{is_digit}
-use Rattle.shx_term.specs.MomentForm.{is_moment_form, is_zone, moment_pattern, end_of}
-use Rattle.value_space.proofs.FormLemmas.{two_digits_of}
-use Rattle.value_space.proofs.MomentLemmas.{moment_fits, moment_year, moment_zone, fraction-all, stamp_is, no_date, no_time}
+use Rattle.shx_term.specs.MomentForm.{calendar_of, moment_pattern}
+use Rattle.value_space.proofs.MomentLemmas.{date_of_text, time_of_text, moment_year, stamp_is, no_date, no_time}
 use Rattle.value_space.proofs.moment.moment_value.Goals as goal
 
-pub date_nanos-requires-clause-year : goal.date_nanos-requires-clause-year
-date_nanos-requires-clause-year c =
-    let form : is_moment_form c.args.text.now ≡ true = sym c.is_moment_form.ensures ∙ c.if-not-is_moment_form.false in
-    moment_year c.args.text.now form c.requires
-
-pub date_nanos-requires-clause-month : goal.date_nanos-requires-clause-month
-date_nanos-requires-clause-month c =
-    let form : is_moment_form c.args.text.now ≡ true = sym c.is_moment_form.ensures ∙ c.if-not-is_moment_form.false in
-    rw c.split_moment.ensures.calendar (two_digits_of 1 moment_pattern _ (moment_fits c.args.text.now form) refl)
-
-pub date_nanos-requires-clause-day : goal.date_nanos-requires-clause-day
-date_nanos-requires-clause-day c =
-    let form : is_moment_form c.args.text.now ≡ true = sym c.is_moment_form.ensures ∙ c.if-not-is_moment_form.false in
-    rw c.split_moment.ensures.calendar (two_digits_of 4 moment_pattern _ (moment_fits c.args.text.now form) refl)
-
-pub time_nanos-requires-clause-hour : goal.time_nanos-requires-clause-hour
-time_nanos-requires-clause-hour c =
-    let form : is_moment_form c.args.text.now ≡ true = sym c.is_moment_form.ensures ∙ c.if-not-is_moment_form.false in
-    rw c.split_moment.ensures.calendar (two_digits_of 7 moment_pattern _ (moment_fits c.args.text.now form) refl)
-
-pub time_nanos-requires-clause-minute : goal.time_nanos-requires-clause-minute
-time_nanos-requires-clause-minute c =
-    let form : is_moment_form c.args.text.now ≡ true = sym c.is_moment_form.ensures ∙ c.if-not-is_moment_form.false in
-    rw c.split_moment.ensures.calendar (two_digits_of 10 moment_pattern _ (moment_fits c.args.text.now form) refl)
-
-pub time_nanos-requires-clause-second : goal.time_nanos-requires-clause-second
-time_nanos-requires-clause-second c =
-    let form : is_moment_form c.args.text.now ≡ true = sym c.is_moment_form.ensures ∙ c.if-not-is_moment_form.false in
-    rw c.split_moment.ensures.calendar (two_digits_of 13 moment_pattern _ (moment_fits c.args.text.now form) refl)
-
-pub time_nanos-requires-clause-fraction : goal.time_nanos-requires-clause-fraction
-time_nanos-requires-clause-fraction c = ap (list_all is_digit) c.split_moment.ensures.fraction ∙ fraction-all (end_of moment_pattern c.args.text.now)
-
-pub zone_nanos-requires : goal.zone_nanos-requires
-zone_nanos-requires c =
-    let form : is_moment_form c.args.text.now ≡ true = sym c.is_moment_form.ensures ∙ c.if-not-is_moment_form.false in
-    ap is_zone c.split_moment.ensures.zone ∙ moment_zone c.args.text.now form
-
-pub returns : goal.returns
-returns c =
-    let form : is_moment_form c.args.text.now ≡ true = sym c.is_moment_form.ensures ∙ c.if-not-is_moment_form.false in
-    let date = rw c.split_moment.ensures.calendar at c.in-Some.ensures.value in
-    let clock = rw (c.split_moment.ensures.calendar, c.split_moment.ensures.fraction) at c.in-Some-time_nanos.ensures.value in
-    let ahead = rw c.split_moment.ensures.zone at c.zone_nanos.ensures.value in
-    let marked = rw c.split_moment.ensures.zone at c.has_zone.ensures in
-    stamp_is c.args.text.now c.in-Some.day c.in-Some-time_nanos.time c.zone_nanos.result _ c.has_zone.result form date clock ahead marked (omega (arith, ints, c.in-Some.ensures.small, c.in-Some-time_nanos.ensures.small, c.zone_nanos.ensures.small))
-
-pub returns-in_default : goal.returns-in_default
-returns-in_default c =
-    let form : is_moment_form c.args.text.now ≡ true = sym c.is_moment_form.ensures ∙ c.if-not-is_moment_form.false in
-    let date = rw c.split_moment.ensures.calendar at c.in_default.ensures.value in
-    no_date c.args.text.now form date
+pub returns-in_default-date_nanos : goal.returns-in_default-date_nanos
+returns-in_default-date_nanos c =
+    let text = c.args.text.now in
+    let read = c.in-Some.ensures in
+    let parts = read.date in
+    let date = c.in-Some.moment.date in
+    no_date text read.form (date_of_text text (calendar_of moment_pattern text) date.negative date.year date.month date.day None (moment_year text read.form c.requires) parts.negative parts.year parts.month parts.day c.in_default-date_nanos.ensures.value)
 
 pub returns-in_default-time_nanos : goal.returns-in_default-time_nanos
 returns-in_default-time_nanos c =
-    let form : is_moment_form c.args.text.now ≡ true = sym c.is_moment_form.ensures ∙ c.if-not-is_moment_form.false in
-    let clock = rw (c.split_moment.ensures.calendar, c.split_moment.ensures.fraction) at c.in_default-time_nanos.ensures.value in
-    no_time c.args.text.now form clock
+    let text = c.args.text.now in
+    let read = c.in-Some.ensures in
+    let moment = c.in-Some.moment in
+    no_time text read.form (time_of_text text moment.hour moment.minute moment.second moment.nanos None read.form c.requires read.hour read.minute read.second read.nanos c.in_default-time_nanos.ensures.value)
+
+pub returns : goal.returns
+returns c =
+    let text = c.args.text.now in
+    let read = c.in-Some.ensures in
+    let parts = read.date in
+    let moment = c.in-Some.moment in
+    let date = moment.date in
+    let day = date_of_text text (calendar_of moment_pattern text) date.negative date.year date.month date.day (Some c.in-Some-date_nanos.day) (moment_year text read.form c.requires) parts.negative parts.year parts.month parts.day c.in-Some-date_nanos.ensures.value in
+    let time = time_of_text text moment.hour moment.minute moment.second moment.nanos (Some c.in-Some-time_nanos.time) read.form c.requires read.hour read.minute read.second read.nanos c.in-Some-time_nanos.ensures.value in
+    stamp_is text c.in-Some-date_nanos.day c.in-Some-time_nanos.time c.zone_nanos.result _ moment.zoned read.form day time (omega (arith, ints, c.zone_nanos.ensures.value, read.zone)) read.zoned
+    (omega (arith, ints, c.in-Some-date_nanos.ensures.small, c.in-Some-time_nanos.ensures.small, c.zone_nanos.ensures.small))

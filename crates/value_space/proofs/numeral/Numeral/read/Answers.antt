@@ -31,7 +31,7 @@ returns-then-unsigned-from c =
     let before : c.from.result ≡ cond (begins_with is_point (behind_digits (without_first is_sign text))) 1 0 = c.from.ensures ∙ point_length c.has_point-has_point.result ∙ ap (λ t. cond t 1 0) point in
     is_numeral text _ (sym end ∙ is_nil c.read_fraction-fraction.result.1.now c.if-is_empty.ensures) (omega (arith, before, ap length unsigned, c.if-unsigned-from.true)) c.has_minus.ensures point
     (c.read_whole-whole.ensures.number ∙ ap (λ ds. narrow_number (take_while is_digit ds)) unsigned)
-    (c.read_fraction-fraction.ensures.fraction ∙ ap (λ ds. narrow_fraction (take_while is_digit ds)) behind)
+    (c.read_fraction-fraction.ensures.fraction ∙ ap (λ ds. narrow_fraction 38 (take_while is_digit ds)) behind)
 
 pub returns-else-is_empty : goal.returns-else-is_empty
 returns-else-is_empty c =

@@ -1,1 +1,10 @@
-mod InOrder
+pub mod EscapedLemmas
+pub mod HeldLemmas
+pub mod IdOrderLemmas
+pub mod InOrderLemmas
+pub mod MemberLemmas
+pub mod NumberedLemmas
+pub mod PlaceLemmas
+pub mod SortLemmas
+pub mod TripleOrderLemmas
+pub mod VocabularyLemmas

@@ -1,5 +1,7 @@
--- The datatypes whose values are known, and the space of values of each (XML Schema 1.1 part 2, sections 3.3 and 3.4).
-use Rattle.std.specs.Prelude.{ℕ, ◌-◌, ◌^◌, ℤ, pos, neg_ℤ, List, [], ◌∷◌, ◌++◌, Option, Some, None, if◌then◌else◌, codes, nat_eq}
+-- The datatypes whose values are known, and the space of values of each (XML Schema 1.1 part 2, sections 3.3
+-- and 3.4).
+use Rattle.std.specs.Prelude.{ℕ, ◌-◌, ◌^◌, ℤ, pos, neg_ℤ, List, [], ◌∷◌, ◌++◌, Option, Some, None}
+use Rattle.std.specs.Prelude.{if◌then◌else◌, codes, nat_eq}
 use Rattle.std.specs.Cmp.Lexicographic.{pointwise}
 use Rattle.shx_term.specs.declared.term.Literal.{Literal}
 

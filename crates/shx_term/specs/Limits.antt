@@ -2,7 +2,8 @@
 use Rattle.std.specs.Prelude.{◌<◌, ◌≤◌}
 use Rattle.shx_term.specs.declared.limits.Limits.{Limits}
 
--- there is room for the vocabulary and for something of everything, and no depth is above what recursion may take
+-- there is room for the vocabulary and for something of everything, and no depth is above what recursion may
+-- take
 pub record AreUsable (limits : Limits) : Type 0 where
   pub terms : 62 ≤ limits.terms
   pub triples : 0 < limits.triples
@@ -17,3 +18,18 @@ pub record AreUsable (limits : Limits) : Type 0 where
   pub turtle_depth : limits.turtle_depth ≤ 128
   pub path_depth : limits.path_depth ≤ 64
   pub reference_depth : limits.reference_depth ≤ 64
+
+-- the limits of the program
+abbrev pub program_limits : Limits
+program_limits = record {
+  triples = 4000000;
+  terms = 16000000;
+  text = 268435456;
+  script = 268435456;
+  line = 65536;
+  turtle_depth = 128;
+  path_depth = 64;
+  path_parts = 4096;
+  reference_depth = 64;
+  shapes = 100000;
+}

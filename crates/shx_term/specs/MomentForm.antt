@@ -1,11 +1,15 @@
--- The lexical forms of xsd:dateTime and xsd:date (XML Schema 1.1 part 2, sections 3.3.7 and 3.3.9): a year of four digits or more, with or without
--- a minus; month and day; hours, minutes, seconds and their fraction; and a zone or none. A form is met by any digits in these places.
-use Rattle.std.specs.Prelude.{ℕ, Bool, true, false, not, ◌&&◌, ◌||◌, ◌==◌, nat_le, nat_lt, nat_eq, List, [], ◌∷◌, take, drop, length, if◌then◌else◌, codes}
+-- The lexical forms of xsd:dateTime and xsd:date (XML Schema 1.1 part 2, sections 3.3.7 and 3.3.9): a year of
+-- four digits or more, with or without a minus; month and day; hours, minutes, seconds and their fraction;
+-- and a zone or none. A form is met by any digits in these places.
+use Rattle.std.specs.Prelude.{ℕ, Bool, true, false, not, ◌&&◌, ◌||◌, ◌==◌, nat_le, nat_lt, nat_eq, List, []}
+use Rattle.std.specs.Prelude.{◌∷◌, take, drop, length, if◌then◌else◌, codes}
 use Rattle.std.specs.List.{take_while}
 use Rattle.std.specs.Cmp.Lexicographic.{pointwise}
-use Rattle.shx_term.specs.NumberForm.{is_digit, is_minus, is_sign, is_point, begins_with, without_first, are_digits, number_of, without_trailing_zeros}
+use Rattle.shx_term.specs.NumberForm.{is_digit, is_minus, is_sign, is_point, begins_with, without_first}
+use Rattle.shx_term.specs.NumberForm.{are_digits, number_of, without_trailing_zeros}
 
--- a text as long as the pattern, with some digit for each 0 of the pattern and every other character as it stands there
+-- a text as long as the pattern, with some digit for each 0 of the pattern and every other character as it
+-- stands there
 abbrev pub fits : List ℕ → List ℕ → Bool
 fits [] [] = true
 fits [] (b ∷ bs) = false
@@ -51,7 +55,8 @@ offset_minutes zone = number_of (drop 4 zone)
 
 -- a sign, hours and minutes
 abbrev pub is_offset : List ℕ → Bool
-is_offset zone = begins_with is_sign zone && (fits (codes "00:00") (drop 1 zone) && is_offset_time (offset_hours zone) (offset_minutes zone))
+is_offset zone = begins_with is_sign zone
+    && (fits (codes "00:00") (drop 1 zone) && is_offset_time (offset_hours zone) (offset_minutes zone))
 
 -- no zone, `Z`, or an offset
 abbrev pub is_zone : List ℕ → Bool
@@ -64,17 +69,19 @@ abbrev pub is_day_form : List ℕ → Bool
 is_day_form text = has_calendar day_pattern text && is_zone (end_of day_pattern text)
 
 -- an end without a fraction, or with one of some digits
-abbrev has_good_fraction : List ℕ → Bool
+abbrev pub has_good_fraction : List ℕ → Bool
 has_good_fraction end = not (begins_with is_point end) || are_digits (fraction_of end)
 
 abbrev pub is_moment_form : List ℕ → Bool
 is_moment_form text =
     has_calendar moment_pattern text
-    && (has_good_fraction (end_of moment_pattern text) && is_zone (behind_fraction (end_of moment_pattern text)))
+    && (has_good_fraction (end_of moment_pattern text)
+    && is_zone (behind_fraction (end_of moment_pattern text)))
 
 -- a year of more than four digits, or a fraction of more than nine
 abbrev pub is_wide_day : List ℕ → Bool
 is_wide_day text = nat_lt 4 (length (year_digits text))
 
 abbrev pub is_wide_moment : List ℕ → Bool
-is_wide_moment text = is_wide_day text || nat_lt 9 (length (without_trailing_zeros (fraction_of (end_of moment_pattern text))))
+is_wide_moment text = is_wide_day text
+    || nat_lt 9 (length (without_trailing_zeros (fraction_of (end_of moment_pattern text))))

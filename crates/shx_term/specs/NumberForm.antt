@@ -1,5 +1,7 @@
--- The lexical forms of xsd:integer and xsd:decimal (XML Schema 1.1 part 2, sections 3.4.13 and 3.3.3), and their digits.
-use Rattle.std.specs.Prelude.{ℕ, ◌-◌, Bool, false, ◌&&◌, ◌||◌, ◌==◌, nat_le, nat_lt, List, [], ◌∷◌, ◌++◌, map, length, reverse, if◌then◌else◌}
+-- The lexical forms of xsd:integer and xsd:decimal (XML Schema 1.1 part 2, sections 3.4.13 and 3.3.3), and
+-- their digits.
+use Rattle.std.specs.Prelude.{ℕ, ◌-◌, Bool, false, ◌&&◌, ◌||◌, ◌==◌, nat_le, nat_lt, List, [], ◌∷◌, ◌++◌, map}
+use Rattle.std.specs.Prelude.{length, reverse, if◌then◌else◌}
 use Rattle.std.specs.List.{list_all, before_first, after_first}
 use Rattle.std.specs.Int.Digits.{number_from_digits}
 
@@ -58,4 +60,5 @@ without_trailing_zeros digits = reverse (without_leading_zeros (reverse digits))
 
 -- a number that takes more than 38 digits before the point, or behind it
 abbrev pub is_wide_number : List ℕ → Bool
-is_wide_number text = nat_lt 38 (length (without_leading_zeros (whole_digits text))) || nat_lt 38 (length (without_trailing_zeros (fraction_digits text)))
+is_wide_number text = nat_lt 38 (length (without_leading_zeros (whole_digits text)))
+    || nat_lt 38 (length (without_trailing_zeros (fraction_digits text)))

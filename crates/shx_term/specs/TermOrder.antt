@@ -1,14 +1,10 @@
--- The order of terms: IRIs by their bytes; then blank nodes with a label, those of the data before those of the shapes, by
--- label; then anonymous blank nodes likewise, by number; then literals by datatype, lexical form and tag, no tag first.
--- It is said by what terms are compared by, one after the other.
-use Rattle.std.specs.Prelude.{◌≡◌, ℕ, Bool, true, List, [], Option, Some, None}
+-- The order of terms: IRIs by their bytes; then blank nodes with a label, those of the data before those of
+-- the shapes, by label; then anonymous blank nodes likewise, by number; then literals by datatype, lexical
+-- form and tag, no tag first. It is said by what terms are compared by, one after the other.
+use Rattle.std.specs.Prelude.{ℕ, Bool, List, [], Option, Some, None}
 use Rattle.std.specs.declared.cmp.Ordering.{Ordering}
 use Rattle.std.specs.Ordering.{nat_cmp, ordering_then, eq_by_cmp}
-use Rattle.std.specs.Cmp.{IsEquivalence, IsTotalOrder, eq_by_cmp_equiv, nat_cmp_total, on_total, then_total}
-use Rattle.std.specs.Cmp.Lexicographic.{slice_cmp, nat_list_cmp_total}
-use Rattle.std.proofs.Common.{refl, sym, ap}
-use Rattle.std.proofs.lemmas.Map.Lookups.{CmpEqualImpliesEq, exact_pairs, exact_unsigned, exact_bytes}
-use Rattle.std.proofs.lemmas.Map.Views.{tells_apart}
+use Rattle.std.specs.Cmp.Lexicographic.{slice_cmp}
 use Rattle.shx_term.specs.declared.term.Term.{Term}
 use Rattle.shx_term.specs.declared.term.Term.TheVariants.{Iri, Blank, Lit}
 use Rattle.shx_term.specs.declared.term.Scope.{Scope}
@@ -77,99 +73,26 @@ tag_of (Iri iri) = []
 tag_of (Blank blank) = []
 tag_of (Lit literal) = tag_text literal.tag
 
+-- by their tags, no tag first
+abbrev pub tags_cmp : Term → Term → Ordering
+tags_cmp a b =
+    ordering_then (nat_cmp (tag_number_of a) (tag_number_of b)) (slice_cmp nat_cmp (tag_of a) (tag_of b))
+
+-- by the IRI, the label or the datatype, then by lexical form and tag
+abbrev pub texts_cmp : Term → Term → Ordering
+texts_cmp a b =
+    ordering_then (slice_cmp nat_cmp (head_of a) (head_of b))
+    (ordering_then (slice_cmp nat_cmp (lexical_of a) (lexical_of b)) (tags_cmp a b))
+
+-- two terms of one kind
+abbrev pub alike_cmp : Term → Term → Ordering
+alike_cmp a b =
+    ordering_then (nat_cmp (scope_of a) (scope_of b))
+    (ordering_then (nat_cmp (number_of a) (number_of b)) (texts_cmp a b))
+
 abbrev pub term_cmp : Term → Term → Ordering
-term_cmp a b =
-    ordering_then (nat_cmp (kind_of a) (kind_of b))
-    (ordering_then (nat_cmp (scope_of a) (scope_of b))
-    (ordering_then (nat_cmp (number_of a) (number_of b))
-    (ordering_then (slice_cmp nat_cmp (head_of a) (head_of b))
-    (ordering_then (slice_cmp nat_cmp (lexical_of a) (lexical_of b))
-    (ordering_then (nat_cmp (tag_number_of a) (tag_number_of b))
-    (slice_cmp nat_cmp (tag_of a) (tag_of b)))))))
+term_cmp a b = ordering_then (nat_cmp (kind_of a) (kind_of b)) (alike_cmp a b)
 
 -- the same term
 abbrev pub same_term : Term → Term → Bool
 same_term a b = eq_by_cmp term_cmp a b
-
-pub term_cmp_total : IsTotalOrder term_cmp
-term_cmp_total =
-    then_total (on_total kind_of nat_cmp_total)
-    (then_total (on_total scope_of nat_cmp_total)
-    (then_total (on_total number_of nat_cmp_total)
-    (then_total (on_total head_of nat_list_cmp_total)
-    (then_total (on_total lexical_of nat_list_cmp_total)
-    (then_total (on_total tag_number_of nat_cmp_total)
-    (on_total tag_of nat_list_cmp_total))))))
-
-pub same_term_equiv : IsEquivalence same_term
-same_term_equiv = eq_by_cmp_equiv term_cmp_total
-
-abbrev Parts : Type 0
-Parts = ℕ × (ℕ × (ℕ × (List ℕ × (List ℕ × (ℕ × List ℕ)))))
-
-abbrev parts_of : Term → Parts
-parts_of t = (kind_of t, (scope_of t, (number_of t, (head_of t, (lexical_of t, (tag_number_of t, tag_of t))))))
-
-same_scope : (a b : Scope) → rank_of a ≡ rank_of b → a ≡ b
-same_scope Data Data e = refl
-same_scope Data Shapes e = cc
-same_scope Shapes Data e = cc
-same_scope Shapes Shapes e = refl
-
-same_name : (a b : LocalName) → kind_of_name a ≡ kind_of_name b → number_of_name a ≡ number_of_name b → label_of a ≡ label_of b → a ≡ b
-same_name (Labelled a) (Labelled b) k n l = ap Labelled l
-same_name (Labelled a) (Anonymous b) k n l = cc
-same_name (Anonymous a) (Labelled b) k n l = cc
-same_name (Anonymous a) (Anonymous b) k n l = ap Anonymous n
-
-same_tag : (a b : Option (List ℕ)) → tag_rank a ≡ tag_rank b → tag_text a ≡ tag_text b → a ≡ b
-same_tag None None k t = refl
-same_tag None (Some b) k t = cc
-same_tag (Some a) None k t = cc
-same_tag (Some a) (Some b) k t = ap Some t
-
-name_is_no_iri : (n : LocalName) → kind_of_name n ≡ 0 → ⊥
-name_is_no_iri (Labelled label) e = cc
-name_is_no_iri (Anonymous number) e = cc
-
-name_is_no_literal : (n : LocalName) → kind_of_name n ≡ 3 → ⊥
-name_is_no_literal (Labelled label) e = cc
-name_is_no_literal (Anonymous number) e = cc
-
-iri_is_no_literal : (kind : ℕ) → kind ≡ 0 → kind ≡ 3 → ⊥
-iri_is_no_literal kind e f = cc
-
-same_parts : (a b : Term) → parts_of a ≡ parts_of b → a ≡ b
-same_parts (Iri a) (Iri b) e = ap Iri (ap (λ (p : Parts). p.1.1.1.0) e)
-same_parts (Iri a) (Blank b) e = absurd (name_is_no_iri b.name (sym (ap (λ (p : Parts). p.0) e)))
-same_parts (Iri a) (Lit b) e = absurd (iri_is_no_literal 0 refl (ap (λ (p : Parts). p.0) e))
-same_parts (Blank a) (Iri b) e = absurd (name_is_no_iri a.name (ap (λ (p : Parts). p.0) e))
-same_parts (Blank a) (Blank b) e =
-    let s : a.scope ≡ b.scope = same_scope a.scope b.scope (ap (λ (p : Parts). p.1.0) e) in
-    let n : a.name ≡ b.name = same_name a.name b.name (ap (λ (p : Parts). p.0) e) (ap (λ (p : Parts). p.1.1.0) e) (ap (λ (p : Parts). p.1.1.1.0) e) in
-    λ i. Blank (record { scope = s i; name = n i })
-same_parts (Blank a) (Lit b) e = absurd (name_is_no_literal a.name (ap (λ (p : Parts). p.0) e))
-same_parts (Lit a) (Iri b) e = absurd (iri_is_no_literal 0 refl (sym (ap (λ (p : Parts). p.0) e)))
-same_parts (Lit a) (Blank b) e = absurd (name_is_no_literal b.name (sym (ap (λ (p : Parts). p.0) e)))
-same_parts (Lit a) (Lit b) e =
-    let d : a.datatype ≡ b.datatype = ap (λ (p : Parts). p.1.1.1.0) e in
-    let l : a.lexical ≡ b.lexical = ap (λ (p : Parts). p.1.1.1.1.0) e in
-    let t : a.tag ≡ b.tag = same_tag a.tag b.tag (ap (λ (p : Parts). p.1.1.1.1.1.0) e) (ap (λ (p : Parts). p.1.1.1.1.1.1) e) in
-    λ i. Lit (record { lexical = l i; datatype = d i; tag = t i })
-
--- terms that compare as equal are one
-pub term_cmp_exact : CmpEqualImpliesEq term_cmp
-term_cmp_exact a b e =
-    same_parts a b
-    (exact_pairs nat_cmp _ exact_unsigned
-    (exact_pairs nat_cmp _ exact_unsigned
-    (exact_pairs nat_cmp _ exact_unsigned
-    (exact_pairs (slice_cmp nat_cmp) _ exact_bytes
-    (exact_pairs (slice_cmp nat_cmp) _ exact_bytes
-    (exact_pairs nat_cmp (slice_cmp nat_cmp) exact_unsigned exact_bytes))))) (parts_of a) (parts_of b) e)
-
-pub same_term_exact : (a b : Term) → same_term a b ≡ true → a ≡ b
-same_term_exact = tells_apart term_cmp_exact
-
-pub same_term_itself : (t : Term) → same_term t t ≡ true
-same_term_itself = same_term_equiv.refl

@@ -1,22 +1,10 @@
--- Triples of numbers, and when two are the same.
-use Rattle.std.specs.Prelude.{◌≡◌, Bool, true, ◌&&◌, ◌==◌}
-use Rattle.std.specs.Cmp.{IsEquivalence, on_equiv, and_equiv, nat_eq_equiv, first_so, second_so}
-use Rattle.std.proofs.lemmas.Bool.{eqb-true}
+-- Triples of numbers, when two are the same, and what a triple feeds a hasher.
+use Rattle.std.specs.Prelude.{Bool, ◌&&◌, ◌==◌, ◌++◌}
+use Rattle.std.specs.Hash as fed
 use Rattle.shx_term.specs.declared.triple.Triple.{Triple}
 
 abbrev pub same_triple : Triple → Triple → Bool
 same_triple t u = (t.s == u.s) && ((t.p == u.p) && (t.o == u.o))
 
-pub same_triple_equiv : IsEquivalence same_triple
-same_triple_equiv = and_equiv (on_equiv (λ t. t.s) nat_eq_equiv) (and_equiv (on_equiv (λ t. t.p) nat_eq_equiv) (on_equiv (λ t. t.o) nat_eq_equiv))
-
-pub triple_is : (t u : Triple) → t.s ≡ u.s → t.p ≡ u.p → t.o ≡ u.o → t ≡ u
-triple_is t u s p o = λ i. record { s = s i; p = p i; o = o i }
-
-pub same_triple_exact : (t u : Triple) → same_triple t u ≡ true → t ≡ u
-same_triple_exact t u h =
-    let rest = second_so (t.s == u.s) ((t.p == u.p) && (t.o == u.o)) h in
-    triple_is t u
-    (eqb-true t.s u.s (first_so (t.s == u.s) ((t.p == u.p) && (t.o == u.o)) h))
-    (eqb-true t.p u.p (first_so (t.p == u.p) (t.o == u.o) rest))
-    (eqb-true t.o u.o (second_so (t.p == u.p) (t.o == u.o) rest))
+abbrev pub hashed_triple : Triple → fed.HashWrites
+hashed_triple t = fed.u32 t.s ++ (fed.u32 t.p ++ fed.u32 t.o)

@@ -1,42 +1,27 @@
 -- The order of triples of numbers, and lists of triples in that order.
-use Rattle.std.specs.Prelude.{ℕ, List}
+use Rattle.std.specs.Prelude.{List, Contains}
 use Rattle.std.specs.declared.cmp.Ordering.{Ordering}
 use Rattle.std.specs.Ordering.{ordering_then}
-use Rattle.std.specs.Cmp.{IsTotalOrder, on_total, then_total}
-use Rattle.std.proofs.Common.{ap}
-use Rattle.std.proofs.lemmas.Map.Lookups.{CmpEqualImpliesEq, exact_pairs}
 use Rattle.shx_term.specs.declared.term.Term.{Term}
 use Rattle.shx_term.specs.declared.triple.Triple.{Triple}
-use Rattle.shx_term.specs.IdOrder.{id_cmp, id_cmp_total, id_cmp_exact}
-use Rattle.shx_term.specs.InOrder.{IsExactOrder, in_order}
-use Rattle.shx_term.specs.Triple.{triple_is}
+use Rattle.shx_term.specs.IdOrder.{id_cmp}
+use Rattle.shx_term.specs.InOrder.{in_order, Lists}
 
 -- by subject, then by predicate, then by object, each in the order of terms
 abbrev pub triple_cmp : List Term → Triple → Triple → Ordering
-triple_cmp terms t u = ordering_then (id_cmp terms t.s u.s) (ordering_then (id_cmp terms t.p u.p) (id_cmp terms t.o u.o))
-
-pub triple_cmp_total : (terms : List Term) → IsTotalOrder (triple_cmp terms)
-triple_cmp_total terms =
-    then_total (on_total (λ (t : Triple). t.s) (id_cmp_total terms))
-    (then_total (on_total (λ (t : Triple). t.p) (id_cmp_total terms))
-    (on_total (λ (t : Triple). t.o) (id_cmp_total terms)))
-
-abbrev Parts : Type 0
-Parts = ℕ × (ℕ × ℕ)
-
-abbrev parts_of : Triple → Parts
-parts_of t = (t.s, (t.p, t.o))
-
--- triples that compare as equal are one
-pub triple_cmp_exact : (terms : List Term) → CmpEqualImpliesEq (triple_cmp terms)
-triple_cmp_exact terms t u e =
-    let exact = id_cmp_exact terms in
-    let same = exact_pairs (id_cmp terms) _ exact (exact_pairs (id_cmp terms) (id_cmp terms) exact exact) (parts_of t) (parts_of u) e in
-    triple_is t u (ap (λ (p : Parts). p.0) same) (ap (λ (p : Parts). p.1.0) same) (ap (λ (p : Parts). p.1.1) same)
-
-pub triple_order : (terms : List Term) → IsExactOrder (triple_cmp terms)
-triple_order terms = record { total = triple_cmp_total terms; exact = triple_cmp_exact terms }
+triple_cmp terms t u =
+    ordering_then (id_cmp terms t.s u.s) (ordering_then (id_cmp terms t.p u.p) (id_cmp terms t.o u.o))
 
 -- the triples of a list in that order, each once
 abbrev pub in_triple_order : List Term → List Triple → List Triple
 in_triple_order terms triples = in_order (triple_cmp terms) triples
+
+-- xs has each of these triples once, and no other, in that order
+abbrev pub ListsInTripleOrder : List Term → List Triple → List Triple → Type 0
+ListsInTripleOrder terms triples xs = Lists (triple_cmp terms) (Contains triples) xs
+
+-- what is in that order lists the triples
+abbrev pub TripleOrderLists : Type 0
+TripleOrderLists =
+    (terms : List Term) (triples : List Triple)
+    → ListsInTripleOrder terms triples (in_triple_order terms triples)

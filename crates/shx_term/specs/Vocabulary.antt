@@ -1,5 +1,5 @@
 -- The vocabulary: the terms that every pool begins with, each at its number.
-use Rattle.std.specs.Prelude.{ℕ, List, [], ◌∷◌, ◌++◌, codes}
+use Rattle.std.specs.Prelude.{◌≡◌, ℕ, List, [], ◌∷◌, ◌++◌, Some, slice_get, codes}
 use Rattle.shx_term.specs.declared.term.Term.{Term}
 use Rattle.shx_term.specs.declared.term.Term.TheVariants.{Iri}
 
@@ -77,3 +77,14 @@ vocabulary =
     ∷ sh (codes "hasValue")
     ∷ sh (codes "in")
     ∷ []
+
+-- the terms begin with the vocabulary
+pub record HasVocabulary (terms : List Term) : Type 0 where
+  pub more : List Term
+  pub begins : terms ≡ vocabulary ++ more
+
+-- whatever begins with the vocabulary has the vocabulary's term at each of its numbers
+abbrev pub VocabularyStands : Type 0
+VocabularyStands =
+    (terms : List Term) (id : ℕ) (t : Term)
+    → HasVocabulary terms → slice_get vocabulary id ≡ Some t → slice_get terms id ≡ Some t

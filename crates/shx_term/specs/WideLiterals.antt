@@ -1,5 +1,6 @@
--- Literals that are well formed and need more digits than values have here: numbers of more than 38 digits before or behind the point, moments of
--- years with more than four digits or with finer fractions than nanoseconds.
+-- Literals that are well formed and need more digits than values have here: numbers of more than 38 digits
+-- before or behind the point, moments of years with more than four digits or with finer fractions than
+-- nanoseconds.
 use Rattle.std.specs.Prelude.{ℕ, Bool, false, ◌&&◌, List}
 use Rattle.shx_term.specs.declared.term.Literal.{Literal}
 use Rattle.shx_term.specs.Datatypes.{Space, space_of}

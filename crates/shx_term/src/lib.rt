@@ -2,18 +2,19 @@
 //!
 //! | file | what it holds |
 //! |---|---|
-//! | `text.rt`, `iri_text.rt`, `label.rt` | `Text`, `IriText`, `Label`: texts that contracts see as lists of bytes |
+//! | `text.rt`, `iri_text.rt`, `label.rt` | `Text`, `IriText`, `Label`: texts, seen as lists of bytes |
 //! | `term.rt` | `Term` and its parts |
 //! | `order.rt` | the order of terms, and their equality and hash |
-//! | `spelling.rt` | `spell`: how a term is written |
+//! | `pieces.rt` | `Pieces`: what takes a text in pieces |
+//! | `spelling.rt` | `spell`, `write_term`: how a term is written |
 //! | `triple.rt` | `Id`, `Triple` over numbers, `TermTriple` over terms |
 //! | `pool.rt` | `Pool`: distinct terms by number |
 //! | `vocabulary.rt` | the 62 terms that every pool begins with, and a constant for each number |
 //! | `limits.rt` | `Limits` |
 //! | `steps.rt` | `Steps`: a counter that takes no memory and no time |
 //!
-//! It stands on `indexmap` and `itoa`. Start with `term.rt` and `pool.rt`; `specs/TermOrder.antt` has the order and
-//! `specs/Pool.antt` the words of a pool's contracts.
+//! It stands on `indexmap` and `itoa`. Start with `term.rt` and `pool.rt`; `specs/TermOrder.antt` has the
+//! order and `specs/Pool.antt` the words of a pool's contracts.
 #![tactic(auto)]
 
 mod iri_text;
@@ -21,6 +22,7 @@ mod label;
 mod limits;
 mod memory;
 mod order;
+mod pieces;
 mod pool;
 mod spelling;
 mod steps;
@@ -36,8 +38,9 @@ pub use label::Label;
 pub use limits::Limits;
 pub use memory::Memory;
 pub use order::{cmp_terms, equal_terms_are_one};
-pub use pool::{Pool, PoolFault};
-pub use spelling::{XSD_STRING, spell};
+pub use pieces::Pieces;
+pub use pool::{Pool, PoolFault, term_order_lists};
+pub use spelling::{XSD_STRING, spell, write_term};
 pub use steps::Steps;
 pub use term::{BlankName, Literal, LocalName, Scope, Term};
 pub use text::Text;

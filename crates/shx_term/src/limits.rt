@@ -1,4 +1,5 @@
-ghost use Rattle.shx_term.specs.Limits.{AreUsable};
+ghost use Rattle.std.specs.Prelude.{◌≡◌};
+ghost use Rattle.shx_term.specs.Limits.{AreUsable, program_limits};
 
 /// How much a run takes at most. A text or an edit that would pass a limit is refused.
 #[derive(Clone, Copy, Debug, PartialEq, Eq)]
@@ -28,7 +29,8 @@ pub struct Limits {
 impl Limits {
     /// The limits of the program.
     pub fn program() -> Limits
-        ensures { AreUsable result }
+        ensures exact { result ≡ program_limits }
+        ensures usable { AreUsable result }
     {
         Limits {
             triples: 4_000_000,

@@ -1,27 +1,60 @@
 ghost use Rattle.std.specs.Prelude.{◌≡◌};
 ghost use Rattle.shx_term.specs.declared.term.Term.{Term};
-ghost use Rattle.shx_term.specs.TermOrder.{term_cmp, kind_of, kind_of_name, rank_of, scope_of, number_of, head_of, lexical_of, tag_number_of, tag_of};
+ghost use Rattle.shx_term.specs.TermOrder.{term_cmp, alike_cmp, texts_cmp, tags_cmp};
+ghost use Rattle.shx_term.specs.TermOrder.{kind_of, scope_of, number_of, head_of, lexical_of, tag_number_of};
+ghost use Rattle.shx_term.specs.TermOrder.{tag_of};
 
 use crate::{LocalName, Scope, Term};
 use std::cmp::Ordering;
 use std::hash::{Hash, Hasher};
 
-/// Compares two terms. IRIs come first, by their bytes; then blank nodes with a label, those of the data before those of
-/// the shapes, by label; then anonymous blank nodes likewise, by number; then literals by datatype, lexical form and tag,
-/// no tag first. It takes no memory and time linear in the shorter texts.
+/// Compares two terms. IRIs come first, by their bytes; then blank nodes with a label, those of the data
+/// before those of the shapes, by label; then anonymous blank nodes likewise, by number; then literals by
+/// datatype, lexical form and tag, no tag first. It takes no memory, stops at the first part that differs,
+/// and takes time linear in the shorter texts.
 pub fn cmp_terms(a: &Term, b: &Term) -> Ordering
     ensures { result ≡ term_cmp a.now b.now }
 {
-    let by_kind = kind(a).cmp(&kind(b));
-    let by_scope = scope(a).cmp(&scope(b));
-    let by_number = number(a).cmp(&number(b));
-    let by_head = head(a).cmp(head(b));
-    let by_lexical = lexical(a).cmp(lexical(b));
-    let by_tag_number = tag_number(a).cmp(&tag_number(b));
-    let by_tag = tag(a).cmp(tag(b));
-    by_kind.then(by_scope.then(by_number.then(by_head.then(by_lexical.then(by_tag_number.then(
-        by_tag,
-    ))))))
+    match kind(a).cmp(&kind(b)) {
+        Ordering::Equal => cmp_alike(a, b),
+        by_kind => by_kind,
+    }
+}
+
+// Compares two terms of one kind.
+fn cmp_alike(a: &Term, b: &Term) -> Ordering
+    ensures { result ≡ alike_cmp a.now b.now }
+{
+    match scope(a).cmp(&scope(b)) {
+        Ordering::Equal => match number(a).cmp(&number(b)) {
+            Ordering::Equal => cmp_texts(a, b),
+            by_number => by_number,
+        },
+        by_scope => by_scope,
+    }
+}
+
+// Compares two terms by their texts and tags.
+fn cmp_texts(a: &Term, b: &Term) -> Ordering
+    ensures { result ≡ texts_cmp a.now b.now }
+{
+    match head(a).cmp(head(b)) {
+        Ordering::Equal => match lexical(a).cmp(lexical(b)) {
+            Ordering::Equal => cmp_tags(a, b),
+            by_lexical => by_lexical,
+        },
+        by_head => by_head,
+    }
+}
+
+// Compares two terms by their tags, no tag first.
+fn cmp_tags(a: &Term, b: &Term) -> Ordering
+    ensures { result ≡ tags_cmp a.now b.now }
+{
+    match tag_number(a).cmp(&tag_number(b)) {
+        Ordering::Equal => tag(a).cmp(tag(b)),
+        by_tag_number => by_tag_number,
+    }
 }
 
 /// Terms that compare as equal are one term: all their parts are equal.
@@ -119,7 +152,8 @@ fn tag(term: &Term) -> &str
 
 impl PartialEq for Term {
     ghost use Rattle.std.specs.Cmp;
-    ghost use Rattle.shx_term.specs.TermOrder.{same_term, same_term_equiv};
+    ghost use Rattle.shx_term.specs.TermOrder.{same_term};
+    ghost use Rattle.shx_term.specs.TermOrderLaws.{same_term_equiv};
 
     ghost eq = { same_term };
 
@@ -131,7 +165,7 @@ impl PartialEq for Term {
 }
 
 impl Eq for Term {
-    ghost use Rattle.shx_term.specs.TermOrder.{same_term_equiv};
+    ghost use Rattle.shx_term.specs.TermOrderLaws.{same_term_equiv};
 
     ghost laws = { same_term_equiv };
 }
@@ -139,7 +173,8 @@ impl Eq for Term {
 impl PartialOrd for Term {
     ghost use Rattle.std.specs.Prelude.{Some};
     ghost use Rattle.std.specs.Cmp.{partial_order_from_total};
-    ghost use Rattle.shx_term.specs.TermOrder.{term_cmp, term_cmp_total};
+    ghost use Rattle.shx_term.specs.TermOrder.{term_cmp};
+    ghost use Rattle.shx_term.specs.TermOrderLaws.{term_cmp_total};
 
     ghost partial_cmp = { λ a b. Some (term_cmp a b) };
 
@@ -153,7 +188,8 @@ impl PartialOrd for Term {
 // The order is total: one of two terms is less, or they are one; and it goes on over a third.
 impl Ord for Term {
     ghost use Rattle.std.specs.Prelude.{refl};
-    ghost use Rattle.shx_term.specs.TermOrder.{term_cmp, term_cmp_total};
+    ghost use Rattle.shx_term.specs.TermOrder.{term_cmp};
+    ghost use Rattle.shx_term.specs.TermOrderLaws.{term_cmp_total};
 
     ghost cmp = { term_cmp };
 
@@ -169,19 +205,21 @@ impl Ord for Term {
 }
 
 impl Hash for Term {
-    ghost use Rattle.std.specs.Prelude.{◌++◌};
-    ghost use Rattle.std.specs.Hash as fed;
     ghost use Rattle.std.proofs.Common.{ap};
-    ghost use Rattle.shx_term.specs.TermOrder.{kind_of, number_of, head_of, lexical_of, same_term_exact};
+    ghost use Rattle.shx_term.specs.TermHash.{hashed};
+    ghost use Rattle.shx_term.specs.TermOrderLaws.{same_term_exact};
 
-    ghost hash_input = { λ t. fed.u8 (kind_of t) ++ (fed.u32 (number_of t) ++ (fed.str (head_of t) ++ fed.str (lexical_of t))) };
+    ghost hash_input = { hashed };
 
-    ghost respects_eq = { λ a b h. ap (λ t. fed.u8 (kind_of t) ++ (fed.u32 (number_of t) ++ (fed.str (head_of t) ++ fed.str (lexical_of t)))) (same_term_exact a b h) };
+    ghost respects_eq = { λ a b h. ap hashed (same_term_exact a b h) };
 
     fn hash<H: Hasher>(&self, state: &mut H) {
         kind(self).hash(state);
+        scope(self).hash(state);
         number(self).hash(state);
         head(self).hash(state);
         lexical(self).hash(state);
+        tag_number(self).hash(state);
+        tag(self).hash(state);
     }
 }

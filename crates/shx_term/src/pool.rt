@@ -1,11 +1,13 @@
-ghost use Rattle.std.specs.Prelude.{◌≡◌, ◌<◌, ◌≤◌, ◌+◌, ℕ, Some, length, position, slice_get, is_some, IfOk, IfErr, OnOk, OnErr};
+ghost use Rattle.std.specs.Prelude.{◌≡◌, ◌<◌, ◌≤◌, ◌+◌, Some, length, position, slice_get};
+ghost use Rattle.std.specs.Prelude.{is_some, IfOk, IfErr, OnOk, OnErr};
 ghost use Rattle.std.specs.List.{IsDistinct};
 ghost use Rattle.shx_term.specs.TermOrder.{same_term, term_cmp};
-ghost use Rattle.shx_term.specs.Pool.{Pooled, is_held, with_term, IsFullFor};
-ghost use Rattle.shx_term.specs.IdOrder.{id_cmp, in_term_order};
-ghost use Rattle.shx_term.specs.TripleOrder.{triple_cmp, in_triple_order};
+ghost use Rattle.shx_term.specs.Pool.{Pooled, is_held, with_term, IsFullFor, HasRoomFor};
+ghost use Rattle.shx_term.specs.Vocabulary.{HasVocabulary};
+ghost use Rattle.shx_term.specs.IdOrder.{id_cmp, in_term_order, TermOrderLists};
+ghost use Rattle.shx_term.specs.TripleOrder.{triple_cmp, in_triple_order, TripleOrderLists};
 
-use crate::{Id, Memory, Term, Triple, cmp_terms};
+use crate::{Id, Term, Triple, cmp_terms};
 use indexmap::IndexSet;
 use std::alloc::{AllocError, AllocFailed, Global};
 use std::cmp::Ordering;
@@ -59,7 +61,8 @@ impl<T: Drop> From<AllocFailed<T>> for PoolFault {
     }
 }
 
-/// Distinct terms, each with a number, in the order in which they were first entered. A number keeps its term for good.
+/// Distinct terms, each with a number, in the order in which they were first entered. A number keeps its term
+/// for good.
 #[derive(Drop)]
 pub struct Pool {
     terms: IndexSet<Term>,
@@ -69,19 +72,20 @@ pub struct Pool {
 
 impl Model for Pool {
     ghost use Rattle.std.specs.Prelude.{ℕ, ◌<◌, ◌≤◌, ◌^◌, length};
-    ghost use Rattle.shx_term.specs.Pool.{Pooled};
+    ghost use Rattle.shx_term.specs.Pool.{Pooled, IsPool};
 
     ghost Value = { Pooled };
 
     ghost view = { λ a. record { terms = a.terms.keys; limit = a.limit } };
 
-    ghost invariant = { λ a. (length a.terms.keys ≤ a.limit) × (a.limit < 2 ^ 32) };
+    ghost invariant = { λ a. IsPool a.terms.keys a.limit };
 }
 
 impl Pool {
     /// A pool of these terms.
     pub(crate) fn from_terms(alloc: Global, terms: IndexSet<Term>, limit: u32) -> Pool
-        requires { length terms.keys ≤ limit }
+        requires within { length terms.keys ≤ limit }
+        requires vocabulary { HasVocabulary terms.keys }
         ensures { result ≡ record { terms = terms.keys; limit = limit } }
     {
         Pool {
@@ -108,10 +112,11 @@ impl Pool {
         &self.terms.as_slice()[id as usize]
     }
 
-    /// How many terms are held. The terms are distinct.
+    /// How many terms are held. The terms are distinct, and begin with the vocabulary.
     pub fn len(&self) -> u32
         ensures count { result ≡ length self.now.terms }
         ensures distinct { IsDistinct same_term self.now.terms }
+        ensures vocabulary { HasVocabulary self.now.terms }
         ensures within { result ≤ self.now.limit }
     {
         self.terms.len() as u32
@@ -124,17 +129,19 @@ impl Pool {
         self.limit
     }
 
-    /// The number of a term, which is added behind the others where it is not held. It takes one look-up by hash, and
-    /// memory only for a new term.
+    /// The number of a term, which is added behind the others where it is not held. A term that is held takes
+    /// one look-up by hash, and no memory; a new one takes two, and memory for a copy.
     pub fn enter(&mut self, term: &Term) -> Result<Id, PoolFault>
         ensures limit { self.new.limit ≡ self.old.limit }
         ensures entered { OnOk result (self.new.terms ≡ with_term self.old.terms term.now) }
         ensures found { IfOk result (λ id. position (same_term term.now) self.new.terms ≡ Some id) }
         ensures id { IfOk result (λ id. slice_get self.new.terms id ≡ Some term.now) }
 
-        // A refused call changes nothing, and `Full` comes exactly where the pool is full for the term.
+        // A refused call changes nothing. `Full` comes exactly where the pool is full for the term, and
+        // `Memory` only for a new term that there is room for.
         ensures refused { OnErr result (self.new.terms ≡ self.old.terms) }
         ensures full { IfErr result (λ fault. fault ≡ PoolFault.Full → IsFullFor self.old term.now) }
+        ensures memory { IfErr result (λ fault. fault ≡ PoolFault.Memory → HasRoomFor self.old term.now) }
         ensures room { OnOk result (IsFullFor self.old term.now → ⊥) }
     {
         if let Some(id) = self.find(term) {
@@ -167,7 +174,8 @@ impl Pool {
         by_term.then(a.cmp(&b))
     }
 
-    /// Compares two triples: by subject, then by predicate, then by object, each by its term. It takes no memory.
+    /// Compares two triples: by subject, then by predicate, then by object, each by its term. It takes no
+    /// memory.
     pub fn cmp_triples(&self, a: &Triple, b: &Triple) -> Ordering
         ensures { result ≡ triple_cmp self.now.terms a.now b.now }
     {
@@ -180,21 +188,30 @@ impl Pool {
         }
     }
 
-    /// The numbers in the order of their terms, each once. It takes time `O(n log n)` in their number.
-    pub fn in_order(&self, mut ids: Vec<Id>) -> Result<Vec<Id>, Memory>
-        ensures { IfOk result (λ sorted. sorted.items ≡ in_term_order self.now.terms ids.items) }
+    /// The numbers in the order of their terms, each once. It takes no memory, and time `O(n log n)` in their
+    /// number.
+    pub fn in_order(&self, mut ids: Vec<Id>) -> Vec<Id>
+        ensures { result.items ≡ in_term_order self.now.terms ids.items }
     {
-        ids.sort_by(|a, b| self.cmp_ids(*a, *b))?;
+        ids.sort_unstable_by(|a, b| self.cmp_ids(*a, *b));
         ids.dedup();
-        Ok(ids)
+        ids
     }
 
-    /// The triples in order of subject, predicate and object, each once. It takes time `O(n log n)` in their number.
-    pub fn triples_in_order(&self, mut triples: Vec<Triple>) -> Result<Vec<Triple>, Memory>
-        ensures { IfOk result (λ sorted. sorted.items ≡ in_triple_order self.now.terms triples.items) }
+    /// The triples in order of subject, predicate and object, each once. It takes no memory, and time `O(n
+    /// log n)` in their number.
+    pub fn triples_in_order(&self, mut triples: Vec<Triple>) -> Vec<Triple>
+        ensures { result.items ≡ in_triple_order self.now.terms triples.items }
     {
-        triples.sort_by(|a, b| self.cmp_triples(a, b))?;
+        triples.sort_unstable_by(|a, b| self.cmp_triples(a, b));
         triples.dedup();
-        Ok(triples)
+        triples
     }
 }
+
+/// What is in term order is the one list of these numbers, or triples, that goes up in the order and has each
+/// once.
+pub fn term_order_lists()
+    ensures ids { TermOrderLists }
+    ensures triples { TripleOrderLists }
+{}

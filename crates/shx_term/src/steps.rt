@@ -3,8 +3,8 @@ ghost use Rattle.std.specs.Prelude.{◌≡◌, ◌+◌};
 use std::marker::Model;
 use std::sync::ledger::{Blank, Book, Ledger, Share};
 
-/// A counter of steps, which contracts see as a number. It has no bytes and a tick is no code, so it counts in proofs
-/// alone, and never ends.
+/// A counter of steps, which contracts see as a number. It has no bytes and a tick is no code, so it counts
+/// in proofs alone, and never ends.
 #[derive(Drop)]
 pub struct Steps<L: Ledger> {
     book: Book<L>,

@@ -25,15 +25,17 @@ pub enum Scope {
     Shapes,
 }
 
-/// The name of a blank node in its text: a label that is written there, or a number in the order of the text, from 1.
+/// The name of a blank node in its text: a label that is written there, or a number in the order of the text,
+/// from 1.
 #[derive(Debug)]
 pub enum LocalName {
     Labelled(Label),
     Anonymous(u32),
 }
 
-/// A literal (RDF 1.1 Concepts, section 3.3): its lexical form, its datatype, and for rdf:langString its language tag.
-#[derive(Debug, Drop)]
+/// A literal (RDF 1.1 Concepts, section 3.3): its lexical form, its datatype, and for rdf:langString its
+/// language tag.
+#[derive(Debug)]
 pub struct Literal {
     pub lexical: Text,
     pub datatype: IriText,
@@ -48,6 +50,16 @@ impl Drop for Term {
             Term::Blank(_blank) => {}
             Term::Lit(_literal) => {}
         }
+    }
+}
+
+impl Drop for Literal {
+    fn drop(self) {
+        let Literal {
+            lexical: _lexical,
+            datatype: _datatype,
+            tag: _tag,
+        } = self;
     }
 }
 

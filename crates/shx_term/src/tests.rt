@@ -302,7 +302,7 @@ fn numbers_are_ordered_by_their_terms(rt: HostRuntime) -> Result<(), Fail> {
     assert_eq!(rt; pool.cmp_ids(RDF_TYPE, RDF_FIRST), Ordering::Greater);
     assert_eq!(rt; pool.cmp_ids(SH_IN, SH_IN), Ordering::Equal);
     let ids = [SH_IN, RDF_TYPE, SH_AND, SH_IRI, RDF_FIRST, RDF_TYPE, SH_IN].to_vec(rt.alloc())?;
-    let sorted = pool.in_order(ids)?;
+    let sorted = pool.in_order(ids);
     assert_eq!(rt;
         sorted.as_slice(),
         [RDF_FIRST, RDF_TYPE, SH_IRI, SH_AND, SH_IN].as_slice()
@@ -332,14 +332,17 @@ fn triples_are_ordered_by_subject_then_predicate_then_object(rt: HostRuntime) ->
     for at in [2, 0, 3, 2, 1, 0] {
         given.push(sorted[at])?;
     }
-    let found = pool.triples_in_order(given)?;
+    let found = pool.triples_in_order(given);
     assert_eq!(rt; found.as_slice(), sorted.as_slice());
     Ok(())
 }
 
 #[test]
-fn equal_terms_are_one_term() {
-    equal_terms_are_one();
+fn triples_have_an_order_by_number(rt: HostRuntime) -> Result<(), Fail> {
+    assert!(rt; triple(1, 9, 9) < triple(2, 0, 0));
+    assert!(rt; triple(1, 2, 9) < triple(1, 3, 0));
+    assert_eq!(rt; triple(1, 2, 3).cmp(&triple(1, 2, 3)), Ordering::Equal);
+    Ok(())
 }
 
 #[test]

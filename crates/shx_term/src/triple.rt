@@ -4,8 +4,9 @@ use std::hash::{Hash, Hasher};
 /// The number of a term in a pool.
 pub type Id = u32;
 
-/// A triple of numbers: subject, predicate and object.
-#[derive(Clone, Copy, Debug)]
+/// A triple of numbers: subject, predicate and object. Its order is that of the numbers, for sets of triples;
+/// `Pool::cmp_triples` has the order by terms.
+#[derive(Clone, Copy, Debug, PartialOrd, Ord)]
 pub struct Triple {
     pub s: Id,
     pub p: Id,
@@ -22,7 +23,8 @@ pub struct TermTriple {
 
 impl PartialEq for Triple {
     ghost use Rattle.std.specs.Cmp;
-    ghost use Rattle.shx_term.specs.Triple.{same_triple, same_triple_equiv};
+    ghost use Rattle.shx_term.specs.Triple.{same_triple};
+    ghost use Rattle.shx_term.specs.TripleLaws.{same_triple_equiv};
 
     ghost eq = { same_triple };
 
@@ -34,20 +36,19 @@ impl PartialEq for Triple {
 }
 
 impl Eq for Triple {
-    ghost use Rattle.shx_term.specs.Triple.{same_triple_equiv};
+    ghost use Rattle.shx_term.specs.TripleLaws.{same_triple_equiv};
 
     ghost laws = { same_triple_equiv };
 }
 
 impl Hash for Triple {
-    ghost use Rattle.std.specs.Prelude.{◌++◌};
-    ghost use Rattle.std.specs.Hash as fed;
     ghost use Rattle.std.proofs.Common.{ap};
-    ghost use Rattle.shx_term.specs.Triple.{same_triple_exact};
+    ghost use Rattle.shx_term.specs.Triple.{hashed_triple};
+    ghost use Rattle.shx_term.specs.TripleLaws.{same_triple_exact};
 
-    ghost hash_input = { λ t. fed.u32 t.s ++ (fed.u32 t.p ++ fed.u32 t.o) };
+    ghost hash_input = { hashed_triple };
 
-    ghost respects_eq = { λ a b h. ap (λ t. fed.u32 t.s ++ (fed.u32 t.p ++ fed.u32 t.o)) (same_triple_exact a b h) };
+    ghost respects_eq = { λ a b h. ap hashed_triple (same_triple_exact a b h) };
 
     fn hash<H: Hasher>(&self, state: &mut H) {
         self.s.hash(state);

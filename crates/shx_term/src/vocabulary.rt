@@ -1,8 +1,8 @@
-ghost use Rattle.std.specs.Prelude.{◌≡◌, ◌≤◌, map, IfOk, OnOk};
+ghost use Rattle.std.specs.Prelude.{◌≡◌, ◌≤◌, length, map, IfOk, OnOk};
 ghost use Rattle.std.specs.List.{enumerate_from};
 ghost use Rattle.shx_term.specs.declared.term.Term.TheVariants.{Iri};
 ghost use Rattle.shx_term.specs.Pool.{with_terms};
-ghost use Rattle.shx_term.specs.Vocabulary.{vocabulary};
+ghost use Rattle.shx_term.specs.Vocabulary.{vocabulary, VocabularyStands};
 
 use crate::{Id, IriText, Memory, Pool, Term};
 use indexmap::IndexSet;
@@ -255,13 +255,21 @@ const VOCABULARY: [(Id, &str); 62] = [
     (SH_IN, "http://www.w3.org/ns/shacl#in"),
 ];
 
-/// The rows of the vocabulary: at each place that place, as its constant, and the IRI of the term there. A pool begins with
-/// these terms and a number keeps its term, so each constant is the number of its IRI in every pool. It takes no memory.
+/// The rows of the vocabulary: at each place that place, as its constant, and the IRI of the term there. A
+/// pool begins with these terms and a number keeps its term, so each constant is the number of its IRI in
+/// every pool. It takes no memory.
 pub fn vocabulary_rows() -> &'static [(Id, &'static str)]
     ensures { map (λ row. (row.0, Iri row.1.now)) result.now ≡ enumerate_from 0 vocabulary }
 {
     &VOCABULARY
 }
+
+/// How long the vocabulary is; and that each of its terms stands at its number wherever it comes first, as in
+/// every pool.
+pub fn vocabulary_stands()
+    ensures count { length vocabulary ≡ VOCABULARY_LEN }
+    ensures terms { VocabularyStands }
+{}
 
 impl Pool {
     /// A pool that holds the vocabulary, and at most `limit` terms in all.

@@ -1,3 +1,4 @@
-mod Left
-mod PlaceChange
-mod Positions
+pub mod LeftLemmas
+pub mod PlaceLemmas
+pub mod PositionLemmas
+pub mod ToldLemmas

@@ -3,5 +3,6 @@ pub mod Failing
 pub mod FileInputs
 pub mod MemoryInputs
 pub mod MemorySink
+pub mod Outside
 pub mod Places
 pub mod Told

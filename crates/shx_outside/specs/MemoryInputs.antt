@@ -1,14 +1,16 @@
 -- Texts that are held in memory, each opened by its name: what a name holds, and which calls fail.
 use Rattle.std.specs.Prelude.{◌≡◌, ℕ, List, [], Bool, bytes_eq, Option, Some, None, find, is_some}
+use Rattle.std.specs.Prelude.{length, min, IfSome}
 use Rattle.std.specs.List.{list_any}
 use Rattle.shx_outside.specs.declared.named_text.NamedText.{NamedText}
 use Rattle.shx_outside.specs.declared.role.Role.{Role}
 use Rattle.shx_outside.specs.declared.role.Role.TheVariants.{Shapes, Data, Script}
 use Rattle.shx_outside.specs.Counted.{next_count}
 use Rattle.shx_outside.specs.Failing.{is_listed}
+use Rattle.shx_outside.specs.Outside.{InputState}
 
--- the texts, the most bytes of a read, the numbers of the calls that fail, and what is left for each role that is opened
-pub record InputState : Type 0 where
+-- the texts, the most bytes of a read, which calls fail, and what is left for each role that is opened
+pub record MemoryTexts : Type 0 where
   pub files : List NamedText
   pub piece : ℕ
   pub failing : List ℕ
@@ -36,29 +38,31 @@ abbrev pub bytes_named : List NamedText → List ℕ → List ℕ
 bytes_named files name = bytes_of (find (is_named name) files)
 
 -- whether the next call is one that fails
-abbrev pub fails_next : InputState → Bool
-fails_next state = is_listed state.failing (next_count state.calls)
+abbrev pub fails_next : MemoryTexts → Bool
+fails_next texts = is_listed texts.failing (next_count texts.calls)
 
 -- what is left for a role, if it is opened
-abbrev pub left_for : InputState → Role → Option (List ℕ)
-left_for state Shapes = state.shapes_left
-left_for state Data = state.data_left
-left_for state Script = state.script_left
+abbrev pub left_for : MemoryTexts → Role → Option (List ℕ)
+left_for texts Shapes = texts.shapes_left
+left_for texts Data = texts.data_left
+left_for texts Script = texts.script_left
 
--- whether a role is opened
-abbrev pub is_opened : InputState → Role → Bool
-is_opened state role = is_some (left_for state role)
+-- what is told: a name holds the bytes of the first text of that name, and none where no text has it
+abbrev pub inputs_told : MemoryTexts → InputState
+inputs_told texts =
+    record {
+      text = λ name. Some (bytes_named texts.files name);
+      opened = λ role. is_some (left_for texts role);
+      rest = left_for texts;
+      faults = texts.faults;
+    }
 
--- what a name holds: the bytes of the first text of that name, and none where no text has it
-abbrev pub text_of : InputState → List ℕ → Option (List ℕ)
-text_of state name = Some (bytes_named state.files name)
-
--- every name may be opened for every role
-abbrev pub admits_all : InputState → Role → List ℕ → Type 0
-admits_all state role name = Unit {0}
+-- as many bytes as a piece, the room and what is left allow
+abbrev pub IsPieceOf : Option (List ℕ) → ℕ → ℕ → ℕ → Type 0
+IsPieceOf left piece room count = IfSome left (λ bytes. count ≡ min (min piece room) (length bytes))
 
 -- the texts, the size of a piece and the calls that fail stay the same
-pub record KeepsTexts (old new : InputState) : Type 0 where
+pub record KeepsTexts (old new : MemoryTexts) : Type 0 where
   pub files : new.files ≡ old.files
   pub piece : new.piece ≡ old.piece
   pub failing : new.failing ≡ old.failing

@@ -1,10 +1,11 @@
 -- What a sink in memory holds, and which puts fail.
-use Rattle.std.specs.Prelude.{◌≡◌, ℕ, List, Bool, Option, Some, None}
+use Rattle.std.specs.Prelude.{◌≡◌, ℕ, List, Bool, Some, None}
 use Rattle.shx_outside.specs.Counted.{next_count}
 use Rattle.shx_outside.specs.Failing.{is_listed}
+use Rattle.shx_outside.specs.Outside.{SinkState}
 
 -- the bytes that were put, the most bytes of a put, and the numbers of the puts that fail
-pub record SinkState : Type 0 where
+pub record MemoryHeld : Type 0 where
   pub bytes : List ℕ
   pub piece : ℕ
   pub failing : List ℕ
@@ -12,18 +13,14 @@ pub record SinkState : Type 0 where
   pub faults : ℕ
 
 -- whether the next put is one that fails
-abbrev pub fails_next : SinkState → Bool
-fails_next state = is_listed state.failing (next_count state.puts)
+abbrev pub put_fails : MemoryHeld → Bool
+put_fails held = is_listed held.failing (next_count held.puts)
 
 -- the size of a piece and the puts that fail stay the same
-pub record KeepsPlan (old new : SinkState) : Type 0 where
+pub record KeepsPlan (old new : MemoryHeld) : Type 0 where
   pub piece : new.piece ≡ old.piece
   pub failing : new.failing ≡ old.failing
 
--- the bytes are told
-abbrev pub held_of : SinkState → Option (List ℕ)
-held_of state = Some state.bytes
-
--- the room is not told
-abbrev pub no_room : SinkState → Option ℕ
-no_room state = None
+-- what is told: the bytes, and nothing of the room
+abbrev pub sink_told : MemoryHeld → SinkState
+sink_told held = record { held = Some held.bytes; room = None; faults = held.faults }

@@ -1,11 +1,11 @@
 -- Places in the texts that are held: a text by its index, and how much of it was read.
-use Rattle.std.specs.Prelude.{ℕ, ◌<◌, ◌≤◌, List, length, drop, Option, Some, None, slice_get}
+use Rattle.std.specs.Prelude.{ℕ, ◌+◌, ◌<◌, ◌≤◌, List, length, drop, Option, Some, None, slice_get}
 use Rattle.shx_outside.specs.declared.named_text.NamedText.{NamedText}
 use Rattle.shx_outside.specs.declared.places.Place.{Place}
 use Rattle.shx_outside.specs.declared.places.Places.{Places}
 use Rattle.shx_outside.specs.declared.role.Role.{Role}
 use Rattle.shx_outside.specs.declared.role.Role.TheVariants.{Shapes, Data, Script}
-use Rattle.shx_outside.specs.MemoryInputs.{InputState, bytes_of}
+use Rattle.shx_outside.specs.MemoryInputs.{MemoryTexts, bytes_of}
 
 -- no role is opened
 abbrev pub no_places : Places
@@ -23,6 +23,10 @@ with_place places Shapes place = record places { shapes = place }
 with_place places Data place = record places { «data» = place }
 with_place places Script place = record places { script = place }
 
+-- the place behind some more bytes
+abbrev pub moved_on : Place → ℕ → Place
+moved_on place count = record { file = place.file; offset = place.offset + count }
+
 -- the bytes of the text at an index
 abbrev pub bytes_at : List NamedText → ℕ → List ℕ
 bytes_at files index = bytes_of (slice_get files index)
@@ -34,15 +38,16 @@ left_at files None = None
 
 -- the place lies in a text
 abbrev pub IsWithin : List NamedText → Option Place → Type 0
-IsWithin files (Some place) = (place.file < length files) × (place.offset ≤ length (bytes_at files place.file))
+IsWithin files (Some place) =
+    (place.file < length files) × (place.offset ≤ length (bytes_at files place.file))
 IsWithin files None = Unit {0}
 
 -- the place of each role lies in a text
 pub record AreWithin (files : List NamedText) (places : Places) : Type 0 where
   pub each : (role : Role) → IsWithin files (place_of places role)
 
--- what is told of texts that are read from these places
-abbrev pub state_of : List NamedText → ℕ → List ℕ → ℕ → ℕ → Places → InputState
+-- what is known of texts that are read from these places
+abbrev pub state_of : List NamedText → ℕ → List ℕ → ℕ → ℕ → Places → MemoryTexts
 state_of files piece failing calls faults places =
     record {
       files = files;

@@ -1,6 +1,7 @@
 -- What inputs and sinks tell of the bytes that they hold. Each fact speaks only where something is told.
-use Rattle.std.specs.Prelude.{◌≡◌, ◌≢◌, ℕ, ◌+◌, List, [], ◌++◌, Bool, Option, Some}
+use Rattle.std.specs.Prelude.{◌≡◌, ◌≢◌, ℕ, ◌+◌, List, [], ◌++◌, Option, Some}
 use Rattle.shx_outside.specs.declared.role.Role.{Role}
+use Rattle.shx_outside.specs.Outside.{InputState}
 
 -- these bytes were put behind what was held
 pub record Grew (old new : Option (List ℕ)) (bytes : List ℕ) : Type 0 where
@@ -22,12 +23,15 @@ pub record Took (old new : Option (List ℕ)) (bytes : List ℕ) : Type 0 where
 pub record IsAtEnd (rest : Option (List ℕ)) : Type 0 where
   pub told : (left : List ℕ) → rest ≡ Some left → left ≡ []
 
--- which names may be opened, and what each holds, stays the same
-pub record IsFixed (admits admits' : Role → List ℕ → Type 0) (text text' : List ℕ → Option (List ℕ)) : Type 0 where
-  pub admitted : (role : Role) (name : List ℕ) → admits role name → admits' role name
-  pub texts : (name : List ℕ) → text' name ≡ text name
+-- a name that might be opened for a role still may
+pub record StaysAdmitted (before after : Role → List ℕ → Type 0) : Type 0 where
+  pub each : (role : Role) (name : List ℕ) → before role name → after role name
+
+-- each name holds what it held
+pub record SameTexts (before after : InputState) : Type 0 where
+  pub each : (name : List ℕ) → after.text name ≡ before.text name
 
 -- the other roles stay as they were
-pub record OthersStay (role : Role) (opened opened' : Role → Bool) (rest rest' : Role → Option (List ℕ)) : Type 0 where
-  pub opened_same : (other : Role) → other ≢ role → opened' other ≡ opened other
-  pub rest_same : (other : Role) → other ≢ role → rest' other ≡ rest other
+pub record OthersStay (role : Role) (before after : InputState) : Type 0 where
+  pub opened : (other : Role) → other ≢ role → after.opened other ≡ before.opened other
+  pub rest : (other : Role) → other ≢ role → after.rest other ≡ before.rest other

@@ -1,6 +1,7 @@
-ghost use Rattle.std.specs.Prelude.{◌≡◌, ◌≤◌, Bool, true, false, length, is_some, IfOk};
+ghost use Rattle.std.specs.Prelude.{◌≡◌, ◌≤◌, true, false, length, is_some, IfOk};
 ghost use Rattle.shx_outside.specs.declared.role.Role.{Role};
-ghost use Rattle.shx_outside.specs.FileInputs.{is_opened, admits_all, no_text, no_rest};
+ghost use Rattle.shx_outside.specs.Outside.{admits_all};
+ghost use Rattle.shx_outside.specs.FileInputs.{is_opened, files_told};
 
 use crate::counted::count_up;
 use crate::{Failed, Inputs, Role};
@@ -21,6 +22,7 @@ pub struct FileInputs<'a, R: Files> {
 
 impl<'a, R: Files> Model for FileInputs<'a, R> {
     ghost use Rattle.std.specs.Prelude.{is_some};
+    ghost use Rattle.shx_outside.specs.Outside.{admits_all};
     ghost use Rattle.shx_outside.specs.FileInputs.{FileState};
 
     ghost Value = { FileState };
@@ -51,13 +53,7 @@ impl<'a, R: Files> FileInputs<'a, R> {
 impl<'a, R: Files> Inputs for FileInputs<'a, R> {
     ghost admits = { admits_all };
 
-    ghost text = { no_text };
-
-    ghost opened = { is_opened };
-
-    ghost rest = { no_rest };
-
-    ghost faults = { λ inputs. inputs.errors };
+    ghost state = { files_told };
 
     fn open(&mut self, role: Role, name: &str) -> Result<(), Failed> {
         let file = fs::open(self.files, name).ok();

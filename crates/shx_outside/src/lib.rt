@@ -1,4 +1,5 @@
-//! What the validator asks of the world around it, as three small traits, with their forms in memory and their adapters.
+//! What the validator asks of the world around it, as three small traits, with their forms in memory and
+//! their adapters.
 //!
 //! | file | what it holds |
 //! |---|---|
@@ -9,11 +10,13 @@
 //! | `name.rt`, `bytes.rt`, `named_text.rt` | `Name`, `Bytes`, `NamedText`: a text that is held in memory |
 //! | `memory_inputs.rt`, `memory_sink.rt` | the forms in memory, with calls that fail on demand |
 //! | `file_inputs.rt`, `std_sink.rt`, `regex_host.rt` | the adapters: files, standard output, `regex` |
-//! | `places.rt`, `counted.rt`, `memory.rt` | how far each role has read; counts of calls and faults; `Memory`, want of memory |
+//! | `places.rt` | how far each role has read |
+//! | `counted.rt`, `memory.rt` | counts of calls and faults; `Memory`, want of memory |
 //!
-//! It stands on `regex` alone. Start with `inputs.rt` and `sink.rt`; `specs/Told.antt` and `specs/Counted.antt` have the
-//! words of their contracts. What the outside holds is told where it can be known, in memory, and is not told by the
-//! adapters; that a failure has its cause is promised by all of them.
+//! It stands on `regex` alone. Start with `inputs.rt` and `sink.rt`; `specs/Outside.antt` has what the traits
+//! tell of themselves, and `specs/Told.antt` and `specs/Counted.antt` the words of their contracts. What the
+//! outside holds is told where it can be known, in memory, and not by the adapters; that a failure has its
+//! cause is promised by all of them. What several calls add up to is proved in `proofs/ToldLemmas.antt`.
 #![tactic(auto)]
 
 mod bytes;

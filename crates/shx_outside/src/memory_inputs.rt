@@ -1,8 +1,11 @@
-ghost use Rattle.std.specs.Prelude.{◌≡◌, ◌<◌, ◌≤◌, length, take, drop, min, true, not, ◌||◌, is_ok, is_err, IfOk, OnOk, OnErr, IfSome, if◌then◌else◌};
+ghost use Rattle.std.specs.Prelude.{◌≡◌, ◌<◌, ◌≤◌, length, take, drop, min, true, not, ◌||◌, is_ok, is_err};
+ghost use Rattle.std.specs.Prelude.{IfOk, OnOk, OnErr};
 ghost use Rattle.shx_outside.specs.declared.role.Role.{Role};
-ghost use Rattle.shx_outside.specs.Counted.{next_count, HasCause};
-ghost use Rattle.shx_outside.specs.MemoryInputs.{is_held, fails_next, left_for, is_opened, text_of, admits_all, KeepsTexts};
-ghost use Rattle.shx_outside.specs.Told.{Took, IsAtEnd, IsFixed, OthersStay};
+ghost use Rattle.shx_outside.specs.Counted.{next_count, faults_after, HasCause};
+ghost use Rattle.shx_outside.specs.MemoryInputs.{is_held, fails_next, left_for, inputs_told};
+ghost use Rattle.shx_outside.specs.MemoryInputs.{IsPieceOf, KeepsTexts};
+ghost use Rattle.shx_outside.specs.Outside.{admits_all};
+ghost use Rattle.shx_outside.specs.Told.{Took, IsAtEnd, StaysAdmitted, SameTexts, OthersStay};
 
 use crate::counted::{count_up, next_call_fails};
 use crate::places::{Place, Places, left_from, start_of};
@@ -22,10 +25,10 @@ pub struct MemoryInputs {
 
 impl Model for MemoryInputs {
     ghost use Rattle.std.specs.Prelude.{◌<◌};
-    ghost use Rattle.shx_outside.specs.MemoryInputs.{InputState};
+    ghost use Rattle.shx_outside.specs.MemoryInputs.{MemoryTexts};
     ghost use Rattle.shx_outside.specs.Places.{state_of, AreWithin};
 
-    ghost Value = { InputState };
+    ghost Value = { MemoryTexts };
 
     ghost view = { λ a. state_of a.files.items a.piece a.failing.items a.calls a.faults a.places };
 
@@ -33,8 +36,8 @@ impl Model for MemoryInputs {
 }
 
 impl MemoryInputs {
-    /// Calls of `open` and `read` are counted together from 1, and those whose number stands in `failing` fail.
-    /// A read gives at most `piece` bytes.
+    /// Calls of `open` and `read` are counted together from 1, and those whose number stands in `failing`
+    /// fail. A read gives at most `piece` bytes.
     pub fn new(files: Vec<NamedText>, piece: usize, failing: Vec<u64>) -> MemoryInputs
         requires { 0 < piece }
         ensures files { result.files ≡ files.items }
@@ -58,25 +61,20 @@ impl MemoryInputs {
 impl Inputs for MemoryInputs {
     ghost admits = { admits_all };
 
-    ghost text = { text_of };
-
-    ghost opened = { is_opened };
-
-    ghost rest = { left_for };
-
-    ghost faults = { λ inputs. inputs.faults };
+    ghost state = { inputs_told };
 
     fn open(&mut self, role: Role, name: &str) -> Result<(), Failed>
-        ensures opened { is_opened self.new role ≡ is_ok result }
-        ensures rest { OnOk result (left_for self.new role ≡ text_of self.old name.now) }
-        ensures others { OthersStay role (is_opened self.old) (is_opened self.new) (left_for self.old) (left_for self.new) }
-        ensures fixed { IsFixed (admits_all self.old) (admits_all self.new) (text_of self.old) (text_of self.new) }
+        ensures opened { (inputs_told self.new).opened role ≡ is_ok result }
+        ensures rest { OnOk result (left_for self.new role ≡ (inputs_told self.old).text name.now) }
+        ensures others { OthersStay role (inputs_told self.old) (inputs_told self.new) }
+        ensures admitted { StaysAdmitted (admits_all self.old) (admits_all self.new) }
+        ensures texts { SameTexts (inputs_told self.old) (inputs_told self.new) }
         ensures cause { HasCause self.old.faults self.new.faults result }
 
         ensures fails { is_err result ≡ (fails_next self.old || not (is_held self.old.files name.now)) }
         ensures calls { self.new.calls ≡ next_count self.old.calls }
-        ensures faults { self.new.faults ≡ (if is_err result then next_count self.old.faults else self.old.faults) }
-        ensures texts { KeepsTexts self.old self.new }
+        ensures faults { self.new.faults ≡ faults_after self.old.faults result }
+        ensures keeps { KeepsTexts self.old self.new }
     {
         self.places.set(role, None);
         let is_listed = next_call_fails(&self.failing, &mut self.calls);
@@ -93,22 +91,24 @@ impl Inputs for MemoryInputs {
     }
 
     fn read(&mut self, role: Role, room: &mut [u8]) -> Result<usize, Failed>
-        requires opened { is_opened self.old role ≡ true }
+        requires opened { (inputs_told self.old).opened role ≡ true }
         requires room { 0 < length room.old }
         ensures count { IfOk result (λ n. n ≤ length room.new) }
-        ensures took { IfOk result (λ n. Took (left_for self.old role) (left_for self.new role) (take n room.new)) }
+        ensures took { IfOk result (λ n.
+            Took (left_for self.old role) (left_for self.new role) (take n room.new)) }
         ensures end { IfOk result (λ n. n ≡ 0 → IsAtEnd (left_for self.new role)) }
         ensures failed { OnErr result (left_for self.new role ≡ left_for self.old role) }
-        ensures opened { is_opened self.new role ≡ true }
-        ensures others { OthersStay role (is_opened self.old) (is_opened self.new) (left_for self.old) (left_for self.new) }
-        ensures fixed { IsFixed (admits_all self.old) (admits_all self.new) (text_of self.old) (text_of self.new) }
+        ensures opened { (inputs_told self.new).opened role ≡ true }
+        ensures others { OthersStay role (inputs_told self.old) (inputs_told self.new) }
+        ensures admitted { StaysAdmitted (admits_all self.old) (admits_all self.new) }
+        ensures texts { SameTexts (inputs_told self.old) (inputs_told self.new) }
         ensures cause { HasCause self.old.faults self.new.faults result }
 
         ensures fails { is_err result ≡ fails_next self.old }
-        ensures piece { IfOk result (λ n. IfSome (left_for self.old role) (λ left. n ≡ min (min self.old.piece (length room.old)) (length left))) }
+        ensures piece { IfOk result (IsPieceOf (left_for self.old role) self.old.piece (length room.old)) }
         ensures calls { self.new.calls ≡ next_count self.old.calls }
-        ensures faults { self.new.faults ≡ (if is_err result then next_count self.old.faults else self.old.faults) }
-        ensures texts { KeepsTexts self.old self.new }
+        ensures faults { self.new.faults ≡ faults_after self.old.faults result }
+        ensures keeps { KeepsTexts self.old self.new }
     {
         if next_call_fails(&self.failing, &mut self.calls) {
             count_up(&mut self.faults);

@@ -26,5 +26,5 @@ impl RegexHost {
 }
 
 impl PatternHost for RegexHost {
-    ghost faults = { λ errors. errors };
+    ghost state = { λ errors. record { faults = errors } };
 }

@@ -6,7 +6,8 @@ use std::io;
 use std::io::Write;
 use std::marker::Model;
 
-/// Standard output. Each put is one write to it, with nothing kept back. It counts each write that fails or takes nothing.
+/// Standard output. Each put is one write to it, with nothing kept back. It counts each write that fails or
+/// takes nothing.
 #[derive(Drop)]
 pub struct StdSink<'a, P: Print> {
     output: &'a P,
@@ -30,11 +31,7 @@ impl<'a, P: Print> StdSink<'a, P> {
 }
 
 impl<'a, P: Print> Sink for StdSink<'a, P> {
-    ghost held = { λ _. None };
-
-    ghost room = { λ _. None };
-
-    ghost faults = { λ errors. errors };
+    ghost state = { λ errors. record { held = None; room = None; faults = errors } };
 
     fn put(&mut self, piece: &[u8]) -> Result<usize, Failed> {
         match io::writer(self.output).write(piece) {

@@ -1,5 +1,5 @@
 use Rattle.std.proofs.Common.{◌∙◌, sym, ap, is_some, Some, arith}
-use Rattle.shx_outside.proofs.Positions.{is_some-position, slice_get-position}
+use Rattle.shx_outside.proofs.PositionLemmas.{is_some-position, slice_get-position}
 use Rattle.shx_outside.specs.MemoryInputs.{is_named, bytes_of}
 use Rattle.shx_outside.proofs.places.start_of.Goals as goal
 
@@ -15,4 +15,5 @@ returns-clause-held c =
 
 pub returns-clause-text : goal.returns-clause-text
 returns-clause-text c _ =
-    ap (λ found. Some (bytes_of found)) (slice_get-position _ _ _ (sym c.first_named.ensures ∙ c.in_ok-file.was))
+    let at = sym c.first_named.ensures ∙ c.in_ok-file.was in
+    ap (λ found. Some (bytes_of found)) (slice_get-position _ _ _ at)

@@ -2,4 +2,4 @@ use Rattle.std.proofs.Common.{◌≡◌, true}
 use Rattle.shx_outside.proofs.tests.read_all.Given as goal
 
 abbrev pub invariant-loop : goal.invariant-loop
-invariant-loop g l = g.I.Inputs.opened l.inputs l.role ≡ true
+invariant-loop g l = (g.I.Inputs.state l.inputs).opened l.role ≡ true

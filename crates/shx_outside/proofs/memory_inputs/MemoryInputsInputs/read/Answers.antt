@@ -1,37 +1,65 @@
-use Rattle.std.proofs.Common.{◌≡◌, ◌+◌, ◌≤◌, ◌∙◌, sym, Some, length, arith}
-use Rattle.shx_outside.specs.Places.{place_of, left_at}
-use Rattle.shx_outside.specs.MemoryInputs.{left_for}
-use Rattle.shx_outside.proofs.PlaceChange.{AreWithin-with_place, IsWithin-place_of, IsWithin-moved}
-use Rattle.shx_outside.proofs.Left.{left_for-at, left_for-moved, Took-front, IsAtEnd-none}
+use Rattle.std.proofs.Common.{◌≡◌, ◌≤◌, ◌∙◌, ap, sym, List, ℕ, Some, length, drop, arith}
+use Rattle.shx_outside.specs.declared.named_text.NamedText.{NamedText}
+use Rattle.shx_outside.specs.declared.places.Places.{Places}
+use Rattle.shx_outside.specs.Places.{place_of, moved_on, left_at, state_of}
+use Rattle.shx_outside.specs.MemoryInputs.{MemoryTexts, left_for}
+use Rattle.shx_outside.proofs.PlaceLemmas.{AreWithin-with_place, IsWithin-place_of, IsWithin-moved}
+use Rattle.shx_outside.proofs.LeftLemmas.{left_for-at, left_for-moved}
+use Rattle.shx_outside.proofs.LeftLemmas.{Took-front, IsAtEnd-none, IsPieceOf-told}
 use Rattle.shx_outside.proofs.memory_inputs.MemoryInputsInputs.read.Goals as goal
 
-found : (c : goal.After-set) → place_of c.self.inside.places c.args.role ≡ Some c.in-Some.place
+abbrev files : goal.After-set → List NamedText
+files c = c.self.inside.files.items
+
+abbrev places : goal.After-set → Places
+places c = c.self.inside.places
+
+abbrev left : goal.After-set → List ℕ
+left c = c.left_from-left.result.now
+
+abbrev count : goal.After-set → ℕ
+count c = c.copy_piece-count.result
+
+found : (c : goal.After-set) → place_of (places c) c.args.role ≡ Some c.in-Some.place
 found c = sym c.get.ensures ∙ c.in-Some.is
 
-text : (c : goal.After-set) → left_at c.self.inside.files.items (Some c.in-Some.place) ≡ Some c.left_from-left.result.now
+text : (c : goal.After-set) → left_at (files c) (Some c.in-Some.place) ≡ Some (left c)
 text c = rw c.deref-2.ensures.value at c.left_from-left.ensures.left
 
-before : (c : goal.After-set) → left_for c.args.self.now c.args.role ≡ Some c.left_from-left.result.now
+before : (c : goal.After-set) → left_for c.args.self.now c.args.role ≡ Some (left c)
 before c =
-    left_for-at c.self.inside.files.items c.self.inside.piece c.self.inside.failing.items c.self.inside.calls c.self.inside.faults c.self.inside.places c.args.role c.in-Some.place c.left_from-left.result.now c.args.self.now c.self.view_is (found c) (text c)
+    let inside = c.self.inside in
+    left_for-at (files c) inside.piece inside.failing.items inside.calls inside.faults (places c)
+    c.args.role c.in-Some.place (left c) c.args.self.now c.self.view_is (found c) (text c)
+
+after : (c : goal.After-set) →
+    left_for (state_of (files c) c.self.inside.piece c.self.inside.failing.items c.next_call_fails.new.calls
+    c.self.inside.faults c.set.new.self) c.args.role ≡ Some (drop (count c) (left c))
+after c =
+    let inside = c.self.inside in
+    left_for-moved (files c) inside.piece inside.failing.items c.next_call_fails.new.calls inside.faults
+    c.set.new.self (places c) c.args.role c.in-Some.place (left c) (count c) c.set.ensures (text c)
 
 pub invariant_of-self-2 : goal.invariant_of-self-2
 invariant_of-self-2 c =
-    let most : c.copy_piece-count.result ≤ length c.left_from-left.result.now = omega (arith, c.copy_piece-count.ensures.count) in
-    let within = IsWithin-moved c.self.inside.files.items c.in-Some.place c.left_from-left.result.now c.copy_piece-count.result (IsWithin-place_of c.self.inside.files.items c.self.inside.places c.args.role c.in-Some.place c.self.invariant.1 (found c)) (text c) most in
-    rw c.set.ensures (c.self.invariant.0, AreWithin-with_place c.self.inside.files.items c.self.inside.places c.args.role (Some (record { file = c.in-Some.place.file; offset = c.in-Some.place.offset + c.copy_piece-count.result })) c.self.invariant.1 within)
+    let most : count c ≤ length (left c) = omega (arith, c.copy_piece-count.ensures.count) in
+    let all = c.self.invariant.1 in
+    let here = IsWithin-place_of (files c) (places c) c.args.role c.in-Some.place all (found c) in
+    let within = IsWithin-moved (files c) c.in-Some.place (left c) (count c) here (text c) most in
+    let moved = Some (moved_on c.in-Some.place (count c)) in
+    let each = AreWithin-with_place (files c) (places c) c.args.role moved all within in
+    rw c.set.ensures (c.self.invariant.0, each)
 
 pub returns-clause-took : goal.returns-clause-took
 returns-clause-took c =
-    Took-front _ _ c.left_from-left.result.now _ c.copy_piece-count.result (before c)
-    (left_for-moved c.self.inside.files.items c.self.inside.piece c.self.inside.failing.items c.next_call_fails.new.calls c.self.inside.faults c.self.inside.places c.set.new.self c.args.role c.in-Some.place c.left_from-left.result.now c.copy_piece-count.result c.set.ensures (text c))
-    c.copy_piece-count.ensures.copied
+    Took-front _ _ (left c) _ (count c) (before c) (after c) c.copy_piece-count.ensures.copied
 
 pub returns-clause-end : goal.returns-clause-end
 returns-clause-end c z =
-    IsAtEnd-none _ c.left_from-left.result.now c.copy_piece-count.result c.self.inside.piece (length c.args.room.now)
-    (left_for-moved c.self.inside.files.items c.self.inside.piece c.self.inside.failing.items c.next_call_fails.new.calls c.self.inside.faults c.self.inside.places c.set.new.self c.args.role c.in-Some.place c.left_from-left.result.now c.copy_piece-count.result c.set.ensures (text c))
+    IsAtEnd-none _ (left c) (count c) c.self.inside.piece (length c.args.room.now) (after c)
     c.self.invariant.0 c.requires.room c.copy_piece-count.ensures.count z
 
 pub returns-clause-piece : goal.returns-clause-piece
-returns-clause-piece c = rw (before c, ← c.self.view_is) c.copy_piece-count.ensures.count
+returns-clause-piece c =
+    let size = ap (λ (texts : MemoryTexts). texts.piece) c.self.view_is in
+    IsPieceOf-told _ (left c) _ c.self.inside.piece _ _ (before c) size c.copy_piece-count.ensures.count

@@ -1,0 +1,84 @@
+-- How a text falls into lines.
+use Rattle.std.proofs.Common.{◌≡◌, ℕ, ◌<◌, false, not, List, [], ◌∷◌, ◌++◌, length, refl, ap, ◌∙◌, inl, inr}
+use Rattle.std.proofs.Common.{arith}
+use Rattle.std.specs.List.{position_or_len, before_first, after_first, slice_split, All}
+use Rattle.std.proofs.lemmas.Bool.{cases_lt}
+use Rattle.std.proofs.lemmas.Grind.{common_steps}
+use Rattle.std.proofs.lemmas.List.Elements.{All-append}
+use Rattle.std.proofs.lemmas.List.Splits.{slice_split_at, slice_split_first, slice_split_none}
+use Rattle.std.proofs.lemmas.List.Splits.{length-slice_split}
+use Rattle.std.proofs.lemmas.List.Sums.{fails_before_first, prefix_len-le-length}
+use Rattle.text_input.specs.Lines.{is_line_feed, HasNoFeed, without_empty_end, lines_of, without_last}
+use Rattle.text_input.specs.Lines.{fed_lines}
+
+pub HasNoFeed-append : (xs ys : List ℕ) → HasNoFeed xs → HasNoFeed ys → HasNoFeed (xs ++ ys)
+HasNoFeed-append xs ys p q = record { each = All-append (λ b. is_line_feed b ≡ false) xs ys p.each q.each }
+
+part_kept : (part next : List ℕ) (parts : List (List ℕ))
+    → without_empty_end (part ∷ (next ∷ parts)) ≡ part ∷ without_empty_end (next ∷ parts)
+part_kept [] next parts = refl
+part_kept (b ∷ bs) next parts = refl
+
+end_kept : (part : List ℕ) → 0 < length part → without_empty_end (part ∷ []) ≡ part ∷ []
+end_kept [] h = absurd (omega arith)
+end_kept (b ∷ bs) h = refl
+
+first_kept : (part : List ℕ) (parts : List (List ℕ))
+    → 0 < length parts → without_empty_end (part ∷ parts) ≡ part ∷ without_empty_end parts
+first_kept part [] h = absurd (omega arith)
+first_kept part (next ∷ parts) h = part_kept part next parts
+
+not_last : (part : List ℕ) (parts : List (List ℕ))
+    → 0 < length parts → without_last (part ∷ parts) ≡ part ∷ without_last parts
+not_last part [] h = absurd (omega arith)
+not_last part (next ∷ parts) h = refl
+
+some_parts : (bytes : List ℕ) → 0 < length (slice_split is_line_feed bytes)
+some_parts bytes = omega (arith, length-slice_split is_line_feed bytes)
+
+module _ (first rest : List ℕ) (plain : HasNoFeed first) where
+  split_at_feed : slice_split is_line_feed (first ++ 10 ∷ rest) ≡ first ∷ slice_split is_line_feed rest
+  split_at_feed = slice_split_at is_line_feed first 10 rest plain.each refl
+
+  pub lines_of-first : lines_of (first ++ 10 ∷ rest) ≡ first ∷ lines_of rest
+  lines_of-first =
+      ap without_empty_end split_at_feed
+      ∙ first_kept first (slice_split is_line_feed rest) (some_parts rest)
+
+  pub fed_lines-first : fed_lines (first ++ 10 ∷ rest) ≡ first ∷ fed_lines rest
+  fed_lines-first =
+      ap without_last split_at_feed ∙ not_last first (slice_split is_line_feed rest) (some_parts rest)
+
+pub fed_lines-none : (part : List ℕ) → HasNoFeed part → fed_lines part ≡ []
+fed_lines-none part plain = ap without_last (slice_split_none is_line_feed part plain.each)
+
+-- a last line without a line feed
+pub lines_of-last : (last : List ℕ) → HasNoFeed last → 0 < length last → lines_of last ≡ last ∷ []
+lines_of-last last plain some =
+    ap without_empty_end (slice_split_none is_line_feed last plain.each) ∙ end_kept last some
+
+lines_to_feed : (text : List ℕ) → position_or_len is_line_feed text < length text
+    → lines_of text ≡ before_first is_line_feed text ∷ lines_of (after_first is_line_feed text)
+lines_to_feed text h =
+    let after = after_first is_line_feed text in
+    ap without_empty_end (slice_split_first is_line_feed text 0 h)
+    ∙ first_kept (before_first is_line_feed text) (slice_split is_line_feed after) (some_parts after)
+
+lines_to_end : (text : List ℕ) → 0 < length text → position_or_len is_line_feed text ≡ length text
+    → lines_of text ≡ before_first is_line_feed text ∷ lines_of (after_first is_line_feed text)
+lines_to_end text some at =
+    let none : All (λ b. is_line_feed b ≡ false) text =
+    λ k d below. fails_before_first is_line_feed text k d (omega arith) in
+    let whole : before_first is_line_feed text ≡ text = grind (arith, common_steps) in
+    let nothing : after_first is_line_feed text ≡ [] = grind (arith, common_steps) in
+    rw (whole, nothing) (lines_of-last text (record { each = none }) some)
+
+-- a text begins with the line up to its first line feed, or is one line
+pub first_line : (text : List ℕ) → 0 < length text
+    → lines_of text ≡ before_first is_line_feed text ∷ lines_of (after_first is_line_feed text)
+first_line text some =
+    elim (cases_lt (position_or_len is_line_feed text) (length text)) [
+      | inl within ↦ lines_to_feed text within
+      | inr past ↦
+          lines_to_end text some (omega (arith, prefix_len-le-length (λ b. not (is_line_feed b)) text))
+    ]

@@ -1,0 +1,35 @@
+-- What reading a text to its end, or past a limit, gives.
+use Rattle.std.specs.Prelude.{◌≡◌, ℕ, ◌+◌, ◌<◌, ◌≤◌, List, ◌++◌, Option, Some, length, Result, Ok, Err}
+use Rattle.shx_outside.specs.Counted.{Rose}
+use Rattle.shx_outside.specs.Told.{IsAtEnd}
+use Rattle.text_input.specs.declared.read_fault.ReadFault.{ReadFault}
+use Rattle.text_input.specs.declared.read_fault.ReadFault.TheVariants.{TooLong, Input, Memory}
+
+-- these bytes are the whole text, and no more than the limit
+pub record ReadsWhole (told rest : Option (List ℕ)) (most : ℕ) (bytes : List ℕ) : Type 0 where
+  pub at_end : IsAtEnd rest
+  pub whole : (text : List ℕ) → told ≡ Some text → bytes ≡ text
+  pub within : length bytes ≤ most
+
+-- the text is longer than the limit
+pub record IsTooLong (told : Option (List ℕ)) (most : ℕ) : Type 0 where
+  pub longer : (text : List ℕ) → told ≡ Some text → most < length text
+
+-- a front of the text was taken: one byte past the limit at most, and the rest is left
+pub record TakenFront (text : List ℕ) (rest : Option (List ℕ)) (most : ℕ) : Type 0 where
+  pub taken : List ℕ
+  pub left : List ℕ
+  pub whole : text ≡ taken ++ left
+  pub rest_is : rest ≡ Some left
+  pub within : length taken ≤ most + 1
+
+-- where the text is told, no more than one byte past the limit was taken of it
+pub record TakesWithin (told rest : Option (List ℕ)) (most : ℕ) : Type 0 where
+  pub front : (text : List ℕ) → told ≡ Some text → TakenFront text rest most
+
+-- the inputs' count rose where they failed, and in no other case
+abbrev pub HasInputCause : {T : Type 0} → ℕ → ℕ → Result T ReadFault → Type 0
+HasInputCause before now (Ok read) = now ≡ before
+HasInputCause before now (Err TooLong) = now ≡ before
+HasInputCause before now (Err Input) = Rose before now
+HasInputCause before now (Err Memory) = now ≡ before

@@ -1,1 +1,8 @@
-mod KeySets
+pub mod AgreeLemmas
+pub mod KeyLemmas
+pub mod LookUpLemmas
+pub mod ReadsLemmas
+pub mod SameGraphLemmas
+pub mod SameLookUpLemmas
+pub mod TripleSetLemmas
+pub mod ValidLemmas

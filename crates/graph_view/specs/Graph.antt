@@ -1,9 +1,11 @@
 -- A graph: terms, each numbered by its place, and triples of numbers.
 use Rattle.std.specs.Prelude.{◌≡◌, ℕ, ◌<◌, not, List, [], ◌∷◌, map, filter, length, Contains, ◌↔◌, ◌⊎◌, All}
+use Rattle.std.specs.List.{IsDistinct}
 use Rattle.shx_term.specs.declared.term.Term.{Term}
 use Rattle.shx_term.specs.declared.triple.Triple.{Triple}
 use Rattle.shx_term.specs.Triple.{same_triple}
 use Rattle.shx_term.specs.IdOrder.{in_term_order}
+use Rattle.shx_term.specs.Pool.{Pooled}
 use Rattle.shx_term.specs.TripleOrder.{in_triple_order}
 use Rattle.graph_view.specs.declared.key.Key.TheVariants.{Out, In, Subject, Predicate}
 use Rattle.graph_view.specs.Key.{look}
@@ -11,6 +13,10 @@ use Rattle.graph_view.specs.Key.{look}
 pub record Graph : Type 0 where
   pub terms : List Term
   pub triples : List Triple
+
+-- the terms as a pool that may hold so many
+abbrev pub pooled : Graph → ℕ → Pooled
+pooled g limit = record { terms = g.terms; limit = limit }
 
 -- the numbers of a triple have terms
 pub record IsKnownTriple (terms : List Term) (t : Triple) : Type 0 where
@@ -22,15 +28,19 @@ pub record IsKnownTriple (terms : List Term) (t : Triple) : Type 0 where
 abbrev pub AllKnown : Graph → Type 0
 AllKnown g = All (IsKnownTriple g.terms) g.triples
 
--- as many triples as the limit are held, and t is none of them
-pub record IsAtLimit (triples : List Triple) (limit : ℕ) (t : Triple) : Type 0 where
-  pub at_limit : length triples ≡ limit
-  pub absent : Contains triples t → ⊥
+-- the triples are a set of triples of numbers that have terms
+pub record IsGraph (g : Graph) : Type 0 where
+  pub distinct : IsDistinct same_triple g.triples
+  pub known : AllKnown g
 
 -- each triple of a list at its first place
 abbrev pub first_places : List Triple → List Triple
 first_places [] = []
 first_places (t ∷ ts) = t ∷ filter (λ u. not (same_triple t u)) (first_places ts)
+
+-- the graph of a list of triples, such as those of a text, in which a triple may stand more than once
+abbrev pub graph_of : List Term → List Triple → Graph
+graph_of terms triples = record { terms = terms; triples = first_places triples }
 
 -- the objects of a subject and predicate, in term order
 abbrev pub objects_of : Graph → ℕ → ℕ → List ℕ
@@ -55,3 +65,13 @@ pub record HasAlso (g h : List Triple) (t : Triple) : Type 0 where
 -- h holds the triples of g other than t, and no others
 pub record HasNot (g h : List Triple) (t : Triple) : Type 0 where
   pub each : (u : Triple) → Contains h u ↔ (Contains g u × (u ≡ t → ⊥))
+
+-- as many triples as the limit are held, and t is none of them
+pub record IsAtLimit (triples : List Triple) (limit : ℕ) (t : Triple) : Type 0 where
+  pub at_limit : length triples ≡ limit
+  pub absent : Contains triples t → ⊥
+
+-- fewer triples than the limit are held, and t is none of them
+pub record HasRoomForTriple (triples : List Triple) (limit : ℕ) (t : Triple) : Type 0 where
+  pub below_limit : length triples < limit
+  pub absent : Contains triples t → ⊥

@@ -1,10 +1,9 @@
 pub mod Agree
 pub mod Graph
 pub mod Key
+pub mod KeyLaws
 pub mod ListGraph
-pub mod LookUps
 pub mod Reads
 pub mod SameGraph
-pub mod SameLookUps
 pub mod StoreFault
 pub mod Valid

@@ -1,7 +1,12 @@
-ghost use Rattle.std.specs.Prelude.{◌≡◌, ◌≤◌, ◌+◌, ◌↔◌, ℕ, Some, length, position, slice_get, Contains, if◌then◌else◌, IsTrue, IfOk, IfErr, OnOk, OnErr};
+ghost use Rattle.std.specs.Prelude.{◌≡◌, ◌≤◌, ◌+◌, ◌↔◌, ℕ, Some, length, position, Contains, if◌then◌else◌};
+ghost use Rattle.std.specs.Prelude.{IsTrue, IfOk, IfErr, OnOk, OnErr};
+ghost use Rattle.shx_term.specs.Pool.{with_term, IsFullFor, HasRoomFor};
 ghost use Rattle.shx_term.specs.TermOrder.{same_term};
-ghost use Rattle.shx_term.specs.Pool.{with_term, IsFullFor};
-ghost use Rattle.graph_view.specs.Graph.{HasAlso, HasNot, IsKnownTriple, IsAtLimit};
+ghost use Rattle.shx_term.specs.declared.term.Term.{Term};
+ghost use Rattle.shx_term.specs.declared.triple.Triple.{Triple};
+ghost use Rattle.graph_view.specs.Agree.{Agree, IsAnyKey, IsUntouched};
+ghost use Rattle.graph_view.specs.Graph.{Graph, pooled, IsKnownTriple, HasAlso, HasNot};
+ghost use Rattle.graph_view.specs.Graph.{IsAtLimit, HasRoomForTriple};
 
 use crate::GraphView;
 use shx_term::{Id, PoolFault, Term, Triple};
@@ -65,20 +70,24 @@ pub trait GraphEdit: GraphView {
         ensures value { result ≡ triple_limit self.now }
         ensures within { length (Self.graph self.now).triples ≤ triple_limit self.now };
 
-    /// Enters a term into the pool; the triples stay.
+    /// Enters a term into the pool; the triples stay. A term that is held takes no memory.
     fn enter(&mut self, term: &Term) -> Result<Id, PoolFault>
-        ensures entered { OnOk result ((Self.graph self.new).terms ≡ with_term (Self.graph self.old).terms term.now) }
-        ensures found { IfOk result (λ id. position (same_term term.now) (Self.graph self.new).terms ≡ Some id) }
+        ensures entered { OnOk result
+            ((Self.graph self.new).terms ≡ with_term (Self.graph self.old).terms term.now) }
+        ensures found { IfOk result (λ id.
+            position (same_term term.now) (Self.graph self.new).terms ≡ Some id) }
         ensures triples { (Self.graph self.new).triples ≡ (Self.graph self.old).triples }
         ensures term_limit { Self.term_limit self.new ≡ Self.term_limit self.old }
         ensures triple_limit { triple_limit self.new ≡ triple_limit self.old }
         ensures refused { OnErr result (Self.graph self.new ≡ Self.graph self.old) }
         ensures full { IfErr result (λ fault. fault ≡ PoolFault.Full
-            → IsFullFor (record { terms = (Self.graph self.old).terms; limit = Self.term_limit self.old }) term.now) }
+            → IsFullFor (pooled (Self.graph self.old) (Self.term_limit self.old)) term.now) }
+        ensures memory { IfErr result (λ fault. fault ≡ PoolFault.Memory
+            → HasRoomFor (pooled (Self.graph self.old) (Self.term_limit self.old)) term.now) }
         ensures room { OnOk result
-            (IsFullFor (record { terms = (Self.graph self.old).terms; limit = Self.term_limit self.old }) term.now → ⊥) };
+            (IsFullFor (pooled (Self.graph self.old) (Self.term_limit self.old)) term.now → ⊥) };
 
-    /// Adds a triple; `Ok(false)` says that it was held. The pool stays.
+    /// Adds a triple; `Ok(false)` says that it was held, and takes no memory. The pool stays.
     fn insert(&mut self, t: Triple) -> Result<bool, StoreFault>
         requires { IsKnownTriple (Self.graph self.old).terms t }
         ensures terms { (Self.graph self.new).terms ≡ (Self.graph self.old).terms }
@@ -86,11 +95,13 @@ pub trait GraphEdit: GraphView {
         ensures triple_limit { triple_limit self.new ≡ triple_limit self.old }
         ensures added { OnOk result (HasAlso (Self.graph self.old).triples (Self.graph self.new).triples t) }
         ensures new { IfOk result (λ new. IsTrue new ↔ (Contains (Self.graph self.old).triples t → ⊥)) }
-        ensures count { IfOk result (λ new.
-            length (Self.graph self.new).triples ≡ length (Self.graph self.old).triples + (if new then 1 else 0)) }
+        ensures count { IfOk result (λ new. length (Self.graph self.new).triples
+            ≡ length (Self.graph self.old).triples + (if new then 1 else 0)) }
         ensures refused { OnErr result (Self.graph self.new ≡ Self.graph self.old) }
         ensures full { IfErr result (λ fault. fault ≡ StoreFault.TooMany
             → IsAtLimit (Self.graph self.old).triples (triple_limit self.old) t) }
+        ensures memory { IfErr result (λ fault. fault ≡ StoreFault.Memory
+            → HasRoomForTriple (Self.graph self.old).triples (triple_limit self.old) t) }
         ensures room { OnOk result (IsAtLimit (Self.graph self.old).triples (triple_limit self.old) t → ⊥) };
 
     /// Removes a triple; `true` says that it was held. The pool stays. It takes no memory.
@@ -100,5 +111,17 @@ pub trait GraphEdit: GraphView {
         ensures triple_limit { triple_limit self.new ≡ triple_limit self.old }
         ensures removed { HasNot (Self.graph self.old).triples (Self.graph self.new).triples t.now }
         ensures held { IsTrue result ↔ Contains (Self.graph self.old).triples t.now }
-        ensures count { length (Self.graph self.new).triples + (if result then 1 else 0) ≡ length (Self.graph self.old).triples };
+        ensures count { length (Self.graph self.new).triples + (if result then 1 else 0)
+            ≡ length (Self.graph self.old).triples };
 }
+
+/// Edits change no more than they say. After a term is entered the graph agrees with what it was on every
+/// key; after a triple is inserted or removed, on every key that the triple does not touch.
+pub fn edits_agree()
+    ensures entered { (g h : Graph) (t : Term) → h.terms ≡ with_term g.terms t → h.triples ≡ g.triples
+        → Agree g h IsAnyKey }
+    ensures inserted { (g h : Graph) (t : Triple) → h.terms ≡ g.terms → HasAlso g.triples h.triples t
+        → Agree g h (IsUntouched t) }
+    ensures removed { (g h : Graph) (t : Triple) → h.terms ≡ g.terms → HasNot g.triples h.triples t
+        → Agree g h (IsUntouched t) }
+{}

@@ -2,10 +2,11 @@ ghost use Rattle.std.specs.Prelude.{◌≡◌, ◌↔◌, IsTrue};
 ghost use Rattle.graph_view.specs.Key.{Touches, is_touching, key_kind, key_first, key_second};
 
 use shx_term::{Id, Triple};
+use std::cmp::Ordering;
 use std::hash::{Hash, Hasher};
 
-/// A part of a graph that a look-up reads: the triples of a subject and predicate, of a predicate and object, of a
-/// subject, or of a predicate.
+/// A part of a graph that a look-up reads: the triples of a subject and predicate, of a predicate and
+/// object, of a subject, or of a predicate.
 #[derive(Clone, Copy, Debug)]
 pub enum Key {
     Out(Id, Id),
@@ -49,7 +50,8 @@ fn second(key: &Key) -> Id
 
 impl PartialEq for Key {
     ghost use Rattle.std.specs.Cmp;
-    ghost use Rattle.graph_view.specs.Key.{same_key, same_key_equiv};
+    ghost use Rattle.graph_view.specs.Key.{same_key};
+    ghost use Rattle.graph_view.specs.KeyLaws.{same_key_equiv};
 
     ghost eq = { same_key };
 
@@ -61,20 +63,56 @@ impl PartialEq for Key {
 }
 
 impl Eq for Key {
-    ghost use Rattle.graph_view.specs.Key.{same_key_equiv};
+    ghost use Rattle.graph_view.specs.KeyLaws.{same_key_equiv};
 
     ghost laws = { same_key_equiv };
 }
 
+impl PartialOrd for Key {
+    ghost use Rattle.std.specs.Prelude.{Some};
+    ghost use Rattle.std.specs.Cmp.{po};
+    ghost use Rattle.graph_view.specs.Key.{key_cmp};
+    ghost use Rattle.graph_view.specs.KeyLaws.{key_cmp_total, key_cmp_ties};
+
+    ghost partial_cmp = { λ a b. Some (key_cmp a b) };
+
+    ghost laws = { po key_cmp_total key_cmp_ties };
+
+    fn partial_cmp(&self, other: &Self) -> Option<Ordering> {
+        Some(self.cmp(other))
+    }
+}
+
+/// By the kind of part, in the order of the variants, and then by the two numbers.
+impl Ord for Key {
+    ghost use Rattle.std.specs.Prelude.{refl};
+    ghost use Rattle.graph_view.specs.Key.{key_cmp};
+    ghost use Rattle.graph_view.specs.KeyLaws.{key_cmp_total, key_cmp_ties};
+
+    ghost cmp = { key_cmp };
+
+    ghost total = { key_cmp_total };
+
+    ghost matches_partial_cmp = { λ a b. refl };
+
+    ghost matches_eq = { key_cmp_ties };
+
+    fn cmp(&self, other: &Self) -> Ordering {
+        let by_kind = kind(self).cmp(&kind(other));
+        let by_first = first(self).cmp(&first(other));
+        let by_second = second(self).cmp(&second(other));
+        by_kind.then(by_first.then(by_second))
+    }
+}
+
 impl Hash for Key {
-    ghost use Rattle.std.specs.Prelude.{◌++◌};
-    ghost use Rattle.std.specs.Hash as fed;
     ghost use Rattle.std.proofs.Common.{ap};
-    ghost use Rattle.graph_view.specs.Key.{key_kind, key_first, key_second, same_key_exact};
+    ghost use Rattle.graph_view.specs.Key.{key_hash_input};
+    ghost use Rattle.graph_view.specs.KeyLaws.{same_key_exact};
 
-    ghost hash_input = { λ k. fed.u8 (key_kind k) ++ (fed.u32 (key_first k) ++ fed.u32 (key_second k)) };
+    ghost hash_input = { key_hash_input };
 
-    ghost respects_eq = { λ a b h. ap (λ k. fed.u8 (key_kind k) ++ (fed.u32 (key_first k) ++ fed.u32 (key_second k))) (same_key_exact a b h) };
+    ghost respects_eq = { λ a b h. ap key_hash_input (same_key_exact a b h) };
 
     fn hash<H: Hasher>(&self, state: &mut H) {
         kind(self).hash(state);

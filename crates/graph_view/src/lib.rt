@@ -2,15 +2,16 @@
 //!
 //! | file | what it holds |
 //! |---|---|
-//! | `key.rt` | `Key`: the part of a graph that a look-up reads; `touches` |
+//! | `key.rt` | `Key`: the part of a graph that a look-up reads, with an order; `touches` |
 //! | `reads.rt` | `Reads`: a set of keys |
-//! | `view.rt` | `GraphView`: look-ups, each of which adds its key to the reads |
-//! | `edit.rt` | `GraphEdit`: a graph that takes new terms, and takes and gives up triples |
+//! | `view.rt` | `GraphView`: look-ups, each of which adds its key to the reads; what they give and tell |
+//! | `edit.rt` | `GraphEdit`: a graph that takes new terms, takes and gives up triples; what edits spare |
 //! | `list_graph.rt` | `ListGraph`: the plain form, whose look-ups go over all triples |
 //!
-//! It stands on `shx_term` and `indexmap`. Start with `view.rt`; `specs/Graph.antt` says what a graph and a look-up are,
-//! `specs/Key.antt` when a triple touches a key, `specs/Agree.antt` when two graphs look the same to a reader of some keys,
-//! and `specs/Valid.antt` which views are valid.
+//! It stands on `shx_term` and `indexmap`. Start with `view.rt`; `specs/Graph.antt` says what a graph and a
+//! look-up are, `specs/Key.antt` when a triple touches a key, `specs/Agree.antt` when two graphs look the
+//! same to a reader of some keys, `specs/SameGraph.antt` when no look-up tells two graphs apart, and
+//! `specs/Valid.antt` which views are valid.
 #![tactic(auto)]
 
 mod edit;
@@ -21,8 +22,8 @@ mod reads;
 mod tests;
 mod view;
 
-pub use edit::{GraphEdit, StoreFault};
+pub use edit::{GraphEdit, StoreFault, edits_agree};
 pub use key::{Key, touches};
 pub use list_graph::ListGraph;
 pub use reads::Reads;
-pub use view::{GraphView, look_ups_give_what_is_held};
+pub use view::{GraphView, look_ups_agree, look_ups_give_what_is_held};

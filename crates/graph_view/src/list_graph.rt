@@ -16,15 +16,13 @@ pub struct ListGraph {
 }
 
 impl Model for ListGraph {
-    ghost use Rattle.std.specs.Prelude.{All, length, ◌≤◌, ◌<◌, ◌^◌};
-    ghost use Rattle.graph_view.specs.ListGraph.{PlainGraph};
-    ghost use Rattle.graph_view.specs.Graph.{IsKnownTriple};
+    ghost use Rattle.graph_view.specs.ListGraph.{PlainGraph, IsWithinLimit};
 
     ghost Value = { PlainGraph };
 
     ghost view = { λ a. record { pool = a.pool; triples = a.triples.keys; limit = a.limit } };
 
-    ghost invariant = { λ a. All (IsKnownTriple a.pool.terms) a.triples.keys × (length a.triples.keys ≤ a.limit) × (a.limit < 2 ^ 64) };
+    ghost invariant = { λ a. IsWithinLimit a.pool.terms a.triples.keys a.limit };
 }
 
 impl ListGraph {
@@ -37,6 +35,13 @@ impl ListGraph {
             triples: IndexSet::new(alloc),
             limit,
         }
+    }
+
+    /// The triples, in no order that is told. It takes no memory, and constant time.
+    pub fn triples(&self) -> &[Triple]
+        ensures { result.now ≡ self.now.triples }
+    {
+        self.triples.as_slice()
     }
 
     /// The pool, without the triples. It takes no memory.
@@ -75,28 +80,28 @@ impl GraphView for ListGraph {
         let key = Key::Out(s, p);
         let found = objects_among(alloc, self.triples.as_slice(), &key)?;
         reads.add(key)?;
-        Ok(self.pool.in_order(found)?)
+        Ok(self.pool.in_order(found))
     }
 
     fn subjects(&self, alloc: Global, p: Id, o: Id, reads: &mut Reads) -> Result<Vec<Id>, Memory> {
         let key = Key::In(p, o);
         let found = subjects_among(alloc, self.triples.as_slice(), &key)?;
         reads.add(key)?;
-        Ok(self.pool.in_order(found)?)
+        Ok(self.pool.in_order(found))
     }
 
     fn triples_of(&self, alloc: Global, s: Id, reads: &mut Reads) -> Result<Vec<Triple>, Memory> {
         let key = Key::Subject(s);
         let found = triples_among(alloc, self.triples.as_slice(), &key)?;
         reads.add(key)?;
-        Ok(self.pool.triples_in_order(found)?)
+        Ok(self.pool.triples_in_order(found))
     }
 
     fn triples_with(&self, alloc: Global, p: Id, reads: &mut Reads) -> Result<Vec<Triple>, Memory> {
         let key = Key::Predicate(p);
         let found = triples_among(alloc, self.triples.as_slice(), &key)?;
         reads.add(key)?;
-        Ok(self.pool.triples_in_order(found)?)
+        Ok(self.pool.triples_in_order(found))
     }
 }
 

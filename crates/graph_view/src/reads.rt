@@ -1,4 +1,5 @@
-ghost use Rattle.std.specs.Prelude.{◌≡◌, ◌<◌, ◌↔◌, [], ◌∷◌, Some, length, slice_get, Contains, IsTrue, OnOk, OnErr};
+ghost use Rattle.std.specs.Prelude.{◌≡◌, ◌<◌, ◌↔◌, ℕ, [], ◌∷◌, Some, length, take, slice_get};
+ghost use Rattle.std.specs.Prelude.{Contains, IsTrue, OnOk, OnErr};
 ghost use Rattle.std.specs.List.{IsDistinct};
 ghost use Rattle.graph_view.specs.Key.{same_key};
 ghost use Rattle.graph_view.specs.Reads.{Adds};
@@ -47,6 +48,18 @@ impl Reads {
         ensures refused { OnErr result (self.new ≡ self.old) }
     {
         self.keys.insert(key)?;
+        Ok(())
+    }
+
+    /// Adds all keys of another set, with one look-up by hash for each. Where it is refused, some of the
+    /// first keys may have been added.
+    pub fn add_all(&mut self, other: &Reads) -> Result<(), Memory>
+        ensures added { OnOk result (Adds self.old self.new other.now) }
+        ensures refused { OnErr result ((n : ℕ) × Adds self.old self.new (take n other.now)) }
+    {
+        for key in other.keys.as_slice() {
+            self.add(*key)?;
+        }
         Ok(())
     }
 

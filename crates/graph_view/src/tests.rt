@@ -64,6 +64,51 @@ fn reads_hold_a_key_once(rt: HostRuntime) -> Result<(), Fail> {
 }
 
 #[test]
+fn keys_of_another_set_are_added(rt: HostRuntime) -> Result<(), Fail> {
+    let mut reads = Reads::new(rt.alloc());
+    reads.add(Key::Out(1, 2))?;
+    let mut more = Reads::new(rt.alloc());
+    more.add(Key::Predicate(2))?;
+    more.add(Key::Out(1, 2))?;
+    more.add(Key::Subject(1))?;
+    reads.add_all(&more)?;
+    assert_eq!(rt; reads.len(), 3);
+    for key in [Key::Out(1, 2), Key::Predicate(2), Key::Subject(1)] {
+        assert!(rt; reads.has(&key), "{key:?}");
+    }
+    Ok(())
+}
+
+#[test]
+fn keys_are_in_order_of_kind_and_numbers(rt: HostRuntime) {
+    let keys = [
+        Key::Out(1, 3),
+        Key::Out(2, 1),
+        Key::Out(2, 2),
+        Key::In(1, 1),
+        Key::Subject(0),
+        Key::Predicate(0),
+    ];
+    for (low, high) in keys.iter().zip(&keys[1..]) {
+        assert!(rt; low < high, "{low:?} {high:?}");
+    }
+}
+
+#[test]
+fn a_graph_lends_its_triples(rt: HostRuntime) -> Result<(), Fail> {
+    let mut graph = empty_graph(rt.alloc(), 1)?;
+    assert!(rt; graph.triples().is_empty());
+    let t = triple(SH_NODE_SHAPE, RDF_TYPE, RDFS_CLASS);
+    assert_eq!(rt; insert(&rt, &mut graph, t), Ok(true));
+    assert_triples(
+        &rt,
+        graph.triples(),
+        &[(SH_NODE_SHAPE, RDF_TYPE, RDFS_CLASS)],
+    );
+    Ok(())
+}
+
+#[test]
 fn a_graph_gives_its_pool_back(rt: HostRuntime) -> Result<(), Fail> {
     let graph = empty_graph(rt.alloc(), 5)?;
     assert_eq!(rt; graph.len(), 0);
@@ -382,6 +427,8 @@ fn a_removed_triple_can_be_inserted_again(rt: HostRuntime) -> Result<(), Fail> {
 }
 
 #[test]
-fn look_ups_give_what_they_say() {
+fn look_ups_and_edits_do_what_they_say() {
     look_ups_give_what_is_held();
+    look_ups_agree();
+    edits_agree();
 }

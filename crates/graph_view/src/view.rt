@@ -2,6 +2,7 @@ ghost use Rattle.std.specs.Prelude.{◌≡◌, ◌↔◌, ℕ, [], ◌∷◌, le
 ghost use Rattle.std.specs.List.{IsDistinct};
 ghost use Rattle.shx_term.specs.Triple.{same_triple};
 ghost use Rattle.shx_term.specs.declared.triple.Triple.{Triple};
+ghost use Rattle.graph_view.specs.Agree.{Agree};
 ghost use Rattle.graph_view.specs.Graph.{Graph, AllKnown, objects_of, subjects_of, triples_of, triples_with};
 ghost use Rattle.graph_view.specs.Reads.{Adds};
 
@@ -55,11 +56,27 @@ pub trait GraphView {
         ensures reads { OnOk result (Adds reads.old reads.new (Key.Predicate p ∷ [])) };
 }
 
-/// What look-ups give is what is held, and nothing else: a number is given exactly where its triple is held, and a triple
-/// exactly where it is held and has the subject or the predicate that was asked for.
+/// What look-ups give is what is held, and nothing else: a number is given exactly where its triple is
+/// held, and a triple exactly where it is held and has the subject or the predicate that was asked for.
 pub fn look_ups_give_what_is_held()
-    ensures objects { (g : Graph) (s p o : ℕ) → Contains (objects_of g s p) o ↔ Contains g.triples (record { s = s; p = p; o = o }) }
-    ensures subjects { (g : Graph) (p o s : ℕ) → Contains (subjects_of g p o) s ↔ Contains g.triples (record { s = s; p = p; o = o }) }
-    ensures by_subject { (g : Graph) (s : ℕ) (t : Triple) → Contains (triples_of g s) t ↔ (Contains g.triples t × (t.s ≡ s)) }
-    ensures by_predicate { (g : Graph) (p : ℕ) (t : Triple) → Contains (triples_with g p) t ↔ (Contains g.triples t × (t.p ≡ p)) }
+    ensures objects { (g : Graph) (s p o : ℕ)
+        → Contains (objects_of g s p) o ↔ Contains g.triples (record { s = s; p = p; o = o }) }
+    ensures subjects { (g : Graph) (p o s : ℕ)
+        → Contains (subjects_of g p o) s ↔ Contains g.triples (record { s = s; p = p; o = o }) }
+    ensures by_subject { (g : Graph) (s : ℕ) (t : Triple)
+        → Contains (triples_of g s) t ↔ (Contains g.triples t × (t.s ≡ s)) }
+    ensures by_predicate { (g : Graph) (p : ℕ) (t : Triple)
+        → Contains (triples_with g p) t ↔ (Contains g.triples t × (t.p ≡ p)) }
+{}
+
+/// A look-up tells no more than its key: it gives the same in graphs that agree on the key.
+pub fn look_ups_agree()
+    ensures objects { (g h : Graph) (s p : ℕ) → AllKnown g
+        → Agree g h (λ key. key ≡ Key.Out s p) → objects_of g s p ≡ objects_of h s p }
+    ensures subjects { (g h : Graph) (p o : ℕ) → AllKnown g
+        → Agree g h (λ key. key ≡ Key.In p o) → subjects_of g p o ≡ subjects_of h p o }
+    ensures by_subject { (g h : Graph) (s : ℕ) → AllKnown g
+        → Agree g h (λ key. key ≡ Key.Subject s) → triples_of g s ≡ triples_of h s }
+    ensures by_predicate { (g h : Graph) (p : ℕ) → AllKnown g
+        → Agree g h (λ key. key ≡ Key.Predicate p) → triples_with g p ≡ triples_with h p }
 {}

@@ -1,4 +1,5 @@
-use Rattle.graph_view.specs.LookUps.{Contains-objects_of, Contains-subjects_of, Contains-triples_of, Contains-triples_with}
+use Rattle.graph_view.proofs.LookUpLemmas.{Contains-objects_of, Contains-subjects_of}
+use Rattle.graph_view.proofs.LookUpLemmas.{Contains-triples_of, Contains-triples_with}
 use Rattle.graph_view.proofs.view.look_ups_give_what_is_held.Goals as goal
 
 pub returns-clause-objects : goal.returns-clause-objects

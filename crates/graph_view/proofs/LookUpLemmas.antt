@@ -1,0 +1,79 @@
+-- What look-ups give: what is held, and nothing else.
+use Rattle.std.specs.Prelude.{◌≡◌, ℕ, ◌<◌, List, map, length, Contains, ◌↔◌}
+use Rattle.std.proofs.Common.{refl, sym, subst}
+use Rattle.shx_term.specs.declared.triple.Triple.{Triple}
+use Rattle.shx_term.specs.TripleLaws.{triple_is}
+use Rattle.shx_term.specs.TripleOrder.{triple_cmp, in_triple_order}
+use Rattle.shx_term.proofs.IdOrderLemmas.{in_term_order_lists}
+use Rattle.shx_term.proofs.InOrderLemmas.{in_order_lists}
+use Rattle.shx_term.proofs.MemberLemmas.{Contains-map, Contains-from_map, each_of_All}
+use Rattle.shx_term.proofs.TripleOrderLemmas.{triple_order}
+use Rattle.graph_view.specs.declared.key.Key.{Key}
+use Rattle.graph_view.specs.declared.key.Key.TheVariants.{Out, In, Subject, Predicate}
+use Rattle.graph_view.specs.Graph.{Graph, IsKnownTriple, AllKnown}
+use Rattle.graph_view.specs.Graph.{objects_of, subjects_of, triples_of, triples_with}
+use Rattle.graph_view.specs.Key.{Touches, look}
+use Rattle.graph_view.proofs.KeyLemmas.{Contains-look}
+
+-- where one number makes a triple that touches a key whole, the numbers found are those of which it is held
+numbers_at : (triples : List Triple) (key : Key) (f : Triple → ℕ) (whole : ℕ → Triple) (y : ℕ)
+    → ((t : Triple) → Touches t key → y ≡ f t → t ≡ whole y) → Touches (whole y) key → y ≡ f (whole y)
+    → Contains (map f (look triples key)) y ↔ Contains triples (whole y)
+numbers_at triples key f whole y made touches back = (
+  λ c.
+      let found = Contains-from_map f (look triples key) y c in
+      let held = (Contains-look triples key found.0).0 found.1 in
+      subst (Contains triples) (made found.0 held.1 found.2) held.0,
+  λ held.
+      let there = (Contains-look triples key (whole y)).1 (held, touches) in
+      let found = look triples key in
+      subst (Contains (map f found)) (sym back) (Contains-map f found (whole y) there),
+)
+
+pub Contains-objects_of : (g : Graph) (s p o : ℕ)
+    → Contains (objects_of g s p) o ↔ Contains g.triples (record { s = s; p = p; o = o })
+Contains-objects_of g s p o =
+    let found = (in_term_order_lists g.terms (map (λ t. t.o) (look g.triples (Out s p)))).each o in
+    let held =
+    numbers_at g.triples (Out s p) (λ t. t.o) (λ y. record { s = s; p = p; o = y }) o
+    (λ t touches e. triple_is t (record { s = s; p = p; o = o }) touches.0 touches.1 (sym e))
+    (refl, refl) refl in
+    (λ c. held.0 (found.0 c), λ c. found.1 (held.1 c))
+
+pub Contains-subjects_of : (g : Graph) (p o s : ℕ)
+    → Contains (subjects_of g p o) s ↔ Contains g.triples (record { s = s; p = p; o = o })
+Contains-subjects_of g p o s =
+    let found = (in_term_order_lists g.terms (map (λ t. t.s) (look g.triples (In p o)))).each s in
+    let held =
+    numbers_at g.triples (In p o) (λ t. t.s) (λ y. record { s = y; p = p; o = o }) s
+    (λ t touches e. triple_is t (record { s = s; p = p; o = o }) (sym e) touches.0 touches.1)
+    (refl, refl) refl in
+    (λ c. held.0 (found.0 c), λ c. found.1 (held.1 c))
+
+Contains-ordered : (g : Graph) (key : Key) (t : Triple)
+    → Contains (in_triple_order g.terms (look g.triples key)) t ↔ (Contains g.triples t × Touches t key)
+Contains-ordered g key t =
+    let found = (in_order_lists (triple_cmp g.terms) (triple_order g.terms) (look g.triples key)).each t in
+    let held = Contains-look g.triples key t in
+    (λ c. held.0 (found.0 c), λ c. found.1 (held.1 c))
+
+pub Contains-triples_of : (g : Graph) (s : ℕ) (t : Triple)
+    → Contains (triples_of g s) t ↔ (Contains g.triples t × (t.s ≡ s))
+Contains-triples_of g s t = Contains-ordered g (Subject s) t
+
+pub Contains-triples_with : (g : Graph) (p : ℕ) (t : Triple)
+    → Contains (triples_with g p) t ↔ (Contains g.triples t × (t.p ≡ p))
+Contains-triples_with g p t = Contains-ordered g (Predicate p) t
+
+-- what is found has terms
+module _ (g : Graph) (known : AllKnown g) where
+  pub known_triple : (t : Triple) → Contains g.triples t → IsKnownTriple g.terms t
+  known_triple = each_of_All (IsKnownTriple g.terms) g.triples known
+
+  pub known_object : (s p o : ℕ) → Contains (objects_of g s p) o → o < length g.terms
+  known_object s p o c =
+      (known_triple (record { s = s; p = p; o = o }) ((Contains-objects_of g s p o).0 c)).o
+
+  pub known_subject : (p o s : ℕ) → Contains (subjects_of g p o) s → s < length g.terms
+  known_subject p o s c =
+      (known_triple (record { s = s; p = p; o = o }) ((Contains-subjects_of g p o s).0 c)).s

@@ -1,5 +1,6 @@
 -- A text that fits a pattern, and its parts.
-use Rattle.std.proofs.Common.{◌≡◌, ℕ, zero, suc, ◌+◌, ◌≤◌, Bool, true, false, cond, eqb, ◌&&◌, List, [], ◌∷◌, ◌++◌, length, take, drop, refl, ap, ◌∙◌, arith}
+use Rattle.std.proofs.Common.{◌≡◌, ℕ, zero, suc, ◌+◌, ◌≤◌, Bool, true, false, cond, eqb, ◌&&◌, List, [], ◌∷◌}
+use Rattle.std.proofs.Common.{◌++◌, length, take, drop, refl, ap, ◌∙◌, arith}
 use Rattle.std.specs.List.{list_all, take_while}
 use Rattle.std.proofs.lemmas.List.Sums.{take_while-cons}
 use Rattle.shx_term.specs.NumberForm.{is_digit}
@@ -20,7 +21,9 @@ none_more : (n : ℕ) → 0 + n ≡ n
 none_more n = omega arith
 
 -- a pattern in two parts
-pub fits-append : (ps qs text : List ℕ) (n : ℕ) → fits (ps ++ qs) (take (length ps + n) text) ≡ (fits ps (take (length ps) text) && fits qs (take n (drop (length ps) text)))
+pub fits-append : (ps qs text : List ℕ) (n : ℕ)
+    → fits (ps ++ qs) (take (length ps + n) text)
+    ≡ (fits ps (take (length ps) text) && fits qs (take n (drop (length ps) text)))
 fits-append [] qs text n = ap (λ k. fits qs (take k text)) (none_more n)
 fits-append (p ∷ ps) qs [] n =
     let next : suc (length ps) + n ≡ suc (length ps + n) = omega arith in

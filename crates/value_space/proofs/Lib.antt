@@ -1,11 +1,11 @@
-mod CalendarLemmas
-mod CanonicalLemmas
-mod DatatypeLemmas
-mod DigitLemmas
-mod FormLemmas
-mod MomentForm
-mod MomentLemmas
-mod NumberLemmas
-mod NumeralForm
-mod NumeralLemmas
-mod OrderLemmas
+pub mod CalendarLemmas
+pub mod CanonicalLemmas
+pub mod DatatypeLemmas
+pub mod DigitLemmas
+pub mod FormLemmas
+pub mod MomentFormLemmas
+pub mod MomentLemmas
+pub mod NumberLemmas
+pub mod NumeralFormLemmas
+pub mod NumeralLemmas
+pub mod OrderLemmas

@@ -1,5 +1,7 @@
--- When one value is less than another (SPARQL 1.1, sections 17.3 and 17.4; XML Schema 1.1 part 2, section 3.3.7.2 for moments with and without a zone).
-use Rattle.std.specs.Prelude.{ℕ, Bool, true, false, ℤ, pos, ◌+ℤ◌, ◌-ℤ◌, int_lt, List, Option, Some, None, if◌then◌else◌}
+-- When one value is less than another (SPARQL 1.1, sections 17.3 and 17.4; XML Schema 1.1 part 2, section
+-- 3.3.7.2 for moments with and without a zone).
+use Rattle.std.specs.Prelude.{ℕ, Bool, true, false, ℤ, pos, ◌+ℤ◌, ◌-ℤ◌, int_lt, List, Option, Some, None}
+use Rattle.std.specs.Prelude.{if◌then◌else◌}
 use Rattle.std.specs.declared.cmp.Ordering.{Ordering}
 use Rattle.std.specs.declared.cmp.Ordering.TheVariants.{Less, Equal, Greater}
 use Rattle.std.specs.Ordering.{nat_cmp}
@@ -67,9 +69,15 @@ is_less_or_equal Less = true
 is_less_or_equal Equal = true
 is_less_or_equal Greater = false
 
--- `<` and `<=`: nothing where the two are incomparable
+-- `<` and `<=` of two literals with these texts and values: nothing where the two are incomparable
+abbrev pub less_of_values : List ℕ → List ℕ → Value → Value → Option Bool
+less_of_values s t a b = option_map is_less (order_of_values s t a b)
+
+abbrev pub less_eq_of_values : List ℕ → List ℕ → Value → Value → Option Bool
+less_eq_of_values s t a b = option_map is_less_or_equal (order_of_values s t a b)
+
 abbrev pub less_of : Literal → Literal → Option Bool
-less_of a b = option_map is_less (order_of a b)
+less_of a b = less_of_values a.lexical b.lexical (value_of a) (value_of b)
 
 abbrev pub less_eq_of : Literal → Literal → Option Bool
-less_eq_of a b = option_map is_less_or_equal (order_of a b)
+less_eq_of a b = less_eq_of_values a.lexical b.lexical (value_of a) (value_of b)

@@ -7,5 +7,6 @@ pub mod MomentTexts
 pub mod Moments
 pub mod Numbers
 pub mod Numerals
+pub mod ReadLiterals
 pub mod Spaces
 pub mod Values

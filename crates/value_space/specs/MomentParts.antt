@@ -1,8 +1,11 @@
 -- Parts of a moment that code reads and counts one by one.
-use Rattle.std.specs.Prelude.{◌≡◌, ℕ, Bool, true, not, ◌&&◌, ◌||◌, ◌==◌, ◌*◌, ◌+◌, ◌^◌, ◌<◌, ◌*ℤ◌, ◌≤ℤ◌, neg_ℤ, ℤ, pos, nat_le, nat_lt, List, [], ◌∷◌, take, drop, length, Option, Some, None, IfSome, if◌then◌else◌, codes}
+use Rattle.std.specs.Prelude.{◌≡◌, ℕ, Bool, true, not, ◌&&◌, ◌==◌, ◌*◌, ◌+◌, ◌^◌, ◌<◌, ◌*ℤ◌, ◌≤ℤ◌}
+use Rattle.std.specs.Prelude.{neg_ℤ, ℤ, pos, nat_le, nat_lt, List, [], ◌∷◌, take, drop, length, Option, Some}
+use Rattle.std.specs.Prelude.{None, IfSome, if◌then◌else◌, codes}
 use Rattle.std.specs.List.{take_while}
-use Rattle.shx_term.specs.NumberForm.{is_digit, is_point, begins_with, are_digits, number_of}
-use Rattle.shx_term.specs.MomentForm.{fits, year_digits, behind_year, day_pattern, fraction_of, behind_fraction, is_zone, is_offset_time}
+use Rattle.shx_term.specs.NumberForm.{is_digit, number_of}
+use Rattle.shx_term.specs.MomentForm.{fits, year_digits, behind_year, day_pattern, fraction_of}
+use Rattle.shx_term.specs.MomentForm.{has_good_fraction, behind_fraction, is_zone, is_offset_time}
 use Rattle.value_space.specs.DigitRuns.{narrow_fraction, signed}
 use Rattle.value_space.specs.Moments.{is_date, is_time, day_number, zone_minutes}
 
@@ -18,7 +21,9 @@ pub record IsTwoDigits (tens ones number : ℕ) : Type 0 where
 
 -- the four digits of an offset
 abbrev pub is_offset_of : ℕ → ℕ → ℕ → ℕ → Bool
-is_offset_of a b c d = ((is_digit a && is_digit b) && (is_digit c && is_digit d)) && is_offset_time (number_of (a ∷ b ∷ [])) (number_of (c ∷ d ∷ []))
+is_offset_of a b c d =
+    ((is_digit a && is_digit b) && (is_digit c && is_digit d))
+    && is_offset_time (number_of (a ∷ b ∷ [])) (number_of (c ∷ d ∷ []))
 
 pub record IsOffset (a b c d : ℕ) (minutes : ℤ) : Type 0 where
   pub form : is_offset_of a b c d ≡ true
@@ -70,10 +75,7 @@ pub record IsClock (text : List ℕ) (h m s : ℕ) (behind : List ℕ) : Type 0 
   pub second : s ≡ number_of (take 2 (drop 7 text))
   pub rest : behind ≡ drop 9 text
 
--- an end without a fraction, or with one of some digits
-abbrev pub has_good_fraction : List ℕ → Bool
-has_good_fraction end = not (begins_with is_point end) || are_digits (fraction_of end)
-
+-- what is read of a fraction of a second, or of none
 pub record IsNanos (end : List ℕ) (nanos : Option ℕ) (behind : List ℕ) : Type 0 where
   pub form : has_good_fraction end ≡ true
   pub value : nanos ≡ narrow_fraction 9 (fraction_of end)
@@ -93,11 +95,13 @@ day_in_nanos day = day *ℤ pos 86_400_000_000_000
 
 abbrev pub date_at : Bool → ℕ → ℕ → ℕ → Option ℤ
 date_at negative year month day =
-    some_where (not (negative && (year == 0)) && is_date (signed negative year) month day) (day_in_nanos (day_number (signed negative year) month day))
+    some_where (not (negative && (year == 0)) && is_date (signed negative year) month day)
+    (day_in_nanos (day_number (signed negative year) month day))
 
 abbrev pub time_at : ℕ → ℕ → ℕ → ℕ → Option ℤ
 time_at hour minute second nanos =
-    some_where (is_time hour minute second nanos) (pos ((hour * 3600 + minute * 60 + second) * 1_000_000_000 + nanos))
+    some_where (is_time hour minute second nanos)
+    (pos ((hour * 3600 + minute * 60 + second) * 1_000_000_000 + nanos))
 
 -- far from the ends of what 128 bits hold
 pub record IsSmall (nanos : ℤ) : Type 0 where

@@ -1,7 +1,8 @@
 -- What is read of the forms of moments and days.
 use Rattle.std.specs.Prelude.{◌≡◌, ℕ, true, List, take, drop}
 use Rattle.shx_term.specs.NumberForm.{is_minus, begins_with, number_of}
-use Rattle.shx_term.specs.MomentForm.{year_digits, behind_year, day_pattern, moment_pattern, calendar_of, end_of, fraction_of, behind_fraction, is_day_form, is_moment_form}
+use Rattle.shx_term.specs.MomentForm.{year_digits, behind_year, day_pattern, moment_pattern, calendar_of}
+use Rattle.shx_term.specs.MomentForm.{end_of, fraction_of, behind_fraction, is_day_form, is_moment_form}
 use Rattle.value_space.specs.declared.moment_text.DateText.{DateText}
 use Rattle.value_space.specs.declared.moment_text.DayText.{DayText}
 use Rattle.value_space.specs.declared.moment_text.MomentText.{MomentText}

@@ -1,5 +1,7 @@
--- The number of a lexical form, in the parts that a value keeps: its sign, its whole part, and its fraction in units of 10^-38.
-use Rattle.std.specs.Prelude.{ℕ, ◌+◌, ◌*◌, ◌^◌, Bool, not, ◌&&◌, ◌==◌, ℤ, pos, neg_ℤ, List, ◌++◌, take, replicate, if◌then◌else◌}
+-- The number of a lexical form, in the parts that a value keeps: its sign, its whole part, and its fraction
+-- in units of 10^-38.
+use Rattle.std.specs.Prelude.{ℕ, ◌+◌, ◌*◌, ◌^◌, Bool, not, ◌&&◌, ◌==◌, ℤ, pos, neg_ℤ, List, ◌++◌, take}
+use Rattle.std.specs.Prelude.{replicate, if◌then◌else◌}
 use Rattle.shx_term.specs.NumberForm.{is_minus, begins_with, number_of, whole_digits, fraction_digits}
 
 -- digits as a fraction of so many places: zeros are added behind, or what is behind those places is left out
@@ -14,7 +16,8 @@ fraction_of text = number_in_places 38 (fraction_digits text)
 
 -- the whole number of units of 10^-38, with its sign
 abbrev pub units : Bool → ℕ → ℕ → ℤ
-units negative whole fraction = if negative then neg_ℤ (pos (whole * 10 ^ 38 + fraction)) else pos (whole * 10 ^ 38 + fraction)
+units negative whole fraction =
+    if negative then neg_ℤ (pos (whole * 10 ^ 38 + fraction)) else pos (whole * 10 ^ 38 + fraction)
 
 -- a minus, and not zero
 abbrev pub is_negative : List ℕ → Bool

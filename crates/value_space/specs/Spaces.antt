@@ -2,9 +2,12 @@
 use Rattle.std.specs.Prelude.{ℕ, List, [], ◌∷◌, if◌then◌else◌, nat_eq}
 use Rattle.std.specs.Cmp.Lexicographic.{pointwise}
 use Rattle.shx_term.specs.Datatypes.{Space as Meaning}
-use Rattle.shx_term.specs.Datatypes.Space.{Integers as IntegersOf, Decimals as DecimalsOf, Booleans as BooleansOf, Strings as StringsOf, Moments as MomentsOf, Days as DaysOf, Opaques as OpaquesOf}
+use Rattle.shx_term.specs.Datatypes.Space.{Integers as IntegersOf, Decimals as DecimalsOf}
+use Rattle.shx_term.specs.Datatypes.Space.{Booleans as BooleansOf, Strings as StringsOf, Moments as MomentsOf}
+use Rattle.shx_term.specs.Datatypes.Space.{Days as DaysOf, Opaques as OpaquesOf}
 use Rattle.value_space.specs.declared.datatype.Space.{Space}
-use Rattle.value_space.specs.declared.datatype.Space.TheVariants.{Integers, Decimals, Booleans, Strings, Moments, Days, Opaques}
+use Rattle.value_space.specs.declared.datatype.Space.TheVariants.{Integers, Decimals, Booleans, Strings}
+use Rattle.value_space.specs.declared.datatype.Space.TheVariants.{Moments, Days, Opaques}
 use Rattle.value_space.specs.declared.datatype.Datatype.{Datatype}
 
 abbrev pub space_meant : Space → Meaning

@@ -1,6 +1,7 @@
--- The value of a literal, by the space of its datatype (XML Schema 1.1 part 2; SPARQL 1.1, section 17.1). A literal that does not have the form of its
--- datatype, or lies outside its range, is ill-typed.
-use Rattle.std.specs.Prelude.{ℕ, Bool, true, false, ◌&&◌, ◌||◌, ℤ, int_le, List, Option, Some, None, if◌then◌else◌, codes, nat_eq}
+-- The value of a literal, by the space of its datatype (XML Schema 1.1 part 2; SPARQL 1.1, section 17.1). A
+-- literal that does not have the form of its datatype, or lies outside its range, is ill-typed.
+use Rattle.std.specs.Prelude.{ℕ, Bool, true, false, ◌&&◌, ◌||◌, ℤ, int_le, List, Option, Some, None}
+use Rattle.std.specs.Prelude.{if◌then◌else◌, codes, nat_eq}
 use Rattle.std.specs.Cmp.Lexicographic.{pointwise}
 use Rattle.shx_term.specs.declared.term.Literal.{Literal}
 use Rattle.shx_term.specs.Datatypes.{Space, space_of, xsd}
@@ -33,7 +34,9 @@ truth_value text =
 -- the value that a text has in a space
 abbrev pub value_in : Space → List ℕ → Value
 value_in (Integers least greatest) text =
-    if is_integer_form text && (is_from least (integer_of text) && is_up_to greatest (integer_of text)) then number_value text else IllTyped
+    if is_integer_form text && (is_from least (integer_of text) && is_up_to greatest (integer_of text))
+    then number_value text
+    else IllTyped
 value_in Decimals text = if is_decimal_form text then number_value text else IllTyped
 value_in Booleans text = truth_value text
 value_in Strings text = Text
@@ -44,9 +47,14 @@ value_in Opaques text = Opaque
 abbrev pub value_of : Literal → Value
 value_of literal = value_in (space_of literal) literal.lexical
 
+-- the binary floating-point types
+abbrev pub is_float_datatype : List ℕ → Bool
+is_float_datatype datatype =
+    pointwise nat_eq datatype (xsd (codes "double")) || pointwise nat_eq datatype (xsd (codes "float"))
+
 -- a literal of a binary floating-point type
 abbrev pub is_float : Literal → Bool
-is_float literal = pointwise nat_eq literal.datatype (xsd (codes "double")) || pointwise nat_eq literal.datatype (xsd (codes "float"))
+is_float literal = is_float_datatype literal.datatype
 
 -- a literal of the datatype that is not ill-typed
 abbrev pub is_well_typed : Value → Bool

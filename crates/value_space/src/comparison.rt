@@ -1,30 +1,20 @@
-//! When one value is less than another (SPARQL 1.1, sections 17.3 and 17.4.1.2).
-ghost use Rattle.std.specs.Prelude.{◌≡◌, ◌<◌, ◌^◌, ◌*◌, ◌+◌, false};
-ghost use Rattle.std.specs.Ordering.{nat_cmp};
+//! When the value of a literal is less than that of another (SPARQL 1.1, sections 17.3 and 17.4.1.2).
+ghost use Rattle.std.specs.Prelude.{◌≡◌, false};
 ghost use Rattle.shx_term.specs.WideLiterals.{is_wide};
-ghost use Rattle.value_space.specs.declared.value.Value.TheVariants.{Num};
-ghost use Rattle.value_space.specs.Numbers.{units};
-ghost use Rattle.value_space.specs.Canonical.{IsCanonical};
-ghost use Rattle.value_space.specs.Comparison.{less_of, less_eq_of, order_of, order_of_values, int_order, truth_order, moment_order, zoned_order, unzoned_order};
+ghost use Rattle.value_space.specs.Comparison.{less_of, less_eq_of};
 
-use crate::Value;
-use crate::values::value_of;
+use crate::ReadLiteral;
 use shx_term::Literal;
-use std::cmp::Ordering;
 
-/// The greatest offset of a zone, in nanoseconds.
-const FOURTEEN_HOURS: i128 = 50_400_000_000_000;
-
-/// Whether a value is less than another; `None` where the two are incomparable, as a number and a text are, or two literals that are ill-typed.
+/// Whether a value is less than another; `None` where the two are incomparable, as a number and a text are,
+/// or two literals that are ill-typed. It reads both literals; see [`ReadLiteral`] for one that is compared
+/// with many.
 pub fn less(a: &Literal, b: &Literal) -> Option<bool>
     requires a { is_wide a.now ≡ false }
     requires b { is_wide b.now ≡ false }
     ensures { result ≡ less_of a.now b.now }
 {
-    match order_of(a, b) {
-        Some(order) => Some(order == Ordering::Less),
-        None => None,
-    }
+    ReadLiteral::of(a).less(&ReadLiteral::of(b))
 }
 
 /// Whether a value is less than another or equal to it; `None` where the two are incomparable.
@@ -33,183 +23,5 @@ pub fn less_eq(a: &Literal, b: &Literal) -> Option<bool>
     requires b { is_wide b.now ≡ false }
     ensures { result ≡ less_eq_of a.now b.now }
 {
-    match order_of(a, b) {
-        Some(order) => Some(order != Ordering::Greater),
-        None => None,
-    }
-}
-
-fn order_of(a: &Literal, b: &Literal) -> Option<Ordering>
-    requires a { is_wide a.now ≡ false }
-    requires b { is_wide b.now ≡ false }
-    ensures { result ≡ order_of a.now b.now }
-{
-    order_of_values(
-        a.lexical.as_str(),
-        b.lexical.as_str(),
-        value_of(a),
-        value_of(b),
-    )
-}
-
-/// A number by its sign, its whole part, and its fraction in units of 10^-38.
-#[derive(Clone, Copy)]
-struct Number {
-    negative: bool,
-    whole: u128,
-    fraction: u128,
-}
-
-/// A moment in nanoseconds, and whether it has a zone.
-#[derive(Clone, Copy)]
-struct Moment {
-    nanos: i128,
-    zoned: bool,
-}
-
-// The order of two literals with these texts and values, where they have one.
-fn order_of_values(s: &str, t: &str, a: Value, b: Value) -> Option<Ordering>
-    requires a { IsCanonical a }
-    requires b { IsCanonical b }
-    ensures { result ≡ order_of_values s.now t.now a b }
-{
-    match (a, b) {
-        (
-            Value::Num {
-                negative,
-                whole,
-                fraction,
-            },
-            Value::Num {
-                negative: negative_b,
-                whole: whole_b,
-                fraction: fraction_b,
-            },
-        ) => Some(number_order(
-            Number {
-                negative,
-                whole,
-                fraction,
-            },
-            Number {
-                negative: negative_b,
-                whole: whole_b,
-                fraction: fraction_b,
-            },
-        )),
-        (Value::Text, Value::Text) => Some(s.cmp(t)),
-        (Value::Bool(a), Value::Bool(b)) => Some(truth_order(a, b)),
-        (
-            Value::Stamp { nanos, zoned },
-            Value::Stamp {
-                nanos: nanos_b,
-                zoned: zoned_b,
-            },
-        ) => moment_order(
-            Moment { nanos, zoned },
-            Moment {
-                nanos: nanos_b,
-                zoned: zoned_b,
-            },
-        ),
-        (
-            Value::Day { nanos, zoned },
-            Value::Day {
-                nanos: nanos_b,
-                zoned: zoned_b,
-            },
-        ) => moment_order(
-            Moment { nanos, zoned },
-            Moment {
-                nanos: nanos_b,
-                zoned: zoned_b,
-            },
-        ),
-        _ => None,
-    }
-}
-
-fn number_order(a: Number, b: Number) -> Ordering
-    requires a { IsCanonical (Num a.negative a.whole a.fraction) }
-    requires b { IsCanonical (Num b.negative b.whole b.fraction) }
-    ensures { result ≡ int_order (units a.negative a.whole a.fraction) (units b.negative b.whole b.fraction) }
-{
-    match (a.negative, b.negative) {
-        (false, false) => magnitude_order(a, b),
-        (true, true) => magnitude_order(b, a),
-        (false, true) => Ordering::Greater,
-        (true, false) => Ordering::Less,
-    }
-}
-
-// The order of two numbers without their signs.
-fn magnitude_order(a: Number, b: Number) -> Ordering
-    requires a { a.fraction < 10 ^ 38 }
-    requires b { b.fraction < 10 ^ 38 }
-    ensures { result ≡ nat_cmp (a.whole * 10 ^ 38 + a.fraction) (b.whole * 10 ^ 38 + b.fraction) }
-{
-    match a.whole.cmp(&b.whole) {
-        Ordering::Equal => a.fraction.cmp(&b.fraction),
-        order => order,
-    }
-}
-
-// False is below true.
-fn truth_order(a: bool, b: bool) -> Ordering
-    ensures { result ≡ truth_order a b }
-{
-    match (a, b) {
-        (false, true) => Ordering::Less,
-        (true, false) => Ordering::Greater,
-        _ => Ordering::Equal,
-    }
-}
-
-// A moment without a zone may lie in any zone, up to fourteen hours ahead or behind.
-fn moment_order(a: Moment, b: Moment) -> Option<Ordering>
-    ensures { result ≡ moment_order a.nanos a.zoned b.nanos b.zoned }
-{
-    match (a.zoned, b.zoned) {
-        (true, false) => zoned_order(a.nanos, b.nanos),
-        (false, true) => unzoned_order(a.nanos, b.nanos),
-        _ => Some(nanos_order(a.nanos, b.nanos)),
-    }
-}
-
-fn nanos_order(a: i128, b: i128) -> Ordering
-    ensures { result ≡ int_order a b }
-{
-    if a < b {
-        Ordering::Less
-    } else if b < a {
-        Ordering::Greater
-    } else {
-        Ordering::Equal
-    }
-}
-
-// A moment with a zone against one without.
-fn zoned_order(zoned: i128, unzoned: i128) -> Option<Ordering>
-    ensures { result ≡ zoned_order zoned unzoned }
-{
-    if zoned < unzoned.saturating_sub(FOURTEEN_HOURS) {
-        Some(Ordering::Less)
-    } else if unzoned.saturating_add(FOURTEEN_HOURS) < zoned {
-        Some(Ordering::Greater)
-    } else {
-        None
-    }
-}
-
-// A moment without a zone against one with.
-fn unzoned_order(unzoned: i128, zoned: i128) -> Option<Ordering>
-    ensures { result ≡ unzoned_order unzoned zoned }
-{
-    if unzoned.saturating_add(FOURTEEN_HOURS) < zoned {
-        Some(Ordering::Less)
-    } else if zoned < unzoned.saturating_sub(FOURTEEN_HOURS) {
-        Some(Ordering::Greater)
-    } else {
-        None
-    }
+    ReadLiteral::of(a).less_eq(&ReadLiteral::of(b))
 }

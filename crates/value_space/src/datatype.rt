@@ -1,8 +1,8 @@
 //! The datatypes whose values are known: one table, looked up by name.
-ghost use Rattle.std.specs.Prelude.{◌≡◌, ◌||◌, codes, nat_eq};
-ghost use Rattle.std.specs.Cmp.Lexicographic.{pointwise};
+ghost use Rattle.std.specs.Prelude.{◌≡◌};
 ghost use Rattle.shx_term.specs.Datatypes.{datatypes, space_among, space_of, xsd};
 ghost use Rattle.value_space.specs.Spaces.{space_meant, space_of_name};
+ghost use Rattle.value_space.specs.Values.{is_float_datatype};
 
 use shx_term::{IriText, Literal};
 
@@ -188,7 +188,7 @@ fn space_in(datatypes: &[Datatype], name: &str) -> Space
 
 /// Whether the IRI is that of a binary floating-point type.
 pub fn is_float_datatype(datatype: &IriText) -> bool
-    ensures { result ≡ (pointwise nat_eq datatype.now (xsd (codes "double")) || pointwise nat_eq datatype.now (xsd (codes "float"))) }
+    ensures { result ≡ is_float_datatype datatype.now }
 {
     datatype.as_str() == "http://www.w3.org/2001/XMLSchema#double"
         || datatype.as_str() == "http://www.w3.org/2001/XMLSchema#float"

@@ -1,6 +1,7 @@
 //! Signs, points and digits of lexical forms.
 ghost use Rattle.std.specs.Prelude.{◌≡◌, ◌-◌, ◌&&◌, false, MatchOption};
-ghost use Rattle.shx_term.specs.NumberForm.{is_digit, is_minus, is_sign, is_point, begins_with, without_first};
+ghost use Rattle.shx_term.specs.NumberForm.{is_digit, is_minus, is_sign, is_point, begins_with};
+ghost use Rattle.shx_term.specs.NumberForm.{without_first};
 ghost use Rattle.value_space.specs.MomentParts.{IsTwoDigits};
 
 /// Whether a minus stands first.

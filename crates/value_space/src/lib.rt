@@ -4,15 +4,17 @@
 //! |---|---|
 //! | `value.rt` | `Value`: what a literal stands for |
 //! | `values.rt` | `value_of`, `wide`, `is_float`, `matches_datatype` |
-//! | `comparison.rt` | `less` and `less_eq` |
+//! | `read_literal.rt` | `ReadLiteral`: a literal that is read once and compared with many |
+//! | `comparison.rt` | `less` and `less_eq` of two literals |
+//! | `order.rt` | the order of values, where they have one |
 //! | `laws.rt` | the laws of that order |
 //! | `datatype.rt` | the table of datatypes |
 //! | `numeral.rt`, `number.rt` | the form of a number, read in one walk, and its value |
-//! | `moment_text.rt`, `zone.rt`, `moment.rt` | the forms of moments and days, read in one walk, and their values |
+//! | `moment_text.rt`, `zone.rt`, `moment.rt` | moments and days: their forms, read in one walk, and values |
 //! | `digits.rt` | signs and digits, which these forms are made of |
 //!
-//! It stands on `shx_term`, and on `jiff` for the numbers of days. Start with `value.rt`; `specs/Values.antt` says which value a literal has, and
-//! `specs/Comparison.antt` when one is less than another.
+//! It stands on `shx_term`, and on `jiff` for the numbers of days. Start with `value.rt`; `specs/Values.antt`
+//! says which value a literal has, and `specs/Comparison.antt` when one is less than another.
 #![tactic(auto)]
 
 mod comparison;
@@ -23,6 +25,8 @@ mod moment;
 mod moment_text;
 mod number;
 mod numeral;
+mod order;
+mod read_literal;
 #[cfg(test)]
 mod tests;
 mod value;
@@ -33,5 +37,6 @@ pub use comparison::{less, less_eq};
 pub use laws::{
     less_eq_is_less_or_equal, less_is_irreflexive, less_is_transitive, numbers_are_ordered,
 };
+pub use read_literal::ReadLiteral;
 pub use value::Value;
 pub use values::{is_float, matches_datatype, value_of, wide};

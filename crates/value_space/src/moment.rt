@@ -1,5 +1,5 @@
-//! Moments and days by their lexical forms (XML Schema 1.1 part 2, sections 3.3.7 and 3.3.9). A moment is counted in nanoseconds from
-//! 1970-01-01T00:00:00; each call reads each byte of the text once.
+//! Moments and days by their lexical forms (XML Schema 1.1 part 2, sections 3.3.7 and 3.3.9). A moment is
+//! counted in nanoseconds from 1970-01-01T00:00:00; each call reads each byte of the text once.
 ghost use Rattle.std.specs.Prelude.{◌≡◌, ◌<◌, ◌^◌, false, not, ◌&&◌, ◌==◌, IfSome, IsSome};
 ghost use Rattle.jiff.specs.Words.{IsYear, epoch_day};
 ghost use Rattle.shx_term.specs.Datatypes.Space.{Moments, Days};
@@ -87,7 +87,8 @@ fn date_nanos(date: DateText) -> Option<i128>
 // The year of a date: 0000 is the one before 0001, and there is no -0000.
 fn year_of(date: DateText) -> Option<i16>
     requires { IsSome date.year }
-    ensures value { IfSome date.year (λ year. result ≡ some_where (not (date.negative && (year == 0))) (signed date.negative year)) }
+    ensures value { IfSome date.year (λ year.
+        result ≡ some_where (not (date.negative && (year == 0))) (signed date.negative year)) }
     ensures range { IfSome result (λ year. IsYear year) }
 {
     let Some(year) = date.year else {
@@ -128,7 +129,8 @@ fn nanos_at(civil: Date) -> i128
 // The nanoseconds from midnight to the time of a moment, where a day has it.
 fn time_nanos(moment: MomentText) -> Option<i128>
     requires { IsSome moment.nanos }
-    ensures value { IfSome moment.nanos (λ nanos. result ≡ time_at moment.hour moment.minute moment.second nanos) }
+    ensures value { IfSome moment.nanos (λ nanos.
+        result ≡ time_at moment.hour moment.minute moment.second nanos) }
     ensures small { IfSome result (λ n. IsSmall n) }
 {
     let Some(nanos) = moment.nanos else {

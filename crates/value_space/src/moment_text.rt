@@ -1,8 +1,10 @@
-//! The readers of the forms of moments and days (XML Schema 1.1 part 2, sections 3.3.7 and 3.3.9), which read each byte of them once.
+//! The readers of the forms of moments and days (XML Schema 1.1 part 2, sections 3.3.7 and 3.3.9), which read
+//! each byte of them once.
 ghost use Rattle.std.specs.Prelude.{◌≡◌, ◌<◌, ◌^◌, IfSome, MatchOption, false};
 ghost use Rattle.std.proofs.Props.{props};
-ghost use Rattle.shx_term.specs.MomentForm.{is_day_form, is_moment_form};
-ghost use Rattle.value_space.specs.MomentParts.{has_year, IsYearText, has_calendar, IsCalendar, has_clock, IsClock, has_good_fraction, IsNanos, has_date_text};
+ghost use Rattle.shx_term.specs.MomentForm.{has_good_fraction, is_day_form, is_moment_form};
+ghost use Rattle.value_space.specs.MomentParts.{has_year, IsYearText, has_calendar, IsCalendar, has_clock};
+ghost use Rattle.value_space.specs.MomentParts.{IsClock, IsNanos, has_date_text};
 
 use crate::digits::{has_minus, has_point, two_digits, without_minus, without_point};
 use crate::numeral::{read_fraction, read_whole};
@@ -71,7 +73,8 @@ impl DateText {
 
     // Year, month and day, and what stands behind them.
     fn read(text: &[u8]) -> Option<(Self, &[u8])>
-        ensures { MatchOption result (has_date_text text.now ≡ false) (λ read. IsDateText text.now read.0 read.1.now) }
+        ensures { MatchOption result (has_date_text text.now ≡ false) (λ read.
+            IsDateText text.now read.0 read.1.now) }
     {
         let (year, rest) = read_year(without_minus(text))?;
         let (month, day, end) = read_calendar(rest)?;
@@ -140,7 +143,8 @@ fn read_year(text: &[u8]) -> Option<(Option<u16>, &[u8])>
 
 // Month and day, and what stands behind them.
 fn read_calendar(text: &[u8]) -> Option<(u8, u8, &[u8])>
-    ensures { MatchOption result (has_calendar text.now ≡ false) (λ read. IsCalendar text.now read.0 read.1 read.2.now) }
+    ensures { MatchOption result (has_calendar text.now ≡ false) (λ read.
+        IsCalendar text.now read.0 read.1 read.2.now) }
 {
     let [b'-', a, b, b'-', c, d, rest @ ..] = text else {
         return None;
@@ -150,7 +154,8 @@ fn read_calendar(text: &[u8]) -> Option<(u8, u8, &[u8])>
 
 // Hour, minute and second, and what stands behind them.
 fn read_clock(text: &[u8]) -> Option<(u8, u8, u8, &[u8])>
-    ensures { MatchOption result (has_clock text.now ≡ false) (λ read. IsClock text.now read.0 read.1 read.2 read.3.now) }
+    ensures { MatchOption result (has_clock text.now ≡ false) (λ read.
+        IsClock text.now read.0 read.1 read.2 read.3.now) }
 {
     let [b'T', a, b, b':', c, d, b':', e, f, rest @ ..] = text else {
         return None;
@@ -163,7 +168,8 @@ fn read_clock(text: &[u8]) -> Option<(u8, u8, u8, &[u8])>
 
 // The nanoseconds of a fraction, or of none, and what stands behind it.
 fn read_nanos(text: &[u8]) -> Option<(Option<u32>, &[u8])>
-    ensures { MatchOption result (has_good_fraction text.now ≡ false) (λ read. IsNanos text.now read.0 read.1.now) }
+    ensures { MatchOption result (has_good_fraction text.now ≡ false) (λ read.
+        IsNanos text.now read.0 read.1.now) }
 {
     if !has_point(text) {
         return Some((Some(0), text));

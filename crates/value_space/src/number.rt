@@ -1,4 +1,5 @@
-//! Numbers by their lexical forms (XML Schema 1.1 part 2, sections 3.3.3 and 3.4.13). Each call reads each byte of the text once.
+//! Numbers by their lexical forms (XML Schema 1.1 part 2, sections 3.3.3 and 3.4.13). Each call reads each
+//! byte of the text once.
 ghost use Rattle.std.specs.Prelude.{◌≡◌, None, IsSome, IfSome, false};
 ghost use Rattle.shx_term.specs.WideLiterals.{is_wide_in};
 ghost use Rattle.shx_term.specs.Datatypes.Space.{Integers, Decimals};
@@ -92,7 +93,8 @@ fn integer_of(numeral: Numeral) -> i128
 fn number_value(numeral: Numeral) -> Value
     requires whole { IsSome numeral.whole }
     requires fraction { IsSome numeral.fraction }
-    ensures { IfSome numeral.whole (λ whole. IfSome numeral.fraction (λ fraction. result ≡ number_from numeral.negative whole fraction)) }
+    ensures { IfSome numeral.whole (λ whole. IfSome numeral.fraction (λ fraction.
+        result ≡ number_from numeral.negative whole fraction)) }
 {
     let (Some(whole), Some(fraction)) = (numeral.whole, numeral.fraction) else {
         unreachable!()

@@ -3,11 +3,13 @@ ghost use Rattle.std.specs.Prelude.{◌≡◌, ◌*◌, ◌<◌, ◌≤◌, ◌^
 ghost use Rattle.std.proofs.Props.{props};
 ghost use Rattle.std.specs.List.{take_while};
 ghost use Rattle.shx_term.specs.NumberForm.{is_digit, is_decimal_form};
-ghost use Rattle.value_space.specs.DigitRuns.{HasRoom, behind_digits, narrow_number, narrow_fraction, with_digit, with_place, has_none};
+ghost use Rattle.value_space.specs.DigitRuns.{HasRoom, behind_digits, narrow_number, narrow_fraction};
+ghost use Rattle.value_space.specs.DigitRuns.{with_digit, with_place, has_none};
 
 use crate::digits::{digit_value, has_minus, has_point, without_point, without_sign};
 
-/// What a number of 38 digits stays below, divided by ten: one more digit may stand behind a number below this.
+/// What a number of 38 digits stays below, divided by ten: one more digit may stand behind a number below
+/// this.
 const TENTH: u128 = 10_000_000_000_000_000_000_000_000_000_000_000_000;
 
 /// The parts of a number's form. What takes more than 38 digits is none.
@@ -31,7 +33,8 @@ pub struct Numeral {
 impl Numeral {
     ghost use Rattle.value_space.specs.Numerals.{IsNumeral};
 
-    /// The parts of a text that is a sign or none, and then digits with at most one point before, among or behind them.
+    /// The parts of a text that is a sign or none, and then digits with at most one point before, among or
+    /// behind them.
     pub fn read(text: &[u8]) -> Option<Self>
         ensures { MatchOption result (is_decimal_form text.now ≡ false) (IsNumeral text.now) }
     {
@@ -86,7 +89,8 @@ fn with_digit(number: Option<u128>, digit: u128) -> Option<u128>
     }
 }
 
-/// The digits that a text begins with, as a fraction of so many places, and what stands behind them. One that takes more is none.
+/// The digits that a text begins with, as a fraction of so many places, and what stands behind them. One that
+/// takes more is none.
 pub fn read_fraction(places: u32, text: &[u8]) -> (Option<u128>, &[u8])
     requires some { 0 < places }
     requires few { places ≤ 38 }

@@ -4,6 +4,7 @@ mod values;
 use super::*;
 use shx_term::{IriText, Literal, Text};
 use std::alloc::{AllocError, Global};
+use std::process::Abort;
 use std::test::Fail;
 
 const XSD: &str = "http://www.w3.org/2001/XMLSchema#";
@@ -37,7 +38,8 @@ fn literal(alloc: Global, lexical: &str, datatype: &str) -> Result<Literal, Allo
     }
 }
 
-// A value in one word, or two: a number without needless zeros, a moment by its nanoseconds and `Z` where it has a zone.
+// A value in one word, or two: a number without needless zeros, a moment by its nanoseconds and `Z` where it
+// has a zone.
 fn spelled(alloc: Global, value: Value) -> Result<String, AllocError> {
     match value {
         Value::Num {
@@ -81,13 +83,24 @@ fn cut(line: &str) -> (&str, &str) {
     }
 }
 
+// That no row is found, or else which.
+fn assert_none(rt: &impl Abort, row: &'static str) {
+    assert_eq!(rt; row, "");
+}
+
+// Whether a row's literal has the value that the row says.
+fn has_value(alloc: Global, row: &str) -> Result<bool, AllocError> {
+    let (lexical, rest) = cut(row);
+    let (datatype, value) = cut(rest);
+    let literal = literal(alloc, lexical, datatype)?;
+    let seen = seen(alloc, &literal)?;
+    Ok(seen.as_str() == value)
+}
+
 // The first row whose literal has another value.
 fn first_other_value(alloc: Global, rows: &'static str) -> Result<&'static str, AllocError> {
     for row in rows.lines() {
-        let (lexical, rest) = cut(row);
-        let (datatype, value) = cut(rest);
-        let literal = literal(alloc, lexical, datatype)?;
-        if seen(alloc, &literal)?.as_str() != value {
+        if !has_value(alloc, row)? {
             return Ok(row);
         }
     }
@@ -96,36 +109,49 @@ fn first_other_value(alloc: Global, rows: &'static str) -> Result<&'static str, 
 
 #[test]
 fn numbers_have_their_values(rt: HostRuntime) -> Result<(), Fail> {
-    assert_eq!(rt; first_other_value(rt.alloc(), values::NUMBERS)?, "");
-    let line_feed = literal(rt.alloc(), "5\n", "integer")?;
-    let seen = seen(rt.alloc(), &line_feed)?;
-    assert_eq!(rt; seen.as_str(), "ill");
+    assert_none(&rt, first_other_value(rt.alloc(), values::NUMBERS)?);
+    Ok(())
+}
+
+#[test]
+fn a_line_feed_is_no_digit(rt: HostRuntime) -> Result<(), Fail> {
+    assert!(rt; has_value(rt.alloc(), "5\n|integer|ill")?);
     Ok(())
 }
 
 #[test]
 fn other_literals_have_their_values(rt: HostRuntime) -> Result<(), Fail> {
-    assert_eq!(rt; first_other_value(rt.alloc(), values::OTHERS)?, "");
+    assert_none(&rt, first_other_value(rt.alloc(), values::OTHERS)?);
     Ok(())
 }
 
 #[test]
 fn moments_have_their_values(rt: HostRuntime) -> Result<(), Fail> {
-    assert_eq!(rt; first_other_value(rt.alloc(), values::MOMENTS)?, "");
+    assert_none(&rt, first_other_value(rt.alloc(), values::MOMENTS)?);
     Ok(())
 }
 
-fn how(a: &Literal, b: &Literal) -> &'static str {
-    if wide(a) || wide(b) {
-        return "wide";
-    }
-    match (less(a, b), less_eq(a, b)) {
+#[test]
+fn ill_typed_byte(rt: HostRuntime) -> Result<(), Fail> {
+    assert_none(&rt, first_other_value(rt.alloc(), "300|byte|ill")?);
+    Ok(())
+}
+
+fn order_name(less: Option<bool>, less_eq: Option<bool>) -> &'static str {
+    match (less, less_eq) {
         (None, None) => "none",
         (Some(true), Some(true)) => "less",
         (Some(false), Some(true)) => "equal",
         (Some(false), Some(false)) => "greater",
         _ => "at odds",
     }
+}
+
+fn how(a: &Literal, b: &Literal) -> &'static str {
+    if wide(a) || wide(b) {
+        return "wide";
+    }
+    order_name(less(a, b), less_eq(a, b))
 }
 
 fn turned(order: &str) -> &str {
@@ -136,16 +162,21 @@ fn turned(order: &str) -> &str {
     }
 }
 
-// The first row whose literals compare in another way, in this or in the other direction.
+// Whether a row's literals compare as the row says, in this and in the other direction.
+fn has_order(alloc: Global, row: &str) -> Result<bool, AllocError> {
+    let (a, rest) = cut(row);
+    let (datatype_a, rest) = cut(rest);
+    let (b, rest) = cut(rest);
+    let (datatype_b, order) = cut(rest);
+    let first = literal(alloc, a, datatype_a)?;
+    let second = literal(alloc, b, datatype_b)?;
+    Ok(how(&first, &second) == order && how(&second, &first) == turned(order))
+}
+
+// The first row whose literals compare in another way.
 fn first_other_order(alloc: Global, rows: &'static str) -> Result<&'static str, AllocError> {
     for row in rows.lines() {
-        let (a, rest) = cut(row);
-        let (datatype_a, rest) = cut(rest);
-        let (b, rest) = cut(rest);
-        let (datatype_b, order) = cut(rest);
-        let first = literal(alloc, a, datatype_a)?;
-        let second = literal(alloc, b, datatype_b)?;
-        if how(&first, &second) != order || how(&second, &first) != turned(order) {
+        if !has_order(alloc, row)? {
             return Ok(row);
         }
     }
@@ -154,56 +185,114 @@ fn first_other_order(alloc: Global, rows: &'static str) -> Result<&'static str, 
 
 #[test]
 fn values_compare(rt: HostRuntime) -> Result<(), Fail> {
-    assert_eq!(rt; first_other_order(rt.alloc(), orders::VALUES)?, "");
+    assert_none(&rt, first_other_order(rt.alloc(), orders::VALUES)?);
     Ok(())
 }
 
 #[test]
 fn moments_compare(rt: HostRuntime) -> Result<(), Fail> {
-    assert_eq!(rt; first_other_order(rt.alloc(), orders::MOMENTS)?, "");
+    assert_none(&rt, first_other_order(rt.alloc(), orders::MOMENTS)?);
     Ok(())
 }
 
 #[test]
 fn less_than_per_pair_of_values(rt: HostRuntime) -> Result<(), Fail> {
-    assert_eq!(rt;
-        first_other_order(rt.alloc(), orders::LESS_THAN_PER_PAIR_OF_VALUES)?,
-        ""
-    );
-    Ok(())
-}
-
-#[test]
-fn ill_typed_byte(rt: HostRuntime) -> Result<(), Fail> {
-    assert_eq!(rt; first_other_value(rt.alloc(), "300|byte|ill")?, "");
+    let rows = orders::LESS_THAN_PER_PAIR_OF_VALUES;
+    assert_none(&rt, first_other_order(rt.alloc(), rows)?);
     Ok(())
 }
 
 #[test]
 fn zoned_against_unzoned(rt: HostRuntime) -> Result<(), Fail> {
-    assert_eq!(rt;
+    assert_none(
+        &rt,
         first_other_order(rt.alloc(), orders::ZONED_AGAINST_UNZONED)?,
-        ""
     );
     Ok(())
 }
 
+// Whether a row's literal compares with the bound as the row says.
+fn compares_with(alloc: Global, bound: &ReadLiteral, row: &str) -> Result<bool, AllocError> {
+    let (lexical, rest) = cut(row);
+    let (datatype, order) = cut(rest);
+    let literal = literal(alloc, lexical, datatype)?;
+    if wide(&literal) {
+        return Ok(order == "wide");
+    }
+    let read = ReadLiteral::of(&literal);
+    Ok(order_name(read.less(bound), read.less_eq(bound)) == order)
+}
+
+// The first row whose literal compares with the bound in another way.
+fn first_other_by_bound(
+    alloc: Global,
+    bound: &ReadLiteral,
+    rows: &'static str,
+) -> Result<&'static str, AllocError> {
+    for row in rows.lines() {
+        if !compares_with(alloc, bound, row)? {
+            return Ok(row);
+        }
+    }
+    Ok("")
+}
+
+// The first row that compares with a text in another way; the text is read once.
+fn first_other_by_text(
+    alloc: Global,
+    bound: &str,
+    rows: &'static str,
+) -> Result<&'static str, AllocError> {
+    let bound = literal(alloc, bound, "string")?;
+    if wide(&bound) {
+        return Ok("wide");
+    }
+    let read = ReadLiteral::of(&bound);
+    match read.value() {
+        Value::Text => first_other_by_bound(alloc, &read, rows),
+        _ => Ok("no text"),
+    }
+}
+
+#[test]
+fn a_bound_is_read_once(rt: HostRuntime) -> Result<(), Fail> {
+    assert_none(&rt, first_other_by_text(rt.alloc(), "b", orders::BY_TEXT)?);
+    Ok(())
+}
+
+fn how_it_matches(literal: &Literal, datatype: &IriText) -> &'static str {
+    if wide(literal) {
+        return "wide";
+    }
+    if matches_datatype(literal, datatype) {
+        "yes"
+    } else {
+        "no"
+    }
+}
+
+// Whether a row's literal matches the row's datatype as the row says.
+fn matches_as_said(alloc: Global, row: &str) -> Result<bool, AllocError> {
+    let (lexical, rest) = cut(row);
+    let (datatype, rest) = cut(rest);
+    let (asked, answer) = cut(rest);
+    let literal = literal(alloc, lexical, datatype)?;
+    let asked = iri(alloc, asked)?;
+    Ok(how_it_matches(&literal, &asked) == answer)
+}
+
+// The first row whose literal matches in another way.
+fn first_other_match(alloc: Global, rows: &'static str) -> Result<&'static str, AllocError> {
+    for row in rows.lines() {
+        if !matches_as_said(alloc, row)? {
+            return Ok(row);
+        }
+    }
+    Ok("")
+}
+
 #[test]
 fn datatypes_match(rt: HostRuntime) -> Result<(), Fail> {
-    let byte = iri(rt.alloc(), "byte")?;
-    let fits = literal(rt.alloc(), "127", "byte")?;
-    let past = literal(rt.alloc(), "128", "byte")?;
-    let wider = literal(rt.alloc(), "127", "integer")?;
-    assert!(rt; !wide(&fits) && matches_datatype(&fits, &byte));
-    assert!(rt; !wide(&past) && !matches_datatype(&past, &byte));
-    assert!(rt; !wide(&wider) && !matches_datatype(&wider, &byte));
-    let tagged = literal(rt.alloc(), "a", "@en")?;
-    let lang_string = iri(rt.alloc(), LANG_STRING)?;
-    let string = iri(rt.alloc(), "string")?;
-    assert!(rt; !wide(&tagged) && matches_datatype(&tagged, &lang_string));
-    assert!(rt; !wide(&tagged) && !matches_datatype(&tagged, &string));
-    let unknown = literal(rt.alloc(), "a", "http://e/t")?;
-    let its_own = iri(rt.alloc(), "http://e/t")?;
-    assert!(rt; !wide(&unknown) && matches_datatype(&unknown, &its_own));
+    assert_none(&rt, first_other_match(rt.alloc(), values::MATCHES)?);
     Ok(())
 }

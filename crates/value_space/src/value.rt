@@ -1,5 +1,6 @@
-/// What a literal stands for.
-#[derive(Clone, Copy, Debug, PartialEq, Eq)]
+/// What a literal stands for. It has no `==`, since two texts that differ have one value, [`Value::Text`]:
+/// values are compared by [`ReadLiteral`](crate::ReadLiteral), with their texts.
+#[derive(Clone, Copy, Debug)]
 pub enum Value {
     /// A number: `whole`, and `fraction` in units of 10^-38. Zero is never negative.
     Num {

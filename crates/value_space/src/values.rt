@@ -1,7 +1,8 @@
 //! The value of a literal, by the space of its datatype.
 ghost use Rattle.std.specs.Prelude.{◌≡◌, false};
 ghost use Rattle.shx_term.specs.WideLiterals.{is_wide, is_wide_in};
-ghost use Rattle.value_space.specs.Values.{value_of, value_in, is_float, has_datatype, truth_value, is_well_typed};
+ghost use Rattle.value_space.specs.Values.{value_of, value_in, is_float, has_datatype, truth_value};
+ghost use Rattle.value_space.specs.Values.{is_well_typed};
 ghost use Rattle.value_space.specs.Spaces.{space_meant};
 
 use crate::Value;
@@ -10,8 +11,9 @@ use crate::moment::{day_value, is_wide_day, is_wide_moment, moment_value};
 use crate::number::{decimal_value, integer_value, is_wide_decimal, is_wide_integer};
 use shx_term::{IriText, Literal};
 
-/// Whether a literal is well formed and needs more digits than a [`Value`] has: more than 38 before or behind the point of a number, more than
-/// four of a year, or more than nine of a fraction of a second. It takes time linear in the lexical form, as all calls here do.
+/// Whether a literal is well formed and needs more digits than a [`Value`] has: more than 38 before or behind
+/// the point of a number, more than four of a year, or more than nine of a fraction of a second. It takes
+/// time linear in the lexical form, as all calls here do.
 pub fn wide(literal: &Literal) -> bool
     ensures { result ≡ is_wide literal.now }
 {

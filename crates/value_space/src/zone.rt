@@ -1,4 +1,5 @@
-//! The zone behind a moment or a day (XML Schema 1.1 part 2, section 3.3.7): none, `Z`, or a sign, hours and minutes.
+//! The zone behind a moment or a day (XML Schema 1.1 part 2, section 3.3.7): none, `Z`, or a sign, hours and
+//! minutes.
 ghost use Rattle.std.specs.Prelude.{◌≡◌, ◌*ℤ◌, pos, false, IfSome, MatchOption};
 ghost use Rattle.shx_term.specs.MomentForm.{is_zone, is_offset_time};
 ghost use Rattle.value_space.specs.MomentParts.{is_offset_of, IsOffset, IsZoneText, IsFew, IsSmall};

@@ -1,4 +1,5 @@
-//! Pairs of literals, one a line: the lexical form and the datatype of each, and how the first compares with the second.
+//! Pairs of literals, one a line: the lexical form and the datatype of each, and how the first compares with
+//! the second.
 
 /// Numbers, texts, booleans, and literals that are incomparable.
 pub const VALUES: &str = "1.0|decimal|1|integer|equal
@@ -183,3 +184,14 @@ pub const LESS_THAN_PER_PAIR_OF_VALUES: &str = "1|integer|3|integer|less
 pub const ZONED_AGAINST_UNZONED: &str =
     "2020-01-01T00:00:00|dateTime|2020-01-01T13:00:00Z|dateTime|none
 2020-01-01T00:00:00|dateTime|2020-01-01T15:00:00Z|dateTime|less";
+
+/// Literals against the text `b`.
+pub const BY_TEXT: &str = "a|string|less
+aa|string|less
+|string|less
+b|string|equal
+ba|string|greater
+\u{e4}|string|greater
+a|@en|none
+1|integer|none
+111111111111111111111111111111111111111|integer|wide";

@@ -10,8 +10,14 @@ returns-in-Some-date_nanos c =
     let read = c.in-Some.ensures in
     let parts = read.date in
     let date = c.in-Some.day.date in
-    let day = date_of_text text (calendar_of day_pattern text) date.negative date.year date.month date.day (Some c.in-Some-date_nanos.nanos) (day_year text read.form c.requires) parts.negative parts.year parts.month parts.day c.in-Some-date_nanos.ensures.value in
-    day_is text c.in-Some-date_nanos.nanos c.zone_nanos.result _ c.in-Some.day.zoned read.form day (omega (arith, ints, c.zone_nanos.ensures.value, read.zone)) read.zoned (omega (arith, ints, c.in-Some-date_nanos.ensures.small, c.zone_nanos.ensures.small))
+    let day =
+    date_of_text text (calendar_of day_pattern text) date.negative date.year date.month date.day
+    (Some c.in-Some-date_nanos.nanos)
+    (day_year text read.form c.requires) parts.negative parts.year parts.month parts.day
+    c.in-Some-date_nanos.ensures.value in
+    day_is text c.in-Some-date_nanos.nanos c.zone_nanos.result _ c.in-Some.day.zoned read.form day
+    (omega (arith, ints, c.zone_nanos.ensures.value, read.zone)) read.zoned
+    (omega (arith, ints, c.in-Some-date_nanos.ensures.small, c.zone_nanos.ensures.small))
 
 pub returns-in-None : goal.returns-in-None
 returns-in-None c =
@@ -19,4 +25,7 @@ returns-in-None c =
     let read = c.in-Some.ensures in
     let parts = read.date in
     let date = c.in-Some.day.date in
-    no_day text read.form (date_of_text text (calendar_of day_pattern text) date.negative date.year date.month date.day None (day_year text read.form c.requires) parts.negative parts.year parts.month parts.day c.in-None.ensures.value)
+    no_day text read.form
+    (date_of_text text (calendar_of day_pattern text) date.negative date.year date.month date.day None
+    (day_year text read.form c.requires) parts.negative parts.year parts.month parts.day
+    c.in-None.ensures.value)

@@ -1,6 +1,6 @@
-pub mod Cuts
-pub mod DotSteps
-pub mod Segments
-pub mod Paths
-pub mod Walks
-pub mod ResolvedAbsolute
+pub mod CutLemmas
+pub mod DotStepLemmas
+pub mod PathLemmas
+pub mod ResolvedAbsoluteLemmas
+pub mod SegmentLemmas
+pub mod WalkLemmas

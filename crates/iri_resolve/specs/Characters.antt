@@ -1,5 +1,5 @@
--- The characters of references (RFC 3987; Turtle 1.1, section 6.5, IRIREF), as bytes of UTF-8: a character outside ASCII is allowed, and so is
--- each of its bytes.
+-- The characters of references (RFC 3987; Turtle 1.1, section 6.5, IRIREF), as bytes of UTF-8: a character
+-- outside ASCII is allowed, and so is each of its bytes.
 use Rattle.std.specs.Prelude.{ℕ, Bool, not, ◌&&◌, ◌||◌, ◌==◌, nat_le, nat_lt, List}
 use Rattle.std.specs.List.{list_all}
 use Rattle.shx_term.specs.NumberForm.{is_digit}
@@ -27,7 +27,10 @@ is_scheme_byte b = is_letter b || (is_digit b || ((b == 43) || ((b == 45) || (b 
 abbrev pub is_allowed_byte : ℕ → Bool
 is_allowed_byte b =
     nat_lt 32 b
-    && not ((b == 60) || ((b == 62) || ((b == 34) || ((b == 123) || ((b == 125) || ((b == 124) || ((b == 94) || ((b == 92) || (b == 96)))))))))
+    && not ((b == 60)
+    || ((b == 62)
+    || ((b == 34)
+    || ((b == 123) || ((b == 125) || ((b == 124) || ((b == 94) || ((b == 92) || (b == 96)))))))))
 
 -- every character may stand in an IRI reference
 abbrev pub is_allowed : List ℕ → Bool

@@ -1,7 +1,10 @@
--- A reference split into its five parts (RFC 3986, section 3 and appendix B), and written from them (section 5.3).
-use Rattle.std.specs.Prelude.{ℕ, Bool, false, ◌&&◌, List, [], ◌∷◌, ◌++◌, drop, length, Option, Some, None, if◌then◌else◌, codes, nat_eq}
+-- A reference split into its five parts (RFC 3986, section 3 and appendix B), and written from them (section
+-- 5.3).
+use Rattle.std.specs.Prelude.{ℕ, Bool, false, ◌&&◌, List, [], ◌∷◌, ◌++◌, drop, length, Option, Some, None}
+use Rattle.std.specs.Prelude.{if◌then◌else◌, codes, nat_eq}
 use Rattle.std.specs.List.{list_any, list_all, starts_with, before_first, after_first}
-use Rattle.iri_resolve.specs.Characters.{is_colon, is_slash, is_question_mark, is_hash, is_letter, is_scheme_byte}
+use Rattle.iri_resolve.specs.Characters.{is_colon, is_slash, is_question_mark, is_hash, is_letter}
+use Rattle.iri_resolve.specs.Characters.{is_scheme_byte}
 
 pub record Parts : Type 0 where
   pub scheme : Option (List ℕ)

@@ -1,5 +1,7 @@
--- Resolving a reference against a base (RFC 3986, section 5.2.2; a reference with a scheme stands for itself).
-use Rattle.std.specs.Prelude.{◌≡◌, ℕ, true, List, [], ◌∷◌, ◌++◌, reverse, Option, Some, None, is_some, if◌then◌else◌, codes}
+-- Resolving a reference against a base (RFC 3986, section 5.2.2; a reference with a scheme stands for
+-- itself).
+use Rattle.std.specs.Prelude.{◌≡◌, ℕ, true, List, [], ◌∷◌, ◌++◌, reverse, Option, Some, None, is_some}
+use Rattle.std.specs.Prelude.{if◌then◌else◌, codes}
 use Rattle.iri_resolve.specs.Characters.{is_slash, is_allowed}
 use Rattle.iri_resolve.specs.Parts.{Parts, parts_of, written, from_first}
 use Rattle.iri_resolve.specs.DotSegments.{without_dot_segments}
@@ -25,7 +27,8 @@ merged_path base path = merged_with base.authority base.path path
 -- the path that a reference without authority has over the base, by its path
 abbrev pub target_path : Parts → List ℕ → List ℕ
 target_path base [] = base.path
-target_path base (b ∷ bs) = if is_slash b then without_dot_segments (b ∷ bs) else without_dot_segments (merged_path base (b ∷ bs))
+target_path base (b ∷ bs) =
+    if is_slash b then without_dot_segments (b ∷ bs) else without_dot_segments (merged_path base (b ∷ bs))
 
 -- the query that it has, by its path and its query
 abbrev pub target_query : Option (List ℕ) → List ℕ → Option (List ℕ) → Option (List ℕ)

@@ -1,5 +1,7 @@
--- Removing dot segments on the way along a path: what the output holds after each segment, and what is still due.
-use Rattle.std.specs.Prelude.{◌≡◌, ℕ, ◌≤◌, Bool, true, false, ◌&&◌, ◌||◌, ◌==◌, is_some, List, [], ◌++◌, take, drop, length, if◌then◌else◌, codes, nat_eq}
+-- Removing dot segments on the way along a path: what the output holds after each segment, and what is still
+-- due.
+use Rattle.std.specs.Prelude.{◌≡◌, ℕ, ◌≤◌, Bool, true, false, ◌&&◌, ◌||◌, ◌==◌, is_some, List, [], ◌++◌, take}
+use Rattle.std.specs.Prelude.{drop, length, if◌then◌else◌, codes, nat_eq}
 use Rattle.std.specs.List.{list_any}
 use Rattle.std.specs.Cmp.Lexicographic.{pointwise}
 use Rattle.iri_resolve.specs.Characters.{is_slash}
@@ -22,7 +24,8 @@ is_dot segment = pointwise nat_eq segment (codes ".")
 abbrev pub is_dot_dot : List ℕ → Bool
 is_dot_dot segment = pointwise nat_eq segment (codes "..")
 
--- whether a slash stands before what follows a segment and its slash: dots at the very front take theirs with them
+-- whether a slash stands before what follows a segment and its slash: dots at the very front take theirs with
+-- them
 abbrev pub slash_after : Bool → List ℕ → Bool
 slash_after slash segment = if is_dot segment || is_dot_dot segment then slash else true
 
@@ -54,11 +57,14 @@ pub record WritesFrom (start : ℕ) (old new output : List ℕ) : Type 0 where
   pub front : take start new ≡ take start old
   pub output_is : drop start new ≡ output
 
--- a path was walked up to its last slash: whatever follows it, what the output is in the end is what it would have been
+-- a path was walked up to its last slash: whatever follows it, what the output is in the end is what it would
+-- have been
 pub record IsWalked (start : ℕ) (old new : List ℕ) (slash : Bool) (path : List ℕ) (next : Bool) : Type 0 where
   pub within : start ≤ length new
   pub front : take start new ≡ take start old
-  pub due : (rest : List ℕ) → dots_removed (after_slash next rest) (drop start new) ≡ dots_removed (after_slash slash (up_to_last_slash path ++ rest)) (drop start old)
+  pub due : (rest : List ℕ)
+      → dots_removed (after_slash next rest) (drop start new) ≡ dots_removed
+      (after_slash slash (up_to_last_slash path ++ rest)) (drop start old)
 
 -- whether a slash stands before a path that is merged with that of the base
 abbrev pub is_rooted : Parts → Bool

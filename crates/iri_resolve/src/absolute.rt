@@ -5,8 +5,8 @@ ghost use Rattle.iri_resolve.specs.Resolution.{IsAbsolute};
 
 use crate::Reference;
 
-/// Whether the text is an absolute IRI: a scheme, a colon, and characters that an IRI may hold. It takes no memory, and
-/// time linear in the text.
+/// Whether the text is an absolute IRI: a scheme, a colon, and characters that an IRI may hold. It takes no
+/// memory, and time linear in the text.
 pub fn is_absolute(text: &str) -> bool
     ensures { IsTrue result ↔ IsAbsolute text.now }
 {

@@ -1,13 +1,15 @@
-ghost use Rattle.std.specs.Prelude.{◌≡◌, true, false, ◌<◌, ◌≤◌, ◌++◌, length, slice_index, take, drop, string_bytes, string_len, IfOk, OnOk, MatchOption, IsUtf8};
+ghost use Rattle.std.specs.Prelude.{◌≡◌, true, false, ◌<◌, ◌≤◌, ◌++◌, length, slice_index, take, drop};
+ghost use Rattle.std.specs.Prelude.{string_bytes, string_len, IfOk, OnOk, MatchOption, IsUtf8};
 ghost use Rattle.std.specs.List.{list_any};
 ghost use Rattle.iri_resolve.specs.Characters.{is_slash};
 ghost use Rattle.iri_resolve.specs.DotSegments.{without_dot_segments, without_last_segment};
-ghost use Rattle.iri_resolve.specs.Walk.{after_slash, dots_removed, slash_after, with_segment, with_last_segment, last_segment, IsSegment, WritesFrom, IsWalked};
+ghost use Rattle.iri_resolve.specs.Walk.{after_slash, dots_removed, slash_after, with_segment};
+ghost use Rattle.iri_resolve.specs.Walk.{with_last_segment, last_segment, IsSegment, WritesFrom, IsWalked};
 
 use std::alloc::AllocError;
 
-// Writes what a path is without its dot segments, behind what was written (RFC 3986, section 5.2.4). It takes time linear
-// in the path: what a segment `..` walks back over is taken away.
+// Writes what a path is without its dot segments, behind what was written (RFC 3986, section 5.2.4). It takes
+// time linear in the path: what a segment `..` walks back over is taken away.
 pub(crate) fn push_without_dots(out: &mut String, path: &str) -> Result<(), AllocError>
     ensures { OnOk result (string_bytes out.new ≡ string_bytes out.old ++ without_dot_segments path.now) }
 {
@@ -15,8 +17,8 @@ pub(crate) fn push_without_dots(out: &mut String, path: &str) -> Result<(), Allo
     push_segments(out, start, false, path)
 }
 
-// Walks a path to its end. What `out` holds from `start` on is the output, and `slash` says whether a slash stands before
-// the path.
+// Walks a path to its end. What `out` holds from `start` on is the output, and `slash` says whether a slash
+// stands before the path.
 pub(crate) fn push_segments(
     out: &mut String,
     start: usize,
@@ -33,8 +35,8 @@ pub(crate) fn push_segments(
     push_last_segment(out, start, slash, last)
 }
 
-// Walks the segments that a slash follows. It answers whether a slash stands before what comes next, and the last
-// segment.
+// Walks the segments that a slash follows. It answers whether a slash stands before what comes next, and the
+// last segment.
 pub(crate) fn push_directories<'a>(
     out: &mut String,
     start: usize,
@@ -43,7 +45,8 @@ pub(crate) fn push_directories<'a>(
 ) -> Result<(bool, &'a str), AllocError>
     requires start { start ≤ string_len out.old }
     requires text { IsUtf8 (take start (string_bytes out.old)) }
-    ensures walked { IfOk result (λ next. IsWalked start (string_bytes out.old) (string_bytes out.new) slash path.now next.0) }
+    ensures walked { IfOk result (λ next.
+        IsWalked start (string_bytes out.old) (string_bytes out.new) slash path.now next.0) }
     ensures last { IfOk result (λ next. next.1.now ≡ last_segment path.now) }
 {
     let mut next = slash;
@@ -57,7 +60,8 @@ pub(crate) fn push_directories<'a>(
 
 // The first segment that a slash follows, and what stands behind that slash.
 fn cut_segment(path: &str) -> Option<(&str, &str)>
-    ensures { MatchOption result (list_any is_slash path.now ≡ false) (λ cut. IsSegment path.now cut.0.now cut.1.now) }
+    ensures { MatchOption result (list_any is_slash path.now ≡ false)
+        (λ cut. IsSegment path.now cut.0.now cut.1.now) }
 {
     path.split_once('/')
 }

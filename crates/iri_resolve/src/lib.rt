@@ -8,7 +8,8 @@
 //! | `resolution.rt` | `resolve`: what a reference stands for over a base |
 //! | `fault.rt` | `IriFault` |
 //!
-//! It stands on `shx_term`. Start with `resolution.rt`; `specs/Resolution.antt` says what a reference stands for.
+//! It stands on `shx_term`. Start with `resolution.rt`; `specs/Resolution.antt` says what a reference stands
+//! for.
 #![tactic(auto)]
 
 mod absolute;

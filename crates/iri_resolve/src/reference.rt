@@ -2,7 +2,8 @@ ghost use Rattle.std.specs.Prelude.{◌≡◌, ◌==◌, ◌<◌, Bool};
 ghost use Rattle.std.specs.List.{list_all, before_first};
 ghost use Rattle.std.specs.Option.{option_copied};
 ghost use Rattle.iri_resolve.specs.Characters.{is_scheme_byte, is_slash};
-ghost use Rattle.iri_resolve.specs.Parts.{parts_of, part_after, is_scheme, scheme_of, without_scheme, authority_of, path_of, from_first};
+ghost use Rattle.iri_resolve.specs.Parts.{parts_of, part_after, is_scheme, scheme_of, without_scheme};
+ghost use Rattle.iri_resolve.specs.Parts.{authority_of, path_of, from_first};
 
 /// A reference split into its parts (RFC 3986, section 3 and appendix B). A part that is there may be empty.
 #[derive(Clone, Copy, Debug)]
@@ -17,8 +18,8 @@ pub struct Reference<'a> {
 impl<'a> Reference<'a> {
     ghost use Rattle.iri_resolve.specs.Reference.{parts_in};
 
-    /// The parts of a text. Where what stands before the first colon is no scheme, there is none, and the colon belongs
-    /// to the rest. It takes no memory, and time linear in the text.
+    /// The parts of a text. A colon ends a scheme only where what it follows is one; else it is part of the
+    /// rest. It takes no memory, and time linear in the text.
     pub fn split(text: &'a str) -> Reference<'a>
         ensures { parts_in result ≡ parts_of text.now }
     {

@@ -6,7 +6,8 @@ ghost use Rattle.iri_resolve.specs.DotSegments.{without_dot_segments};
 ghost use Rattle.iri_resolve.specs.Parts.{with_front, with_back, written};
 ghost use Rattle.iri_resolve.specs.Reference.{parts_in};
 ghost use Rattle.iri_resolve.specs.Walk.{is_rooted};
-ghost use Rattle.iri_resolve.specs.Resolution.{IsAbsolute, resolved, merged_path, target_path, target_query, target_of};
+ghost use Rattle.iri_resolve.specs.Resolution.{IsAbsolute, resolved, merged_path, target_path, target_query};
+ghost use Rattle.iri_resolve.specs.Resolution.{target_of};
 
 use crate::absolute::is_allowed;
 use crate::dot_segments::{push_directories, push_segments, push_without_dots};
@@ -14,21 +15,22 @@ use crate::{IriFault, Reference};
 use shx_term::IriText;
 use std::alloc::{AllocError, Global};
 
-/// What a reference stands for over an absolute base (RFC 3986, section 5.2). A reference with a scheme stands for
-/// itself, as it is written, and a fragment of the base is not used. It takes time and memory linear in the base and the
-/// reference together.
+/// What a reference stands for over an absolute base (RFC 3986, section 5.2). A reference with a scheme
+/// stands for itself, as it is written, and a fragment of the base is not used. It takes time and memory
+/// linear in the base and the reference together.
 ///
 /// # Errors
 ///
-/// `NotAllowed` where the reference has a character that may not stand in an IRI, and `Memory` where an allocation is
-/// refused.
+/// `NotAllowed` where the reference has a character that may not stand in an IRI, and `Memory` where an
+/// allocation is refused.
 pub fn resolve(alloc: Global, base: &IriText, reference: &str) -> Result<IriText, IriFault>
     requires { IsAbsolute base.now }
     ensures resolved { IfOk result (λ iri. iri ≡ resolved base.now reference.now) }
     ensures absolute { IfOk result IsAbsolute }
 
     // `NotAllowed` comes exactly where a character of the reference is not allowed.
-    ensures refused { IfErr result (λ fault. (fault ≡ IriFault.NotAllowed) ↔ (is_allowed reference.now ≡ false)) }
+    ensures refused { IfErr result (λ fault.
+        (fault ≡ IriFault.NotAllowed) ↔ (is_allowed reference.now ≡ false)) }
     ensures allowed { OnOk result (is_allowed reference.now ≡ true) }
 {
     if !is_allowed(reference) {
@@ -88,7 +90,9 @@ fn push_over_base(
         ≡ string_bytes out.old
         ++ (with_front (codes "//") (parts_in base.now).authority
         ++ (target_path (parts_in base.now) (parts_in reference.now).path
-        ++ with_front (codes "?") (target_query (parts_in base.now).query (parts_in reference.now).path (parts_in reference.now).query)))) }
+        ++ with_front (codes "?")
+        (target_query (parts_in base.now).query
+        (parts_in reference.now).path (parts_in reference.now).query)))) }
 {
     push_part(out, "//", base.authority)?;
     push_path(out, base, reference.path)?;
@@ -97,7 +101,8 @@ fn push_over_base(
 }
 
 fn push_scheme(out: &mut String, scheme: Option<&str>) -> Result<(), AllocError>
-    ensures { OnOk result (string_bytes out.new ≡ string_bytes out.old ++ with_back (option_copied scheme.entry) (codes ":")) }
+    ensures { OnOk result
+        (string_bytes out.new ≡ string_bytes out.old ++ with_back (option_copied scheme.entry) (codes ":")) }
 {
     if let Some(scheme) = scheme {
         out.push_str(scheme)?;
@@ -108,7 +113,8 @@ fn push_scheme(out: &mut String, scheme: Option<&str>) -> Result<(), AllocError>
 
 // Writes a part with what stands before it, where it is there.
 fn push_part(out: &mut String, front: &str, part: Option<&str>) -> Result<(), AllocError>
-    ensures { OnOk result (string_bytes out.new ≡ string_bytes out.old ++ with_front front.now (option_copied part.entry)) }
+    ensures { OnOk result
+        (string_bytes out.new ≡ string_bytes out.old ++ with_front front.now (option_copied part.entry)) }
 {
     if let Some(part) = part {
         out.push_str(front)?;
@@ -120,7 +126,8 @@ fn push_part(out: &mut String, front: &str, part: Option<&str>) -> Result<(), Al
 // The query of a reference without authority: that of the base only where the reference has neither path nor
 // query.
 fn target_query<'a>(base: Option<&'a str>, path: &str, query: Option<&'a str>) -> Option<&'a str>
-    ensures { option_copied result ≡ target_query (option_copied base.entry) path.now (option_copied query.entry) }
+    ensures { option_copied result
+        ≡ target_query (option_copied base.entry) path.now (option_copied query.entry) }
 {
     if path.is_empty() && query.is_none() {
         return base;
@@ -130,7 +137,8 @@ fn target_query<'a>(base: Option<&'a str>, path: &str, query: Option<&'a str>) -
 
 // Writes the path of a reference without authority.
 fn push_path(out: &mut String, base: &Reference<'_>, path: &str) -> Result<(), AllocError>
-    ensures { OnOk result (string_bytes out.new ≡ string_bytes out.old ++ target_path (parts_in base.now) path.now) }
+    ensures { OnOk result
+        (string_bytes out.new ≡ string_bytes out.old ++ target_path (parts_in base.now) path.now) }
 {
     match path.as_bytes() {
         [] => out.push_str(base.path),

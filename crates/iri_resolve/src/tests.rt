@@ -74,8 +74,8 @@ fn worked_examples(rt: HostRuntime) -> Result<(), Fail> {
     )
 }
 
-// The examples of RFC 3986, sections 5.4.1 and 5.4.2, in their order. `g:h` and `http:g` have a scheme and stand for themselves, as the
-// standard has them for strict readers.
+// The examples of RFC 3986, sections 5.4.1 and 5.4.2, in their order. `g:h` and `http:g` have a scheme and
+// stand for themselves, as the standard has them for strict readers.
 #[test]
 fn examples_of_the_standard(rt: HostRuntime) -> Result<(), Fail> {
     let table = [

@@ -1,4 +1,4 @@
-use Rattle.iri_resolve.proofs.Walks.{IsCharBoundary-before_slash}
+use Rattle.iri_resolve.proofs.WalkLemmas.{IsCharBoundary-before_slash}
 use Rattle.iri_resolve.proofs.reference.cut_before_slash.Goals as goal
 
 pub split_at-requires : goal.split_at-requires

@@ -13,4 +13,11 @@ returns c =
     let path = c.cut_authority.ensures.path ∙ ap path_of rest in
     let query = c.cut-2.ensures.after ∙ ap (part_after is_question_mark) c.cut.ensures.before in
     let fragment = c.cut.ensures.after in
-    λ i. record { scheme = scheme i; authority = authority i; path = path i; query = query i; fragment = fragment i }
+    λ i. record {
+      scheme = scheme i;
+      authority = authority i;
+      path = path i;
+      query = query i;
+      fragment =
+          fragment i;
+    }

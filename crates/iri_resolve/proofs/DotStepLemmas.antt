@@ -1,5 +1,6 @@
 -- The steps that remove dot segments end: more of them than the input has bytes change nothing.
-use Rattle.std.proofs.Common.{◌≡◌, ℕ, ◌≤◌, zero, suc, Bool, true, false, ◌||◌, cond, List, [], ◌∷◌, ◌++◌, length, drop, refl, sym, ◌∙◌, arith}
+use Rattle.std.proofs.Common.{◌≡◌, ℕ, ◌≤◌, zero, suc, Bool, true, false, ◌||◌, cond, List, [], ◌∷◌, ◌++◌}
+use Rattle.std.proofs.Common.{length, drop, refl, sym, ◌∙◌, arith}
 use Rattle.std.specs.Prelude.{codes, nat_eq}
 use Rattle.std.specs.List.{starts_with}
 use Rattle.std.specs.Cmp.Lexicographic.{pointwise, as_long}
@@ -7,7 +8,8 @@ use Rattle.std.proofs.lemmas.List.{append-nil, length-drop}
 use Rattle.iri_resolve.specs.DotSegments.{Dots, dot_step, dot_steps, first_segment, without_last_segment}
 use Rattle.iri_resolve.specs.Walk.{dots_removed}
 
-pub dot_steps-nil : (n : ℕ) (output : List ℕ) → (dot_steps n (record { input = []; output = output })).output ≡ output
+pub dot_steps-nil : (n : ℕ) (output : List ℕ)
+    → (dot_steps n (record { input = []; output = output })).output ≡ output
 dot_steps-nil zero output = refl
 dot_steps-nil (suc n) output = dot_steps-nil n (output ++ []) ∙ append-nil output
 
@@ -22,7 +24,8 @@ pub dot_step-cases : (P : Dots → Type 0) (input output : List ℕ)
     → P (record { input = drop 2 input; output = output })
     → (pointwise nat_eq input (codes "/.") ≡ true → P (record { input = codes "/"; output = output }))
     → P (record { input = drop 3 input; output = without_last_segment output })
-    → (pointwise nat_eq input (codes "/..") ≡ true → P (record { input = codes "/"; output = without_last_segment output }))
+    → (pointwise nat_eq input (codes "/..") ≡ true
+    → P (record { input = codes "/"; output = without_last_segment output }))
     → P (record { input = []; output = output })
     → P (record { input = drop (length (first_segment input)) input; output = output ++ first_segment input })
     → P (dot_step (record { input = input; output = output }))
@@ -52,14 +55,18 @@ dot_step-cases P input output up here dot back dots none on =
     (choice P (is (codes "/..")) r₅ e₆ dots
     (choice P (is (codes ".") || is (codes "..")) r₆ r₇ (λ _. none) on))))))
 
-pub length-dot_step : (b : ℕ) (bs output : List ℕ) → length (dot_step (record { input = b ∷ bs; output = output })).input ≤ length bs
+pub length-dot_step : (b : ℕ) (bs output : List ℕ)
+    → length (dot_step (record { input = b ∷ bs; output = output })).input ≤ length bs
 length-dot_step b bs output =
     dot_step-cases (λ d. length d.input ≤ length bs) (b ∷ bs) output
     (omega (arith, length-drop {A = ℕ})) (omega (arith, length-drop {A = ℕ}))
     (λ e. omega (arith, as_long nat_eq (b ∷ bs) (codes "/.") e)) (omega (arith, length-drop {A = ℕ}))
-    (λ e. omega (arith, as_long nat_eq (b ∷ bs) (codes "/..") e)) (omega arith) (omega (arith, length-drop {A = ℕ}))
+    (λ e. omega (arith, as_long nat_eq (b ∷ bs) (codes "/..") e)) (omega arith)
+    (omega (arith, length-drop {A = ℕ}))
 
-pub dot_steps-enough : (n m : ℕ) (input output : List ℕ) → length input ≤ n → length input ≤ m → (dot_steps n (record { input = input; output = output })).output ≡ (dot_steps m (record { input = input; output = output })).output
+pub dot_steps-enough : (n m : ℕ) (input output : List ℕ) → length input ≤ n → length input ≤ m
+    → (dot_steps n (record { input = input; output = output })).output ≡
+    (dot_steps m (record { input = input; output = output })).output
 dot_steps-enough n m [] output h k = dot_steps-nil n output ∙ sym (dot_steps-nil m output)
 dot_steps-enough zero m (b ∷ bs) output h k = absurd (omega arith)
 dot_steps-enough (suc n) zero (b ∷ bs) output h k = absurd (omega arith)
@@ -69,11 +76,15 @@ dot_steps-enough (suc n) (suc m) (b ∷ bs) output h k =
     dot_steps-enough n m next.input next.output (omega arith) (omega arith)
 
 -- one step on the way
-pub dots_removed-step : (b : ℕ) (bs output : List ℕ) → dots_removed (b ∷ bs) output ≡ dots_removed (dot_step (record { input = b ∷ bs; output = output })).input (dot_step (record { input = b ∷ bs; output = output })).output
+pub dots_removed-step : (b : ℕ) (bs output : List ℕ)
+    → dots_removed (b ∷ bs) output ≡ dots_removed
+    (dot_step (record { input = b ∷ bs; output = output })).input
+    (dot_step (record { input = b ∷ bs; output = output })).output
 unfolding dots_removed
 dots_removed-step b bs output =
     let next = dot_step (record { input = b ∷ bs; output = output }) in
-    dot_steps-enough (length bs) (length next.input) next.input next.output (length-dot_step b bs output) (omega arith)
+    dot_steps-enough (length bs) (length next.input) next.input next.output (length-dot_step b bs output)
+    (omega arith)
 
 pub dots_removed-nil : (output : List ℕ) → dots_removed [] output ≡ output
 unfolding dots_removed

@@ -1,0 +1,32 @@
+//! Texts into a sink, without memory: a writer that gathers them, and the texts of terms and answers.
+//!
+//! | file | what it holds |
+//! |---|---|
+//! | `writer.rt` | `Writer`: gathers texts, puts them in large pieces, and remembers its first failure |
+//! | `pending.rt`, `put_all.rt` | the bytes that it gathers; a text put whole |
+//! | `write_fault.rt` | `WriteFault`: the one error of a text that is written whole |
+//! | `answer.rt`, `names.rt` | `Answer` and its text; the names of codes and roles |
+//! | `number.rt`, `term.rt` | numbers and terms |
+//!
+//! It stands on `shx_term`, `shx_outside` and `itoa`. Start with `writer.rt`; `specs/Writes.antt` says what
+//! is left in a sink, `specs/Added.antt` what adding is, and `specs/Answers.antt` has the texts. A text of
+//! several parts is written by a function over `shx_term::Pieces`, which adds the parts in turn.
+#![tactic(auto)]
+
+mod answer;
+mod names;
+mod number;
+mod pending;
+mod put_all;
+mod term;
+#[cfg(test)]
+mod tests;
+mod write_fault;
+mod writer;
+
+pub use answer::{Answer, add_answer, write_answer};
+pub use names::NOT_BUILT;
+pub use number::add_number;
+pub use term::write_term;
+pub use write_fault::WriteFault;
+pub use writer::Writer;

@@ -1,0 +1,28 @@
+ghost use Rattle.std.specs.Prelude.{◌≡◌};
+ghost use Rattle.report_write.specs.Names.{code_name, role_name};
+
+use shx_outside::Role;
+
+/// The code of what this version does not read.
+pub const NOT_BUILT: u32 = 59;
+
+/// The name of a code, empty where the code is not known.
+pub fn code_name(code: u32) -> &'static str
+    ensures { result.now ≡ code_name code }
+{
+    match code {
+        NOT_BUILT => "NotBuilt",
+        _ => "",
+    }
+}
+
+/// What a text is read for, in a word.
+pub fn role_name(role: Role) -> &'static str
+    ensures { result.now ≡ role_name role }
+{
+    match role {
+        Role::Shapes => "shapes",
+        Role::Data => "data",
+        Role::Script => "script",
+    }
+}

@@ -1,0 +1,2 @@
+pub mod IriLemmas
+pub mod TripleLemmas

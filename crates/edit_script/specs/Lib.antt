@@ -1,0 +1,4 @@
+pub mod Commands
+pub mod Fault
+pub mod Iris
+pub mod Triples

@@ -1,13 +1,13 @@
-mod Declaring
-mod Documents
-mod Edits
-mod Endings
-mod Enumerated
-mod LineParts
-mod Lines
-mod Loading
-mod Preparing
-mod Replying
-mod ScriptLines
-mod Serving
-mod Sinks
+pub mod DocumentLemmas
+pub mod EachSomeLemmas
+pub mod EditLemmas
+pub mod EndLemmas
+pub mod EnumerateLemmas
+pub mod LoadLemmas
+pub mod PrepareLemmas
+pub mod ReplyLemmas
+pub mod RunLemmas
+pub mod SameReportLemmas
+pub mod ServingLemmas
+pub mod ValidationLemmas
+pub mod ValidationRunLemmas

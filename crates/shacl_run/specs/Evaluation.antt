@@ -1,5 +1,6 @@
 -- Validation (SHACL, sections 2.1 and 3.4): which nodes each shape is validated at, and with which results.
-use Rattle.std.specs.Prelude.{ℕ, ◌==◌, List, [], ◌∷◌, map, flat_map, Option, Some, None, if◌then◌else◌, slice_get}
+use Rattle.std.specs.Prelude.{ℕ, ◌==◌, List, [], ◌∷◌, map, flat_map, Option, Some, None, if◌then◌else◌}
+use Rattle.std.specs.Prelude.{slice_get}
 use Rattle.std.specs.List.{list_any, enumerate_from}
 use Rattle.shx_term.specs.IdOrder.{in_term_order}
 use Rattle.graph_view.specs.Graph.{Graph, objects_of}
@@ -14,7 +15,8 @@ use Rattle.shacl_run.specs.declared.result_row.ResultRow.{ResultRow}
 use Rattle.shacl_run.specs.declared.result_row.Component.{Component}
 use Rattle.shacl_run.specs.declared.result_row.Component.TheVariants.{HasValue as of_has_value}
 
--- what a constraint finds wrong: the value that is at fault and the predicate that led to it, where there are any
+-- what a constraint finds wrong: the value that is at fault and the predicate that led to it, where there are
+-- any
 pub record Hit : Type 0 where
   pub value : Option ℕ
   pub predicate : Option ℕ
@@ -26,7 +28,8 @@ value_nodes g (Some path) focus = objects_of g focus path
 
 -- sh:hasValue: one hit without a value, where the value is no value node
 abbrev pub has_value_hits : HasValue → List ℕ → List Hit
-has_value_hits c values = if list_any (λ v. v == c.value) values then [] else record { value = None; predicate = None } ∷ []
+has_value_hits c values =
+    if list_any (λ v. v == c.value) values then [] else record { value = None; predicate = None } ∷ []
 
 abbrev pub hits_of : Constraint → List ℕ → List Hit
 hits_of (has_value c) values = has_value_hits c values
@@ -49,7 +52,8 @@ constraint_results pair values c = map (row_of pair (component_of c)) (hits_of c
 -- the results of a shape at a focus node: those of its constraints, in order
 abbrev pub shape_results : Graph → Pair → Option Shape → List ResultRow
 shape_results g pair None = []
-shape_results g pair (Some shape) = flat_map (constraint_results pair (value_nodes g shape.path pair.node)) shape.constraints
+shape_results g pair (Some shape) =
+    flat_map (constraint_results pair (value_nodes g shape.path pair.node)) shape.constraints
 
 abbrev pub results : Graph → List Shape → Pair → List ResultRow
 results g shapes pair = shape_results g pair (slice_get shapes pair.shape)

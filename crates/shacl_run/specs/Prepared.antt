@@ -1,31 +1,45 @@
--- What preparing a run gives, for every script.
-use Rattle.std.specs.Prelude.{◌≡◌, ℕ, List, Option, Some, IfSome}
+-- What preparing a run gives, whatever its script is.
+use Rattle.std.specs.Prelude.{◌≡◌, ℕ, List, Option, IfSome, Result, Ok, Err}
+use Rattle.shx_outside.specs.declared.role.Role.TheVariants.{Shapes, Data}
+use Rattle.shx_outside.specs.Counted.{Rose}
+use Rattle.shx_outside.specs.Outside.{InputState}
+use Rattle.shx_outside.specs.Told.{IsAtEnd}
 use Rattle.shx_term.specs.declared.limits.Limits.{Limits}
-use Rattle.graph_view.specs.Graph.{Graph}
-use Rattle.shacl_run.specs.declared.plan.Shape.{Shape}
-use Rattle.shacl_run.specs.declared.validation.Validation.{Validation}
 use Rattle.shacl_run.specs.declared.prepare.Prepared.{Prepared}
-use Rattle.shacl_run.specs.declared.prepare.Prepared.TheVariants.{ShapesNotBuilt, DataNotBuilt, Open}
-use Rattle.shacl_run.specs.Run.{Output, with_shapes_text, with_script, shapes_not_built, data_not_built}
-use Rattle.shacl_run.specs.Validation.{IsValidation}
+use Rattle.shacl_run.specs.declared.prepare.Prepared.TheVariants.{NotBuilt, Open}
+use Rattle.shacl_run.specs.declared.validation.Validation.{Validation}
+use Rattle.shacl_run.specs.declared.stop.Stop.{Stop}
+use Rattle.shacl_run.specs.declared.stop.Stop.TheVariants.{Input, Write, Memory}
+use Rattle.shacl_run.specs.Run.{texts_opening, not_built}
+use Rattle.shacl_run.specs.Run.Opening.{ends, opens}
+use Rattle.shacl_run.specs.ScriptState.{ScriptState}
+use Rattle.shacl_run.specs.Validation.{IsNew, IsValidation}
 
--- whatever the script is, this is the output, where it is told
-abbrev pub IsDue : Limits → Option (List ℕ) → Option (List ℕ) → Output → Type 0
-IsDue limits shapes facts output = (script : Option (List ℕ)) → IfSome (with_shapes_text limits shapes facts script) (λ due. due ≡ output)
-
--- the output is that of a script over the validation
-pub record OpensFor (limits : Limits) (shapes facts : Option (List ℕ)) (validation : Validation) : Type 0 where
-  pub declared : List Shape
-  pub graph : Graph
-  pub stored : IsValidation limits declared graph validation
-  pub due : (script : Option (List ℕ)) → IfSome (with_shapes_text limits shapes facts script) (λ due. with_script limits declared graph script ≡ Some due)
+-- the validation is what the two texts open
+pub record Opened (limits : Limits) (shapes data_text : Option (List ℕ)) (validation : Validation)
+    : Type 0 where
+  pub state : ScriptState
+  pub stored : IsValidation limits state validation
+  pub due : IfSome (texts_opening limits shapes data_text) (λ opening. opening ≡ opens state)
 
 abbrev pub Prepares : Limits → Option (List ℕ) → Option (List ℕ) → Prepared → Type 0
-Prepares limits shapes facts ShapesNotBuilt = IsDue limits shapes facts shapes_not_built
-Prepares limits shapes facts DataNotBuilt = IsDue limits shapes facts data_not_built
-Prepares limits shapes facts (Open validation) = OpensFor limits shapes facts validation
+Prepares limits shapes data_text (NotBuilt role) =
+    IfSome (texts_opening limits shapes data_text) (λ opening. opening ≡ ends (not_built role))
+Prepares limits shapes data_text (Open validation) = Opened limits shapes data_text validation
 
-abbrev pub IsOpen : Prepared → Type 0
-IsOpen ShapesNotBuilt = ⊥
-IsOpen DataNotBuilt = ⊥
-IsOpen (Open validation) = Unit {0}
+-- a validation that is opened is new
+abbrev pub IsFresh : Prepared → Type 0
+IsFresh (NotBuilt role) = Unit {0}
+IsFresh (Open validation) = IsNew validation
+
+-- a validation is opened only where both texts were read to their ends
+abbrev pub IsReadToEnd : InputState → Prepared → Type 0
+IsReadToEnd inputs (NotBuilt role) = Unit {0}
+IsReadToEnd inputs (Open validation) = IsAtEnd (inputs.rest Shapes) × IsAtEnd (inputs.rest Data)
+
+-- the inputs' count rose where they failed, and in no other case
+abbrev pub StopCause : {T : Type 0} → ℕ → ℕ → Result T Stop → Type 0
+StopCause before now (Ok value) = now ≡ before
+StopCause before now (Err Input) = Rose before now
+StopCause before now (Err Write) = ⊥
+StopCause before now (Err Memory) = now ≡ before

@@ -1,5 +1,6 @@
 -- The text of a report, in lines: a head that counts the results, and a line for each of them.
-use Rattle.std.specs.Prelude.{ℕ, List, [], ◌∷◌, ◌++◌, flat_map, length, Option, Some, None, slice_get, codes, decimal}
+use Rattle.std.specs.Prelude.{ℕ, List, [], ◌∷◌, ◌++◌, flat_map, length, Option, Some, None, slice_get, codes}
+use Rattle.std.specs.Prelude.{decimal}
 use Rattle.shx_term.specs.declared.term.Term.{Term}
 use Rattle.shx_term.specs.Spelling.{spelling_of}
 use Rattle.shacl_run.specs.declared.plan.Shape.{Shape}
@@ -32,12 +33,16 @@ abbrev pub path_text : List Term → Option Shape → List ℕ
 path_text terms None = []
 path_text terms (Some shape) = optional_text terms shape.path
 
--- a result: its component, severity, source shape, focus node, path and value
+-- where a result comes from: its component, severity, source shape and focus node
+abbrev pub source_text : List Term → List Shape → ResultRow → List ℕ
+source_text terms shapes row =
+    codes "result " ++ component_name row.component ++ codes " Violation "
+    ++ shape_text terms (slice_get shapes row.shape) ++ codes " " ++ id_text terms row.focus
+
+-- a result: where it comes from, its path and its value
 abbrev pub row_text : List Term → List Shape → ResultRow → List ℕ
 row_text terms shapes row =
-    codes "result " ++ component_name row.component ++ codes " Violation "
-    ++ shape_text terms (slice_get shapes row.shape) ++ codes " "
-    ++ id_text terms row.focus ++ codes " "
+    source_text terms shapes row ++ codes " "
     ++ path_text terms (slice_get shapes row.shape) ++ codes " "
     ++ optional_text terms row.value ++ codes "\n"
 

@@ -1,118 +1,134 @@
 -- The whole output of a run: a function of the words and of the texts that are told.
-use Rattle.std.specs.Prelude.{ℕ, Bool, true, false, nat_lt, List, [], ◌∷◌, ◌++◌, Option, Some, None, if◌then◌else◌, codes, length}
+use Rattle.std.specs.Prelude.{ℕ, Bool, true, false, nat_lt, List, [], ◌∷◌, ◌++◌, length}
+use Rattle.std.specs.Prelude.{Option, Some, None, if◌then◌else◌}
 use Rattle.std.specs.Option.{option_map, option_and_then}
-use Rattle.shx_term.specs.declared.term.Term.{Term}
+use Rattle.shx_outside.specs.declared.role.Role.{Role}
+use Rattle.shx_outside.specs.declared.role.Role.TheVariants.{Shapes, Data, Script}
 use Rattle.shx_term.specs.declared.limits.Limits.{Limits}
 use Rattle.shx_term.specs.Vocabulary.{vocabulary}
-use Rattle.graph_view.specs.Graph.{Graph}
+use Rattle.graph_view.specs.Graph.{Graph, graph_of}
+use Rattle.text_input.specs.Lines.{script_lines, fed_lines}
+use Rattle.report_write.specs.declared.answer.Answer.{Answer}
+use Rattle.report_write.specs.declared.answer.Answer.TheVariants.{NotBuilt, Usage}
+use Rattle.report_write.specs.Answers.{answer_text}
 use Rattle.shacl_run.specs.declared.plan.Shape.{Shape}
 use Rattle.shacl_run.specs.declared.result_row.ResultRow.{ResultRow}
 use Rattle.shacl_run.specs.declared.status.Status.{Status}
-use Rattle.shacl_run.specs.declared.status.Status.TheVariants.{Conforms, Violates, BadWords, Refused, LinesRefused}
+use Rattle.shacl_run.specs.declared.status.Status.TheVariants.{Conforms, Violates, BadWords, Refused}
+use Rattle.shacl_run.specs.declared.status.Status.TheVariants.{LinesRefused}
 use Rattle.shacl_run.specs.Words.{Files, command_words}
-use Rattle.shacl_run.specs.Document.{document_of, graph_of}
-use Rattle.shacl_run.specs.Shapes.{shapes_of}
+use Rattle.shacl_run.specs.Declarations.{Declarations, declared_by}
+use Rattle.shacl_run.specs.Document.{document_of}
 use Rattle.shacl_run.specs.Evaluation.{report}
-use Rattle.shacl_run.specs.Report.{report_text}
-use Rattle.shacl_run.specs.Script.{ScriptState, script_lines, answers, state_after}
+use Rattle.shacl_run.specs.Script.{said_text, answers_text, state_after}
+use Rattle.shacl_run.specs.Script.Said.{reports}
+use Rattle.shacl_run.specs.ScriptState.{ScriptState, start_state}
 
--- what is written, and how the run ends
+-- what is written, how the run ends, and whether the pattern host refused a pattern with it
 pub record Output : Type 0 where
   pub text : List ℕ
   pub status : Status
+  pub pattern_refused : Bool
 
-abbrev pub usage_output : Output
-usage_output = record {
-  text = codes "usage: shacl_keep [--format lines|turtle] [--base IRI] SHAPES DATA [SCRIPT]\n";
-  status = BadWords;
+-- an output that is one answer
+abbrev pub answer_output : Answer → Status → Output
+answer_output answer status = record { text = answer_text answer; status = status; pattern_refused = false }
+
+abbrev pub not_built : Role → Output
+not_built role = answer_output (NotBuilt role) Refused
+
+-- a text, and then an output
+abbrev pub behind : List ℕ → Output → Output
+behind front output = record {
+  text = front ++ output.text;
+  status = output.status;
+  pattern_refused = output.pattern_refused;
 }
-
-abbrev pub shapes_not_built : Output
-shapes_not_built = record { text = codes "fault shapes: 59 NotBuilt\n"; status = Refused }
-
-abbrev pub data_not_built : Output
-data_not_built = record { text = codes "fault data: 59 NotBuilt\n"; status = Refused }
 
 abbrev pub status_of_rows : List ResultRow → Status
 status_of_rows [] = Conforms
 status_of_rows (row ∷ rows) = Violates
 
-abbrev pub script_too_long : List ℕ
-script_too_long = codes "fault script: 59 NotBuilt\n"
-
 -- how a run ends where its script was read to its end
-abbrev pub status_of_state : List Shape → ScriptState → Status
-status_of_state shapes s = if s.refused then LinesRefused else status_of_rows (report s.graph shapes)
+abbrev pub status_of_state : ScriptState → Status
+status_of_state s = if s.refused then LinesRefused else status_of_rows (report s.graph s.shapes)
 
--- what follows the answers to a script that is longer than its limit, or is not
-abbrev pub end_text : Bool → List ℕ
-end_text true = script_too_long
-end_text false = []
+-- how a run ends after the lines of its script: where it is longer than its limit, and where it is not
+abbrev pub ending : Bool → ScriptState → Output
+ending true s = not_built Script
+ending false s = record { text = []; status = status_of_state s; pattern_refused = false }
 
-abbrev pub end_status : Bool → List Shape → ScriptState → Status
-end_status true shapes s = Refused
-end_status false shapes s = status_of_state shapes s
+-- what is due from a state on, of a script of which so many bytes more are allowed, and these are left
+abbrev pub output_from : Limits → ScriptState → ℕ → List ℕ → Output
+output_from limits s budget left =
+    behind (answers_text limits s (script_lines budget left))
+    (ending (nat_lt budget (length left)) (state_after limits s (script_lines budget left)))
 
--- from a state on: the answers to the lines that are left, of a script that may have so many bytes more
-abbrev pub text_from : Limits → List Shape → ScriptState → ℕ → List ℕ → List ℕ
-text_from limits shapes s budget left = answers limits shapes s (script_lines budget left) ++ end_text (nat_lt budget (length left))
+-- the report of a state, and then the answers to a script
+abbrev pub validation_output : Limits → ScriptState → List ℕ → Output
+validation_output limits s script = behind (said_text s reports) (output_from limits s limits.script script)
 
-abbrev pub status_from : Limits → List Shape → ScriptState → ℕ → List ℕ → Status
-status_from limits shapes s budget left = end_status (nat_lt budget (length left)) shapes (state_after limits shapes s (script_lines budget left))
+-- what is written up to and with the answers to those lines whose line feed stands in these bytes of the
+-- script
+abbrev pub fed_text : Limits → ScriptState → List ℕ → List ℕ
+fed_text limits s taken = answers_text limits s (fed_lines taken)
 
--- before the first line
-abbrev pub start_state : Graph → ScriptState
-start_state g = record { graph = g; line = 0; refused = false }
+-- what the words and the two texts come to: an output, or a state that is reported and then answers the
+-- script
+pub data Opening : Type 0 where
+  ends : Output → Opening
+  opens : ScriptState → Opening
 
--- the report of a graph, and then the answers to a script
-abbrev pub script_output : Limits → List Shape → Graph → List ℕ → Output
-script_output limits shapes g script = record {
-  text = report_text g.terms shapes (report g shapes) ++ text_from limits shapes (start_state g) limits.script script;
-  status = status_from limits shapes (start_state g) limits.script script;
-}
-
--- the script is told or not
-abbrev pub with_script : Limits → List Shape → Graph → Option (List ℕ) → Option Output
-with_script limits shapes g None = None
-with_script limits shapes g (Some script) = Some (script_output limits shapes g script)
-
--- the data text was read, or it is not built
-abbrev pub with_data : Limits → List Shape → Option Graph → Option (List ℕ) → Option Output
-with_data limits shapes None script = Some data_not_built
-with_data limits shapes (Some document) script = with_script limits shapes (graph_of document) script
-
--- the shapes that a document declares, and the terms that are then held
-pub record Declarations : Type 0 where
-  pub terms : List Term
-  pub shapes : List Shape
-
-abbrev pub declared_by : Graph → Option Declarations
-declared_by document = option_map (λ shapes. record { terms = document.terms; shapes = shapes }) (shapes_of (graph_of document))
+-- the data text states a document, or it is not built
+abbrev pub with_document : List Shape → Option Graph → Opening
+with_document shapes None = ends (not_built Data)
+with_document shapes (Some document) = opens (start_state (graph_of document.terms document.triples) shapes)
 
 -- the shapes are declared, or they are not built; the data text is told or not
-abbrev pub with_declarations : Limits → Option Declarations → Option (List ℕ) → Option (List ℕ) → Option Output
-with_declarations limits None facts script = Some shapes_not_built
-with_declarations limits (Some declared) None script = None
-with_declarations limits (Some declared) (Some text) script = with_data limits declared.shapes (document_of limits declared.terms text) script
+abbrev pub with_declarations : Limits → Option Declarations → Option (List ℕ) → Option Opening
+with_declarations limits None data_text = Some (ends (not_built Shapes))
+with_declarations limits (Some declared) data_text =
+    option_map (λ text. with_document declared.shapes (document_of limits declared.terms text)) data_text
 
--- the shapes text is told or not
-abbrev pub with_shapes_text : Limits → Option (List ℕ) → Option (List ℕ) → Option (List ℕ) → Option Output
-with_shapes_text limits None facts script = None
-with_shapes_text limits (Some text) facts script = with_declarations limits (option_and_then declared_by (document_of limits vocabulary text)) facts script
+-- what the two texts come to, where they are told
+abbrev pub texts_opening : Limits → Option (List ℕ) → Option (List ℕ) → Option Opening
+texts_opening limits shapes data_text =
+    option_and_then
+    (λ text.
+    with_declarations limits (option_and_then declared_by (document_of limits vocabulary text)) data_text)
+    shapes
+
+-- the words name files or not
+abbrev pub files_opening : Limits → Option Files → (List ℕ → Option (List ℕ)) → Option Opening
+files_opening limits None texts = Some (ends (answer_output Usage BadWords))
+files_opening limits (Some files) texts =
+    texts_opening limits (texts files.shapes_file) (texts files.data_file)
+
+abbrev pub opening : Limits → List (List ℕ) → (List ℕ → Option (List ℕ)) → Option Opening
+opening limits words texts = files_opening limits (command_words words) texts
 
 -- a script that the words do not name is empty
 abbrev pub script_text : (List ℕ → Option (List ℕ)) → Option (List ℕ) → Option (List ℕ)
 script_text texts None = Some []
 script_text texts (Some name) = texts name
 
-abbrev pub files_output : Limits → Files → (List ℕ → Option (List ℕ)) → Option Output
-files_output limits files texts = with_shapes_text limits (texts files.shapes_file) (texts files.data_file) (script_text texts files.script_file)
+abbrev pub words_script : (List ℕ → Option (List ℕ)) → Option Files → Option (List ℕ)
+words_script texts None = Some []
+words_script texts (Some files) = script_text texts files.script_file
 
--- the words name files or not
-abbrev pub with_files : Limits → Option Files → (List ℕ → Option (List ℕ)) → Option Output
-with_files limits None texts = Some usage_output
-with_files limits (Some files) texts = files_output limits files texts
+-- the output of what the texts came to, where the script is told that it depends on
+abbrev pub opening_output : Limits → Option (List ℕ) → Opening → Option Output
+opening_output limits script (ends output) = Some output
+opening_output limits script (opens s) = option_map (validation_output limits s) script
 
--- the output, where the texts that it depends on are told
+-- the output, where the texts are told that it depends on
 abbrev pub run_output : Limits → List (List ℕ) → (List ℕ → Option (List ℕ)) → Option Output
-run_output limits words texts = with_files limits (command_words words) texts
+run_output limits words texts =
+    option_and_then (opening_output limits (words_script texts (command_words words)))
+    (opening limits words texts)
+
+-- what is written of it up to and with the answers to the lines whose line feed stands in these bytes of
+-- the script
+abbrev pub opening_fed : Limits → Opening → List ℕ → List ℕ
+opening_fed limits (ends output) taken = []
+opening_fed limits (opens s) taken = said_text s reports ++ fed_text limits s taken

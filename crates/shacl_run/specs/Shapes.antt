@@ -1,17 +1,17 @@
--- The shapes that a shapes graph declares. So far a shape states target nodes, one path that is an IRI, and values that
--- the path must have; a graph with anything else has no shapes here.
+-- The shapes that a shapes graph declares. So far a shape states target nodes, one path that is an IRI, and
+-- values that the path must have; a graph with anything else has no shapes here.
 use Rattle.std.specs.Prelude.{ℕ, Bool, ◌||◌, ◌==◌, List, [], ◌∷◌, map, Option, Some, None, if◌then◌else◌}
 use Rattle.std.specs.List.{list_all}
 use Rattle.shx_term.specs.declared.vocabulary.TheConstants.{SH_PATH, SH_TARGET_NODE, SH_HAS_VALUE}
 use Rattle.shx_term.specs.declared.triple.Triple.{Triple}
 use Rattle.shx_term.specs.IdOrder.{in_term_order}
 use Rattle.graph_view.specs.Graph.{Graph, objects_of}
-use Rattle.shacl_run.specs.LineForm.{each_some}
 use Rattle.shacl_run.specs.declared.plan.Shape.{Shape}
 use Rattle.shacl_run.specs.declared.plan.Target.{Target}
 use Rattle.shacl_run.specs.declared.plan.Target.TheVariants.{Node}
 use Rattle.shacl_run.specs.declared.plan.Constraint.{Constraint}
 use Rattle.shacl_run.specs.declared.plan.Constraint.TheVariants.{HasValue}
+use Rattle.shacl_run.specs.Document.{each_some}
 
 -- the predicates that are built
 abbrev pub is_built : Triple → Bool

@@ -1,7 +1,8 @@
 -- How runs end.
 use Rattle.std.specs.Prelude.{ℕ}
 use Rattle.shacl_run.specs.declared.status.Status.{Status}
-use Rattle.shacl_run.specs.declared.status.Status.TheVariants.{Conforms, Violates, BadWords, Refused, InputFault, WriteFault, Memory, LinesRefused}
+use Rattle.shacl_run.specs.declared.status.Status.TheVariants.{Conforms, Violates, BadWords, Refused}
+use Rattle.shacl_run.specs.declared.status.Status.TheVariants.{InputFault, WriteFault, Memory, LinesRefused}
 
 abbrev pub status_number : Status → ℕ
 status_number Conforms = 0

@@ -1,27 +1,37 @@
 //! Edits of the data graph.
-ghost use Rattle.std.specs.Prelude.{◌≡◌, ◌<◌, ◌≤◌, ◌∷◌, [], false, length, position, Some, nat_le, MatchOption, IfOk, OnOk};
-ghost use Rattle.std.specs.List.{list_all};
+ghost use Rattle.std.specs.Prelude.{◌≡◌, ◌<◌, ◌≤◌, ◌∷◌, [], false, length, position, Some, nat_le, IfOk};
+ghost use Rattle.std.specs.Prelude.{OnOk};
 ghost use Rattle.shx_term.specs.TermOrder.{same_term};
-ghost use Rattle.shx_term.specs.Pool.{is_held, with_term, with_terms};
-ghost use Rattle.graph_view.specs.ListGraph.{plain_graph};
-ghost use Rattle.shacl_run.specs.declared.command.Edited.TheVariants.{Changed};
-ghost use Rattle.shacl_run.specs.Document.{terms_of, numbered};
-ghost use Rattle.shacl_run.specs.Script.{edited, graph_after, is_stated, terms_with};
-ghost use Rattle.shacl_run.specs.Stored.{Stores};
+ghost use Rattle.shx_term.specs.Pool.{with_term, with_terms};
+ghost use Rattle.shx_term.specs.TripleTerms.{terms_of, numbered};
+ghost use Rattle.graph_view.specs.Graph.{AllKnown};
+ghost use Rattle.graph_view.specs.SameGraph.{SameGraph};
+ghost use Rattle.shacl_run.specs.declared.edit.Edited.TheVariants.{Changed};
+ghost use Rattle.shacl_run.specs.Edits.{edited, graph_after, is_stated, terms_with};
 
-use crate::command::Edited;
-use graph_view::{GraphEdit, GraphView, ListGraph, StoreFault};
+use graph_view::{GraphEdit, GraphView, StoreFault};
 use shx_term::{Id, Memory, Pool, PoolFault, Term, TermTriple, Triple};
 use std::alloc::AllocError;
 
-/// Inserts a triple, unless it is there or a limit would be passed; then nothing changes. After want of memory the graph may
-/// hold some of the triple's terms. It takes a few look-ups by hash, and no walk of the graph.
-pub fn insert(graph: &mut ListGraph, stated: &TermTriple) -> Result<Edited, Memory>
-    ensures edited { IfOk result (λ outcome.
-        outcome ≡ edited graph.old.limit graph.old.pool.limit (plain_graph graph.old) stated.now) }
-    ensures after { IfOk result (λ outcome. Stores (graph_after outcome (plain_graph graph.old) stated.now) graph.new) }
-    ensures term_limit { graph.new.pool.limit ≡ graph.old.pool.limit }
-    ensures triple_limit { graph.new.limit ≡ graph.old.limit }
+/// What comes of an insertion.
+#[derive(Clone, Copy, Debug, PartialEq, Eq)]
+pub enum Edited {
+    Changed,
+    /// The triple was there.
+    Unchanged,
+    /// A limit would be passed; nothing changed.
+    Refused,
+}
+
+/// Inserts a triple, unless it is there or a limit would be passed; then nothing changes. After want of
+/// memory the graph may hold some of the triple's terms. It takes a few look-ups, and no walk of the graph.
+pub fn insert<E: GraphEdit>(graph: &mut E, stated: &TermTriple) -> Result<Edited, Memory>
+    ensures edited { IfOk result (λ outcome. outcome
+        ≡ edited (E.triple_limit graph.old) (E.term_limit graph.old) (E.graph graph.old) stated.now) }
+    ensures after { IfOk result (λ outcome.
+        SameGraph (graph_after outcome (E.graph graph.old) stated.now) (E.graph graph.new)) }
+    ensures term_limit { E.term_limit graph.new ≡ E.term_limit graph.old }
+    ensures triple_limit { E.triple_limit graph.new ≡ E.triple_limit graph.old }
 {
     if holds(graph, stated) {
         return Ok(Edited::Unchanged);
@@ -34,8 +44,9 @@ pub fn insert(graph: &mut ListGraph, stated: &TermTriple) -> Result<Edited, Memo
 }
 
 // Whether the graph holds the triple.
-fn holds(graph: &ListGraph, stated: &TermTriple) -> bool
-    ensures { result ≡ is_stated (plain_graph graph.now) stated.now }
+fn holds<E: GraphEdit>(graph: &E, stated: &TermTriple) -> bool
+    ensures stated { result ≡ is_stated (E.graph graph.now) stated.now }
+    ensures known { AllKnown (E.graph graph.now) }
 {
     match find(graph.pool(), stated) {
         Some(triple) => graph.contains(&triple),
@@ -45,8 +56,7 @@ fn holds(graph: &ListGraph, stated: &TermTriple) -> bool
 
 // The triple over the numbers of its terms, or `None` where one of them is not held.
 fn find(pool: &Pool, stated: &TermTriple) -> Option<Triple>
-    ensures { let terms = terms_of (stated.now ∷ []) in MatchOption result (list_all (is_held pool.now.terms) terms ≡ false)
-        (λ triple. triple ≡ numbered (with_terms pool.now.terms terms) stated.now) }
+    ensures { result ≡ numbered pool.now.terms stated.now }
 {
     let s = pool.find(&stated.s)?;
     let p = pool.find(&stated.p)?;
@@ -56,7 +66,8 @@ fn find(pool: &Pool, stated: &TermTriple) -> Option<Triple>
 
 // Whether the pool has room for the terms of the triple that it does not hold.
 fn has_room(pool: &Pool, stated: &TermTriple) -> bool
-    ensures { result ≡ nat_le (length (with_terms pool.now.terms (terms_of (stated.now ∷ [])))) pool.now.limit }
+    ensures { result
+        ≡ nat_le (length (with_terms pool.now.terms (terms_of (stated.now ∷ [])))) pool.now.limit }
 {
     // A term that stands in the triple twice is new once.
     let s_held = pool.find(&stated.s).is_some();
@@ -67,13 +78,15 @@ fn has_room(pool: &Pool, stated: &TermTriple) -> bool
 }
 
 // Enters the terms of a triple that is not there, and inserts it, where there is room.
-fn add(graph: &mut ListGraph, stated: &TermTriple) -> Result<(), Memory>
-    requires absent { is_stated (plain_graph graph.old) stated.now ≡ false }
-    requires term_room { length (terms_with (plain_graph graph.old) stated.now) ≤ graph.old.pool.limit }
-    requires triple_room { length graph.old.triples < graph.old.limit }
-    ensures after { OnOk result (Stores (graph_after Changed (plain_graph graph.old) stated.now) graph.new) }
-    ensures term_limit { graph.new.pool.limit ≡ graph.old.pool.limit }
-    ensures triple_limit { graph.new.limit ≡ graph.old.limit }
+fn add<E: GraphEdit>(graph: &mut E, stated: &TermTriple) -> Result<(), Memory>
+    requires known { AllKnown (E.graph graph.old) }
+    requires absent { is_stated (E.graph graph.old) stated.now ≡ false }
+    requires term_room { length (terms_with (E.graph graph.old) stated.now) ≤ E.term_limit graph.old }
+    requires triple_room { length (E.graph graph.old).triples < E.triple_limit graph.old }
+    ensures after { OnOk result
+        (SameGraph (graph_after Changed (E.graph graph.old) stated.now) (E.graph graph.new)) }
+    ensures term_limit { E.term_limit graph.new ≡ E.term_limit graph.old }
+    ensures triple_limit { E.triple_limit graph.new ≡ E.triple_limit graph.old }
 {
     let triple = enter_terms(graph, stated)?;
     match graph.insert(triple) {
@@ -84,13 +97,13 @@ fn add(graph: &mut ListGraph, stated: &TermTriple) -> Result<(), Memory>
 }
 
 // The triple over the numbers of its terms, which are entered where there is room.
-fn enter_terms(graph: &mut ListGraph, stated: &TermTriple) -> Result<Triple, Memory>
-    requires room { length (terms_with (plain_graph graph.old) stated.now) ≤ graph.old.pool.limit }
-    ensures terms { OnOk result (graph.new.pool.terms ≡ terms_with (plain_graph graph.old) stated.now) }
-    ensures triple { IfOk result (λ triple. triple ≡ numbered graph.new.pool.terms stated.now) }
-    ensures triples { graph.new.triples ≡ graph.old.triples }
-    ensures term_limit { graph.new.pool.limit ≡ graph.old.pool.limit }
-    ensures triple_limit { graph.new.limit ≡ graph.old.limit }
+fn enter_terms<E: GraphEdit>(graph: &mut E, stated: &TermTriple) -> Result<Triple, Memory>
+    requires room { length (terms_with (E.graph graph.old) stated.now) ≤ E.term_limit graph.old }
+    ensures terms { OnOk result ((E.graph graph.new).terms ≡ terms_with (E.graph graph.old) stated.now) }
+    ensures triple { IfOk result (λ triple. numbered (E.graph graph.new).terms stated.now ≡ Some triple) }
+    ensures triples { (E.graph graph.new).triples ≡ (E.graph graph.old).triples }
+    ensures term_limit { E.term_limit graph.new ≡ E.term_limit graph.old }
+    ensures triple_limit { E.triple_limit graph.new ≡ E.triple_limit graph.old }
 {
     let s = enter(graph, &stated.s)?;
     let p = enter(graph, &stated.p)?;
@@ -99,13 +112,13 @@ fn enter_terms(graph: &mut ListGraph, stated: &TermTriple) -> Result<Triple, Mem
 }
 
 // The number of a term, which is entered where there is room.
-fn enter(graph: &mut ListGraph, term: &Term) -> Result<Id, Memory>
-    requires room { length (with_term graph.old.pool.terms term.now) ≤ graph.old.pool.limit }
-    ensures terms { OnOk result (graph.new.pool.terms ≡ with_term graph.old.pool.terms term.now) }
-    ensures found { IfOk result (λ id. position (same_term term.now) graph.new.pool.terms ≡ Some id) }
-    ensures triples { graph.new.triples ≡ graph.old.triples }
-    ensures term_limit { graph.new.pool.limit ≡ graph.old.pool.limit }
-    ensures triple_limit { graph.new.limit ≡ graph.old.limit }
+fn enter<E: GraphEdit>(graph: &mut E, term: &Term) -> Result<Id, Memory>
+    requires room { length (with_term (E.graph graph.old).terms term.now) ≤ E.term_limit graph.old }
+    ensures terms { OnOk result ((E.graph graph.new).terms ≡ with_term (E.graph graph.old).terms term.now) }
+    ensures found { IfOk result (λ id. position (same_term term.now) (E.graph graph.new).terms ≡ Some id) }
+    ensures triples { (E.graph graph.new).triples ≡ (E.graph graph.old).triples }
+    ensures term_limit { E.term_limit graph.new ≡ E.term_limit graph.old }
+    ensures triple_limit { E.triple_limit graph.new ≡ E.triple_limit graph.old }
 {
     match graph.enter(term) {
         Ok(id) => Ok(id),
@@ -116,9 +129,8 @@ fn enter(graph: &mut ListGraph, term: &Term) -> Result<Id, Memory>
 
 #[cfg(test)]
 mod tests {
-    use super::insert;
-    use crate::command::Edited;
-    use crate::line_form::read_line;
+    use super::{Edited, insert};
+    use edit_script::read_triple;
     use graph_view::{GraphView, ListGraph};
     use shx_term::Pool;
     use std::test::Fail;
@@ -136,7 +148,7 @@ mod tests {
             ("<a:s> <a:p> <a:1> .", Edited::Refused, 66, 2),
             ("<a:s> <a:1> <a:2> .", Edited::Unchanged, 66, 2),
         ] {
-            let stated = read_line(alloc, line.as_bytes())?.expect(&rt, "a triple");
+            let stated = read_triple(alloc, line.as_bytes())?;
             assert_eq!(rt; insert(&mut graph, &stated)?, outcome, "at {line}");
             assert_eq!(rt; graph.pool().len(), terms, "at {line}");
             assert_eq!(rt; graph.len(), triples, "at {line}");

@@ -1,26 +1,25 @@
-//! The last words of a run.
+//! How a run ends.
 ghost use Rattle.std.specs.Prelude.{◌≡◌, ℕ, Some};
-ghost use Rattle.shacl_run.specs.Output.{state_of};
-ghost use Rattle.shacl_run.specs.Run.{status_of_rows};
-ghost use Rattle.shacl_run.specs.RunClauses.{Ends};
-ghost use Rattle.shacl_run.specs.Status.{IsAnswered, IsReported};
+ghost use Rattle.shacl_run.specs.Ends.{Ends};
+ghost use Rattle.shacl_run.specs.Run.{not_built, status_of_rows};
+ghost use Rattle.shacl_run.specs.Status.{IsReported};
+ghost use Rattle.shacl_run.specs.Stops.{end_status};
 
-use crate::output::put_all;
 use crate::result_row::ResultRow;
 use crate::status::Status;
-use shx_outside::Sink;
+use crate::stop::Stop;
+use report_write::{Answer, write_answer};
+use shx_outside::{Role, Sink};
 
-/// Puts a last text, and answers the status with it.
-pub fn put_last<O: Sink>(text: &str, status: Status, out: &mut O) -> Status
-    requires { IsAnswered status }
-    ensures ends { (inputs : ℕ) → Ends (Some (record { text = text.now; status = status })) result inputs inputs
-        (state_of O.held O.room O.faults out.old) (state_of O.held O.room O.faults out.new) }
-    ensures reported { IsReported result → IsReported status }
+/// Writes that a text is not built, with which the run ends.
+pub fn refuse<O: Sink>(role: Role, out: &mut O) -> Result<Status, Stop>
+    ensures ends { (faults : ℕ) → Ends (Some (not_built role)) (end_status result) faults faults
+        (O.state out.old) (O.state out.new) }
+    ensures unreported { IsReported (end_status result) → ⊥ }
+    ensures output { end_status result ≡ Status.InputFault → ⊥ }
 {
-    match put_all(text.as_bytes(), out) {
-        Ok(()) => status,
-        Err(_) => Status::WriteFault,
-    }
+    write_answer(&Answer::NotBuilt { role }, out)?;
+    Ok(Status::Refused)
 }
 
 /// How a run ends that gave these results.

@@ -1,6 +1,7 @@
 //! Validation: the results of shapes at their target nodes (SHACL, sections 2.1 and 3.4).
 ghost use Rattle.std.specs.Prelude.{◌≡◌, ◌++◌, map, IfOk, OnOk};
-ghost use Rattle.shacl_run.specs.Evaluation.{report, pair_of, pairs, results, target_nodes, value_nodes, constraint_results, has_value_hits, row_of, node_of_target};
+ghost use Rattle.shacl_run.specs.Evaluation.{report, pair_of, pairs, results, target_nodes, node_of_target};
+ghost use Rattle.shacl_run.specs.Evaluation.{value_nodes, constraint_results, has_value_hits, row_of};
 
 use crate::plan::{Constraint, HasValue, Shape, Target};
 use crate::result_row::{Component, Pair, ResultRow, ShapeNo};
@@ -42,10 +43,11 @@ fn add_pairs<V: GraphView>(
     shape: &Shape,
     pairs: &mut Vec<Pair>,
 ) -> Result<(), Memory>
-    ensures { OnOk result (pairs.new.items ≡ pairs.old.items ++ map (pair_of no) (target_nodes (V.graph view.now) shape.now)) }
+    ensures { OnOk result (pairs.new.items
+        ≡ pairs.old.items ++ map (pair_of no) (target_nodes (V.graph view.now) shape.now)) }
 {
     let nodes = nodes_of_targets(alloc, shape.targets.as_slice())?;
-    let ordered = view.pool().in_order(nodes)?;
+    let ordered = view.pool().in_order(nodes);
     for node in &ordered {
         pairs.push(Pair {
             shape: no,
@@ -117,7 +119,8 @@ fn check(
     values: &[Id],
     rows: &mut Vec<ResultRow>,
 ) -> Result<(), Memory>
-    ensures { OnOk result (rows.new.items ≡ rows.old.items ++ constraint_results pair values.now constraint.now) }
+    ensures { OnOk result
+        (rows.new.items ≡ rows.old.items ++ constraint_results pair values.now constraint.now) }
 {
     match constraint {
         Constraint::HasValue(has_value) => check_has_value(has_value, pair, values, rows),

@@ -1,39 +1,42 @@
 //! The graph of a document.
-ghost use Rattle.std.specs.Prelude.{◌≡◌, ◌≤◌, ◌<◌, ◌+◌, length, All, IfOk, OnOk};
-ghost use Rattle.std.specs.List.{IsDistinct};
-ghost use Rattle.shx_term.specs.Triple.{same_triple};
-ghost use Rattle.graph_view.specs.Graph.{IsKnownTriple, HasAlso};
-ghost use Rattle.graph_view.specs.SameGraph.{HoldsSame};
+ghost use Rattle.std.specs.Prelude.{◌≡◌, ◌≤◌, ◌<◌, ◌+◌, [], length, All, OnOk};
+ghost use Rattle.graph_view.specs.Graph.{IsKnownTriple, HasAlso, graph_of};
+ghost use Rattle.graph_view.specs.SameGraph.{SameGraph};
 
-use graph_view::{GraphEdit, GraphView, ListGraph, StoreFault};
-use shx_term::{Memory, Pool, Triple};
-use std::alloc::{AllocError, Global};
+use graph_view::{GraphEdit, GraphView, StoreFault};
+use shx_term::{Memory, Triple};
+use std::alloc::AllocError;
 
-/// A graph over the terms of a pool that holds these triples, each once.
-pub fn load(alloc: Global, pool: Pool, triples: &[Triple], limit: u64) -> Result<ListGraph, Memory>
-    requires known { All (IsKnownTriple pool.terms) triples.now }
-    requires few { length triples.now ≤ limit }
-    ensures pool { IfOk result (λ graph. graph.pool ≡ pool) }
-    ensures limit { IfOk result (λ graph. graph.limit ≡ limit) }
-    ensures triples { IfOk result (λ graph. HoldsSame graph.triples triples.now) }
-    ensures distinct { IfOk result (λ graph. IsDistinct same_triple graph.triples) }
+/// Inserts triples into a graph that holds none: it then holds these, each once. It takes a few look-ups for
+/// each of them.
+pub fn load<E: GraphEdit>(graph: &mut E, triples: &[Triple]) -> Result<(), Memory>
+    requires empty { (E.graph graph.old).triples ≡ [] }
+    requires known { All (IsKnownTriple (E.graph graph.old).terms) triples.now }
+    requires few { length triples.now ≤ E.triple_limit graph.old }
+    ensures loaded { OnOk result
+        (SameGraph (graph_of (E.graph graph.old).terms triples.now) (E.graph graph.new)) }
+    ensures terms { (E.graph graph.new).terms ≡ (E.graph graph.old).terms }
+    ensures term_limit { E.term_limit graph.new ≡ E.term_limit graph.old }
+    ensures triple_limit { E.triple_limit graph.new ≡ E.triple_limit graph.old }
 {
-    let mut graph = ListGraph::new(alloc, pool, limit);
     for triple in triples {
-        add(&mut graph, *triple)?;
+        add(graph, *triple)?;
     }
-    prove!(graph.len() <= limit);
-    Ok(graph)
+    // The triples of a graph are distinct.
+    let _ = graph.len();
+    Ok(())
 }
 
 // Adds a triple where there is room.
-fn add(graph: &mut ListGraph, triple: Triple) -> Result<(), Memory>
-    requires known { IsKnownTriple graph.old.pool.terms triple }
-    requires room { length graph.old.triples < graph.old.limit }
-    ensures pool { graph.new.pool ≡ graph.old.pool }
-    ensures limit { graph.new.limit ≡ graph.old.limit }
-    ensures added { OnOk result (HasAlso graph.old.triples graph.new.triples triple) }
-    ensures count { OnOk result (length graph.new.triples ≤ length graph.old.triples + 1) }
+fn add<E: GraphEdit>(graph: &mut E, triple: Triple) -> Result<(), Memory>
+    requires known { IsKnownTriple (E.graph graph.old).terms triple }
+    requires room { length (E.graph graph.old).triples < E.triple_limit graph.old }
+    ensures terms { (E.graph graph.new).terms ≡ (E.graph graph.old).terms }
+    ensures term_limit { E.term_limit graph.new ≡ E.term_limit graph.old }
+    ensures triple_limit { E.triple_limit graph.new ≡ E.triple_limit graph.old }
+    ensures added { OnOk result (HasAlso (E.graph graph.old).triples (E.graph graph.new).triples triple) }
+    ensures count { OnOk result
+        (length (E.graph graph.new).triples ≤ length (E.graph graph.old).triples + 1) }
 {
     match graph.insert(triple) {
         Ok(_) => Ok(()),

@@ -1,32 +1,36 @@
 //! From the data text to a validation.
-ghost use Rattle.std.specs.Prelude.{◌≡◌, None, Some, MatchOption, IfOk};
-ghost use Rattle.shacl_run.specs.Document.{graph_of};
-ghost use Rattle.shacl_run.specs.Known.{IsKnownDocument};
-ghost use Rattle.shacl_run.specs.Reading.{document_read};
-ghost use Rattle.shacl_run.specs.Stored.{Stores};
-ghost use Rattle.shacl_run.specs.Opened.{Opens};
+ghost use Rattle.std.specs.Prelude.{◌≡◌, None, false, MatchOption, IfSome, IfOk};
+ghost use Rattle.graph_view.specs.Graph.{graph_of};
+ghost use Rattle.graph_view.specs.SameGraph.{SameGraph};
+ghost use Rattle.graph_view.specs.ListGraph.{plain_graph};
+ghost use Rattle.shacl_run.specs.Document.{IsKnownDocument, document_of};
+ghost use Rattle.shacl_run.specs.Validation.{OpensFor};
 
-use crate::declare::{Declared, stated_triples};
+use crate::declare::Declared;
+use crate::document::read_document;
 use crate::load::load;
 use crate::plan::Shape;
-use crate::text::TextRead;
 use crate::validation::Validation;
+use graph_view::ListGraph;
 use shx_term::{Limits, Memory, Pool, Triple};
 use std::alloc::Global;
 
-/// A validation over the graph of a data text; `None` where the text is not built.
+/// A validation over the graph of a data text, before the first line of the script; `None` where the text is
+/// not built.
 pub fn open_validation(
     alloc: Global,
     declared: Declared,
-    text: &TextRead,
+    text: &[u8],
     limits: &Limits,
 ) -> Result<Option<Validation>, Memory>
     requires { declared.pool.limit ≡ limits.now.terms }
-    ensures { let document = document_read limits.now declared.pool.terms text.now in IfOk result (λ opened.
-        MatchOption opened (document ≡ None) (Opens limits.now declared.shapes.items document)) }
+    ensures opened { let document = document_of limits.now declared.pool.terms text.now in
+        IfOk result (λ opened.
+        MatchOption opened (document ≡ None) (OpensFor limits.now declared.shapes.items document)) }
+    ensures fresh { IfOk result (λ opened. IfSome opened (λ validation. validation.line ≡ 0)) }
 {
     let Declared { mut pool, shapes } = declared;
-    let Some(triples) = stated_triples(alloc, text, limits, &mut pool)? else {
+    let Some(triples) = read_document(alloc, text, limits, &mut pool)? else {
         return Ok(None);
     };
     let validation = validation_over(alloc, pool, shapes, &triples, limits.triples)?;
@@ -42,11 +46,56 @@ fn validation_over(
     limit: u64,
 ) -> Result<Validation, Memory>
     requires { IsKnownDocument limit (record { terms = pool.terms; triples = triples.now }) }
-    ensures stores { IfOk result (λ validation. Stores (graph_of (record { terms = pool.terms; triples = triples.now })) validation.graph) }
+    ensures stores { IfOk result (λ validation.
+        SameGraph (graph_of pool.terms triples.now) (plain_graph validation.graph)) }
     ensures shapes { IfOk result (λ validation. validation.shapes.items ≡ shapes.items) }
+    ensures line { IfOk result (λ validation. validation.line ≡ 0) }
+    ensures refused { IfOk result (λ validation. validation.refused ≡ false) }
     ensures triple_limit { IfOk result (λ validation. validation.graph.limit ≡ limit) }
     ensures term_limit { IfOk result (λ validation. validation.graph.pool.limit ≡ pool.limit) }
 {
-    let graph = load(alloc, pool, triples, limit)?;
-    Ok(Validation { graph, shapes })
+    let mut graph = ListGraph::new(alloc, pool, limit);
+    load(&mut graph, triples)?;
+    Ok(Validation {
+        graph,
+        shapes,
+        line: 0,
+        refused: false,
+    })
+}
+
+#[cfg(test)]
+mod tests {
+    use super::open_validation;
+    use crate::declare::declare;
+    use crate::edit::{Edited, insert};
+    use crate::evaluation::evaluate;
+    use edit_script::read_triple;
+    use shx_term::Limits;
+    use std::test::Fail;
+
+    const SHAPES: &str = "<urn:s> <http://www.w3.org/ns/shacl#targetNode> <urn:a> .
+<urn:s> <http://www.w3.org/ns/shacl#targetNode> <urn:b> .
+<urn:s> <http://www.w3.org/ns/shacl#path> <urn:p> .
+<urn:s> <http://www.w3.org/ns/shacl#hasValue> <urn:v> .
+";
+
+    #[test]
+    fn reports_on_a_validation(rt: HostRuntime) -> Result<(), Fail> {
+        let alloc = rt.alloc();
+        let limits = Limits::program();
+        let declared = declare(alloc, SHAPES.as_bytes(), &limits)?.expect(&rt, "shapes");
+        let data = "<urn:a> <urn:p> <urn:v> .";
+        let opened = open_validation(alloc, declared, data.as_bytes(), &limits)?;
+        let mut validation = opened.expect(&rt, "a validation");
+        assert_eq!(rt; validation.line, 0);
+        assert!(rt; !validation.refused);
+        let rows = evaluate(alloc, &validation.graph, validation.shapes.as_slice())?;
+        assert_eq!(rt; rows.len(), 1);
+        let stated = read_triple(alloc, b"<urn:b> <urn:p> <urn:v> .".as_slice())?;
+        assert_eq!(rt; insert(&mut validation.graph, &stated)?, Edited::Changed);
+        let rows = evaluate(alloc, &validation.graph, validation.shapes.as_slice())?;
+        assert_eq!(rt; rows.len(), 0);
+        Ok(())
+    }
 }

@@ -1,59 +1,99 @@
 //! Before anything is written: the two texts are read, and a validation is opened.
-ghost use Rattle.std.specs.Prelude.{◌≡◌, IfOk};
-ghost use Rattle.shx_outside.specs.declared.role.Role.TheVariants.{Shapes, Data};
-ghost use Rattle.shx_outside.specs.Told.{IsAtEnd, IsFixed};
+ghost use Rattle.std.specs.Prelude.{◌≡◌, true, false, IfOk, MatchOption};
+ghost use Rattle.shx_outside.specs.declared.role.Role.TheVariants.{Shapes, Data, Script};
+ghost use Rattle.shx_outside.specs.Told.{StaysAdmitted, SameTexts, OthersStay};
 ghost use Rattle.shx_term.specs.Limits.{AreUsable};
-ghost use Rattle.shacl_run.specs.Prepared.{Prepares, IsOpen};
-ghost use Rattle.shacl_run.specs.TextRead.{HasInputCause};
+ghost use Rattle.text_input.specs.TextRead.{ReadsWhole, IsTooLong, TakesWithin};
+ghost use Rattle.shacl_run.specs.Prepared.{Prepares, IsFresh, IsReadToEnd, StopCause};
 
 use crate::declare::declare;
 use crate::open_validation::open_validation;
-use crate::text::{ReadFault, read_text};
+use crate::stop::Stop;
 use crate::validation::Validation;
 use shx_outside::{Inputs, Role};
 use shx_term::Limits;
 use std::alloc::Global;
+use text_input::{ReadFault, read_text};
 
-/// A validation, or which text is not built.
+/// A validation, or the text that is not built.
 pub enum Prepared {
-    ShapesNotBuilt,
-    DataNotBuilt,
+    NotBuilt(Role),
     Open(Validation),
 }
 
 impl Drop for Prepared {
     fn drop(self) {
         match self {
-            Prepared::ShapesNotBuilt => {}
-            Prepared::DataNotBuilt => {}
+            Prepared::NotBuilt(_role) => {}
             Prepared::Open(_validation) => {}
         }
     }
 }
 
-/// Reads the two texts and opens a validation over them.
+/// Reads the two texts and opens a validation over them. The data text is opened only where the shapes are
+/// declared.
 pub fn prepare<I: Inputs>(
     alloc: Global,
     shapes_file: &str,
     data_file: &str,
     host: &mut I,
     limits: &Limits,
-) -> Result<Prepared, ReadFault>
+) -> Result<Prepared, Stop>
     requires limits { AreUsable limits.now }
     requires shapes_admitted { I.admits host.old Shapes shapes_file.now }
     requires data_admitted { I.admits host.old Data data_file.now }
-    ensures prepared { IfOk result (Prepares limits.now (I.text host.old shapes_file.now) (I.text host.old data_file.now)) }
-    ensures ends { IfOk result (λ prepared. IsOpen prepared → IsAtEnd (I.rest host.new Shapes) × IsAtEnd (I.rest host.new Data)) }
-    ensures cause { HasInputCause (I.faults host.old) (I.faults host.new) result }
-    ensures fixed { IsFixed (I.admits host.old) (I.admits host.new) (I.text host.old) (I.text host.new) }
+    ensures prepared { IfOk result (Prepares limits.now ((I.state host.old).text shapes_file.now)
+        ((I.state host.old).text data_file.now)) }
+    ensures fresh { IfOk result IsFresh }
+    ensures ends { IfOk result (IsReadToEnd (I.state host.new)) }
+    ensures shapes_within { (I.state host.old).opened Shapes ≡ false → (I.state host.new).opened Shapes ≡ true
+        → TakesWithin ((I.state host.old).text shapes_file.now) ((I.state host.new).rest Shapes)
+        limits.now.text }
+    ensures data_within { (I.state host.old).opened Data ≡ false → (I.state host.new).opened Data ≡ true
+        → TakesWithin ((I.state host.old).text data_file.now) ((I.state host.new).rest Data) limits.now.text }
+    ensures script { (I.state host.new).opened Script ≡ (I.state host.old).opened Script }
+    ensures cause { StopCause (I.state host.old).faults (I.state host.new).faults result }
+    ensures admitted { StaysAdmitted (I.admits host.old) (I.admits host.new) }
+    ensures texts { SameTexts (I.state host.old) (I.state host.new) }
 {
-    let shapes_text = read_text(alloc, host, Role::Shapes, shapes_file, limits.text)?;
-    let Some(declared) = declare(alloc, &shapes_text, limits)? else {
-        return Ok(Prepared::ShapesNotBuilt);
+    let Some(shapes_text) = read_within(alloc, host, Role::Shapes, shapes_file, limits.text)? else {
+        return Ok(Prepared::NotBuilt(Role::Shapes));
     };
-    let data_text = read_text(alloc, host, Role::Data, data_file, limits.text)?;
+    let Some(declared) = declare(alloc, &shapes_text, limits)? else {
+        return Ok(Prepared::NotBuilt(Role::Shapes));
+    };
+    let Some(data_text) = read_within(alloc, host, Role::Data, data_file, limits.text)? else {
+        return Ok(Prepared::NotBuilt(Role::Data));
+    };
     let Some(validation) = open_validation(alloc, declared, &data_text, limits)? else {
-        return Ok(Prepared::DataNotBuilt);
+        return Ok(Prepared::NotBuilt(Role::Data));
     };
     Ok(Prepared::Open(validation))
+}
+
+// A text; `None` where it is longer than it may be.
+fn read_within<I: Inputs>(
+    alloc: Global,
+    host: &mut I,
+    role: Role,
+    name: &str,
+    most: u64,
+) -> Result<Option<Vec<u8>>, Stop>
+    requires { I.admits host.old role name.now }
+    ensures read { IfOk result (λ read. MatchOption read (IsTooLong ((I.state host.old).text name.now) most)
+        (λ bytes.
+        ReadsWhole ((I.state host.old).text name.now) ((I.state host.new).rest role) most bytes.items)) }
+    ensures within { (I.state host.new).opened role ≡ true
+        → TakesWithin ((I.state host.old).text name.now) ((I.state host.new).rest role) most }
+    ensures cause { StopCause (I.state host.old).faults (I.state host.new).faults result }
+    ensures others { OthersStay role (I.state host.old) (I.state host.new) }
+    ensures admitted { StaysAdmitted (I.admits host.old) (I.admits host.new) }
+    ensures texts { SameTexts (I.state host.old) (I.state host.new) }
+{
+    match read_text(alloc, host, role, name, most) {
+        Ok(bytes) => Ok(Some(bytes)),
+        Err(ReadFault::TooLong) => Ok(None),
+        Err(ReadFault::Input) => Err(Stop::Input),
+        Err(ReadFault::Memory) => Err(Stop::Memory),
+    }
 }

@@ -1,54 +1,72 @@
 //! Replies to the lines of a script.
-ghost use Rattle.std.specs.Prelude.{◌≡◌, ◌≤◌, ◌++◌, length, List, Some, IfOk, codes, decimal};
+ghost use Rattle.std.specs.Prelude.{◌≡◌, ◌<◌, ◌+◌, ◌-◌, ◌^◌, IfOk};
 ghost use Rattle.shx_term.specs.declared.limits.Limits.{Limits as LimitsOf};
-ghost use Rattle.shacl_run.specs.declared.plan.Shape.{Shape as ShapeOf};
-ghost use Rattle.shacl_run.specs.Output.{state_of, Writes};
-ghost use Rattle.shacl_run.specs.Reply.{reply_text, is_refusal, Replies};
-ghost use Rattle.shacl_run.specs.Script.{ScriptState, command_step, script_step};
+ghost use Rattle.report_write.specs.Writes.{Writes};
+ghost use Rattle.shacl_run.specs.Reply.{reply_text, Replies};
+ghost use Rattle.shacl_run.specs.Script.{command_step, refusal, script_step};
+ghost use Rattle.shacl_run.specs.ScriptState.{ScriptState};
 ghost use Rattle.shacl_run.specs.Validation.{IsValidation};
 
-use crate::buffer::Buffer;
-use crate::command::{Command, Edited, read_command};
-use crate::edit::insert;
+use crate::edit::{Edited, insert};
 use crate::evaluation::evaluate;
-use crate::output::put_all;
 use crate::report::write_report;
 use crate::result_row::ResultRow;
-use crate::term_text::add_three;
 use crate::validation::Validation;
+use edit_script::{Command, LineFault, NOT_BUILT, read_line};
 use graph_view::GraphView;
-use shx_outside::{Failed, Sink};
-use shx_term::Memory;
-use std::alloc::Global;
+use report_write::{Answer, WriteFault, write_answer};
+use shx_outside::Sink;
+use shx_term::{Limits, Memory, TermTriple};
+use std::alloc::{AllocError, Global};
 
 /// What is said to a line.
 pub enum Reply {
-    Changed,
-    Unchanged,
-    Refused,
+    Answers(Answer),
     Report(Vec<ResultRow>),
 }
 
 impl Drop for Reply {
     fn drop(self) {
         match self {
-            Reply::Changed => {}
-            Reply::Unchanged => {}
-            Reply::Refused => {}
+            Reply::Answers(_answer) => {}
             Reply::Report(_rows) => {}
         }
     }
 }
 
-/// Does what a line asks for, a line that is not too long. A refused line changes nothing.
-pub fn reply_to(alloc: Global, validation: &mut Validation, line: &[u8]) -> Result<Reply, Memory>
-    ensures { (limits : LimitsOf) (shapes : List ShapeOf) (s : ScriptState) → IsValidation limits shapes s.graph validation.old → length line.now ≤ limits.line
-        → IfOk result (λ reply. Replies limits shapes s (script_step limits shapes s line.now) reply validation.new) }
+/// Does what a line asks for, a line that is not too long. A refused line changes nothing but the count of
+/// lines.
+pub fn reply_to(
+    alloc: Global,
+    validation: &mut Validation,
+    line: &[u8],
+    limits: &Limits,
+) -> Result<Reply, Memory>
+    requires { validation.old.line < 2 ^ 64 - 1 }
+    ensures replies { (s : ScriptState) → IsValidation limits.now s validation.old
+        → IfOk result (λ reply. Replies limits.now (script_step limits.now s line.now) reply validation.new) }
+    ensures line { IfOk result (λ _. validation.new.line ≡ validation.old.line + 1) }
 {
-    match read_command(alloc, line)? {
-        Some(command) => do_command(alloc, validation, &command),
-        None => Ok(Reply::Refused),
+    match read_line(alloc, line, limits) {
+        Ok(command) => do_command(alloc, validation, &command),
+        Err(LineFault::Line { code, at: _ }) => Ok(refuse_line(validation, code)),
+        Err(LineFault::Memory) => Err(AllocError),
     }
+}
+
+/// Refuses the line at hand: it is counted, and nothing else changes.
+pub fn refuse_line(validation: &mut Validation, code: u32) -> Reply
+    requires { validation.old.line < 2 ^ 64 - 1 }
+    ensures replies { (limits : LimitsOf) (s : ScriptState) → IsValidation limits s validation.old
+        → Replies limits (refusal s code) result validation.new }
+    ensures line { validation.new.line ≡ validation.old.line + 1 }
+{
+    validation.line += 1;
+    validation.refused = true;
+    Reply::Answers(Answer::RefusedLine {
+        line: validation.line,
+        code,
+    })
 }
 
 fn do_command(
@@ -56,61 +74,60 @@ fn do_command(
     validation: &mut Validation,
     command: &Command,
 ) -> Result<Reply, Memory>
-    ensures { (limits : LimitsOf) (shapes : List ShapeOf) (s : ScriptState) → IsValidation limits shapes s.graph validation.old
-        → IfOk result (λ reply. Replies limits shapes s (command_step limits shapes s (Some command.now)) reply validation.new) }
+    requires { validation.old.line < 2 ^ 64 - 1 }
+    ensures replies { (limits : LimitsOf) (s : ScriptState) → IsValidation limits s validation.old
+        → IfOk result (λ reply. Replies limits (command_step limits s command.now) reply validation.new) }
+    ensures line { IfOk result (λ _. validation.new.line ≡ validation.old.line + 1) }
 {
     match command {
         Command::Report => {
             let rows = evaluate(alloc, &validation.graph, &validation.shapes)?;
+            validation.line += 1;
             Ok(Reply::Report(rows))
         }
-        Command::Insert(triple) => match insert(&mut validation.graph, triple)? {
-            Edited::Changed => Ok(Reply::Changed),
-            Edited::Unchanged => Ok(Reply::Unchanged),
-            Edited::Refused => Ok(Reply::Refused),
-        },
+        Command::Insert(triple) => {
+            let reply = do_insert(validation, triple)?;
+            Ok(reply)
+        }
     }
 }
 
-/// Puts a reply to the line with this number.
-pub fn put_reply<O: Sink>(
+// Inserts a triple, and says what came of it.
+fn do_insert(validation: &mut Validation, triple: &TermTriple) -> Result<Reply, Memory>
+    requires { validation.old.line < 2 ^ 64 - 1 }
+    ensures replies { (limits : LimitsOf) (s : ScriptState) → IsValidation limits s validation.old
+        → IfOk result (λ reply.
+        Replies limits (command_step limits s (Command.Insert triple.now)) reply validation.new) }
+    ensures line { IfOk result (λ _. validation.new.line ≡ validation.old.line + 1) }
+{
+    match insert(&mut validation.graph, triple)? {
+        Edited::Changed => Ok(answered(validation, Answer::Changed)),
+        Edited::Unchanged => Ok(answered(validation, Answer::Unchanged)),
+        Edited::Refused => Ok(refuse_line(validation, NOT_BUILT)),
+    }
+}
+
+// The line at hand was answered.
+fn answered(validation: &mut Validation, answer: Answer) -> Reply
+    requires { validation.old.line < 2 ^ 64 - 1 }
+    ensures reply { result ≡ Reply.Answers answer }
+    ensures validation { validation.new ≡ record validation.old { line = validation.old.line + 1 } }
+{
+    validation.line += 1;
+    Reply::Answers(answer)
+}
+
+/// Writes a reply.
+pub fn write_reply<O: Sink>(
     reply: &Reply,
-    line: u64,
     validation: &Validation,
     out: &mut O,
-) -> Result<(), Failed>
-    ensures { Writes (state_of O.held O.room O.faults out.old) (state_of O.held O.room O.faults out.new)
-        (reply_text line validation.now.graph.pool.terms validation.now.shapes.items reply.now) result }
+) -> Result<(), WriteFault>
+    ensures { Writes (O.state out.old) (O.state out.new)
+        (reply_text validation.now.graph.pool.terms validation.now.shapes.items reply.now) result }
 {
     match reply {
-        Reply::Changed => put_all(b"ok changed\n", out),
-        Reply::Unchanged => put_all(b"ok unchanged\n", out),
-        Reply::Refused => put_refusal(line, out),
+        Reply::Answers(answer) => write_answer(answer, out),
         Reply::Report(rows) => write_report(rows, &validation.shapes, validation.graph.pool(), out),
-    }
-}
-
-fn put_refusal<O: Sink>(line: u64, out: &mut O) -> Result<(), Failed>
-    ensures { Writes (state_of O.held O.room O.faults out.old) (state_of O.held O.room O.faults out.new)
-        (codes "refused line " ++ decimal line ++ codes ": 59 NotBuilt\n") result }
-{
-    let mut buffer = Buffer::new();
-    add_three(
-        b"refused line ",
-        itoa::Buffer::new().format(line).as_bytes(),
-        b": 59 NotBuilt\n",
-        &mut buffer,
-        out,
-    )?;
-    buffer.flush(out)
-}
-
-/// Whether the line was refused.
-pub fn is_refusal(reply: &Reply) -> bool
-    ensures { result ≡ is_refusal reply.now }
-{
-    match reply {
-        Reply::Refused => true,
-        _ => false,
     }
 }

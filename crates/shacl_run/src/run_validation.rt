@@ -1,18 +1,22 @@
 //! The report of a validation, and then its script.
-ghost use Rattle.std.specs.Prelude.{◌≡◌, List, IfErr};
+ghost use Rattle.std.specs.Prelude.{◌≡◌, true, false, IfSome};
 ghost use Rattle.std.specs.Option.{option_map};
 ghost use Rattle.shx_outside.specs.declared.role.Role.TheVariants.{Script};
 ghost use Rattle.shx_outside.specs.Told.{OthersStay};
 ghost use Rattle.shx_term.specs.declared.limits.Limits.{Limits as LimitsOf};
-ghost use Rattle.graph_view.specs.Graph.{Graph};
-ghost use Rattle.shacl_run.specs.declared.plan.Shape.{Shape};
-ghost use Rattle.shacl_run.specs.Evaluation.{report};
-ghost use Rattle.shacl_run.specs.Output.{state_of};
-ghost use Rattle.shacl_run.specs.Report.{report_text};
-ghost use Rattle.shacl_run.specs.Run.{status_of_rows, with_script, script_text};
-ghost use Rattle.shacl_run.specs.RunClauses.{Ends, ScriptAtEnd, ReportsOrFails};
-ghost use Rattle.shacl_run.specs.Validation.{IsValidation};
+ghost use Rattle.text_input.specs.TextRead.{TakesWithin};
+ghost use Rattle.shacl_run.specs.declared.status.Status.TheVariants.{InputFault};
+ghost use Rattle.shacl_run.specs.Ends.{Ends};
+ghost use Rattle.shacl_run.specs.Run.{validation_output, opening_fed, script_text, status_of_rows};
+ghost use Rattle.shacl_run.specs.Run.Opening.{opens};
+ghost use Rattle.shacl_run.specs.RunClauses.{ScriptAtEnd, StopsFed};
+ghost use Rattle.shacl_run.specs.Script.{Said, said_text};
+ghost use Rattle.shacl_run.specs.Script.Said.{reports};
+ghost use Rattle.shacl_run.specs.ScriptState.{ScriptState};
+ghost use Rattle.shacl_run.specs.Serving.{PutsReport};
+ghost use Rattle.shacl_run.specs.Validation.{IsNew, IsValidation};
 ghost use Rattle.shacl_run.specs.Status.{IsReported};
+ghost use Rattle.shacl_run.specs.Stops.{end_status};
 ghost use Rattle.shacl_run.specs.Words.{AdmitsScript};
 
 use crate::ending::status_of_rows;
@@ -20,9 +24,10 @@ use crate::evaluation::evaluate;
 use crate::report::write_report;
 use crate::serve::serve;
 use crate::status::Status;
+use crate::stop::Stop;
 use crate::validation::Validation;
 use graph_view::GraphView;
-use shx_outside::{Failed, Inputs, Role, Sink};
+use shx_outside::{Inputs, Role, Sink};
 use shx_term::Limits;
 use std::alloc::Global;
 
@@ -34,43 +39,40 @@ pub fn run_validation<I: Inputs, O: Sink>(
     host: &mut I,
     out: &mut O,
     limits: &Limits,
-) -> Status
-    requires { AdmitsScript (I.admits host.old) (option_map (λ name. name.now) script) }
-    ensures ends { (shapes : List Shape) (g : Graph) → IsValidation limits.now shapes g validation.old
-        → Ends (with_script limits.now shapes g (script_text (I.text host.old) (option_map (λ name. name.now) script.entry))) result
-        (I.faults host.old) (I.faults host.new) (state_of O.held O.room O.faults out.old) (state_of O.held O.room O.faults out.new) }
-    ensures read_to_end { IsReported result → ScriptAtEnd (option_map (λ name. name.now) script.entry) (I.rest host.new Script) }
-    ensures others { OthersStay Script (I.opened host.old) (I.opened host.new) (I.rest host.old) (I.rest host.new) }
+) -> Result<Status, Stop>
+    requires admitted { AdmitsScript (I.admits host.old) (option_map (λ name. name.now) script) }
+    requires fresh { IsNew validation.old }
+    ensures ends { (s : ScriptState) → IsValidation limits.now s validation.old
+        → Ends (option_map (validation_output limits.now s)
+        (script_text (I.state host.old).text (option_map (λ name. name.now) script.entry)))
+        (end_status result) (I.state host.old).faults (I.state host.new).faults
+        (O.state out.old) (O.state out.new) }
+    ensures fed { (s : ScriptState) → IsValidation limits.now s validation.old
+        → end_status result ≡ InputFault → (I.state host.new).opened Script ≡ true
+        → StopsFed (opening_fed limits.now (opens s))
+        (script_text (I.state host.old).text (option_map (λ name. name.now) script.entry))
+        ((I.state host.new).rest Script) (O.state out.old) (O.state out.new) }
+    ensures read_to_end { IsReported (end_status result)
+        → ScriptAtEnd (option_map (λ name. name.now) script.entry) ((I.state host.new).rest Script) }
+    ensures within { (I.state host.old).opened Script ≡ false → (I.state host.new).opened Script ≡ true
+        → IfSome (option_map (λ name. name.now) script.entry) (λ name.
+        TakesWithin ((I.state host.old).text name) ((I.state host.new).rest Script) limits.now.script) }
+    ensures others { OthersStay Script (I.state host.old) (I.state host.new) }
 {
-    let status = match put_report(alloc, validation, out) {
-        Ok(status) => status,
-        Err(status) => return status,
-    };
+    let status = put_report(alloc, validation, out)?;
     let Some(name) = script else {
-        return status;
+        return Ok(status);
     };
-    match host.open(Role::Script, name) {
-        Ok(()) => serve(alloc, validation, host, out, limits),
-        Err(Failed) => Status::InputFault,
-    }
+    host.open(Role::Script, name)?;
+    serve(alloc, validation, host, out, limits)
 }
 
-// Writes the report, and answers how the run ends with it, or how it ends without.
-fn put_report<O: Sink>(
-    alloc: Global,
-    validation: &Validation,
-    out: &mut O,
-) -> Result<Status, Status>
-    ensures failed { IfErr result (λ status. IsReported status → ⊥) }
-    ensures reports { (limits : LimitsOf) (shapes : List Shape) (g : Graph) → IsValidation limits shapes g validation.now
-        → ReportsOrFails (state_of O.held O.room O.faults out.old) (state_of O.held O.room O.faults out.new)
-        (report_text g.terms shapes (report g shapes)) (status_of_rows (report g shapes)) result }
+// Writes the report, and answers how the run ends with it.
+fn put_report<O: Sink>(alloc: Global, validation: &Validation, out: &mut O) -> Result<Status, Stop>
+    ensures { (limits : LimitsOf) (s : ScriptState) → IsValidation limits s validation.now
+        → PutsReport s (O.state out.old) (O.state out.new) result }
 {
-    let Ok(rows) = evaluate(alloc, &validation.graph, &validation.shapes) else {
-        return Err(Status::Memory);
-    };
-    match write_report(&rows, &validation.shapes, validation.graph.pool(), out) {
-        Ok(()) => Ok(status_of_rows(&rows)),
-        Err(Failed) => Err(Status::WriteFault),
-    }
+    let rows = evaluate(alloc, &validation.graph, &validation.shapes)?;
+    write_report(&rows, &validation.shapes, validation.graph.pool(), out)?;
+    Ok(status_of_rows(&rows))
 }

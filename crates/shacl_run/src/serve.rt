@@ -1,31 +1,30 @@
 //! Answering the lines of a script.
-ghost use Rattle.std.specs.Prelude.{◌≡◌, ◌⊎◌, true, List};
+ghost use Rattle.std.specs.Prelude.{◌≡◌, true};
 ghost use Rattle.shx_outside.specs.declared.role.Role.TheVariants.{Script};
 ghost use Rattle.shx_outside.specs.Told.{IsAtEnd, OthersStay};
 ghost use Rattle.shx_term.specs.declared.limits.Limits.{Limits as LimitsOf};
-ghost use Rattle.graph_view.specs.Graph.{Graph};
-ghost use Rattle.shacl_run.specs.declared.plan.Shape.{Shape};
-ghost use Rattle.shacl_run.specs.Output.{state_of};
-ghost use Rattle.shacl_run.specs.Run.{start_state, status_of_state};
-ghost use Rattle.shacl_run.specs.RunClauses.{Ends};
-ghost use Rattle.shacl_run.specs.Serving.{due_at};
-ghost use Rattle.shacl_run.specs.Script.{ScriptState};
-ghost use Rattle.shacl_run.specs.Validation.{IsValidation};
+ghost use Rattle.text_input.specs.TextRead.{TakesWithin};
+ghost use Rattle.shacl_run.specs.declared.status.Status.TheVariants.{InputFault};
+ghost use Rattle.shacl_run.specs.Ends.{Ends};
+ghost use Rattle.shacl_run.specs.Run.{fed_text, status_of_state};
+ghost use Rattle.shacl_run.specs.RunClauses.{StopsFed};
+ghost use Rattle.shacl_run.specs.ScriptState.{ScriptState};
+ghost use Rattle.shacl_run.specs.Serving.{due_at, LastStatus};
+ghost use Rattle.shacl_run.specs.Validation.{IsNew, IsValidation};
 ghost use Rattle.shacl_run.specs.Status.{IsReported};
+ghost use Rattle.shacl_run.specs.Stops.{end_status};
 
-use crate::ending::{put_last, status_of_rows};
+use crate::ending::{refuse, status_of_rows};
 use crate::evaluation::evaluate;
-use crate::reply::{is_refusal, put_reply};
-use crate::script_reader::ScriptReader;
+use crate::reply::write_reply;
 use crate::status::Status;
+use crate::stop::Stop;
 use crate::take_line::{Taken, take_line};
-use crate::text::ReadFault;
 use crate::validation::Validation;
-use shx_outside::{Failed, Inputs, Sink};
+use shx_outside::{Inputs, Role, Sink};
 use shx_term::Limits;
 use std::alloc::Global;
-
-const SCRIPT_TOO_LONG: &str = "fault script: 59 NotBuilt\n";
+use text_input::ScriptReader;
 
 /// Answers the lines of an opened script, each before the next is taken.
 pub fn serve<I: Inputs, O: Sink>(
@@ -34,48 +33,40 @@ pub fn serve<I: Inputs, O: Sink>(
     host: &mut I,
     out: &mut O,
     limits: &Limits,
-) -> Status
-    requires { I.opened host.old Script ≡ true }
-    ensures ends { (shapes : List Shape) (g : Graph) → IsValidation limits.now shapes g validation.old
-        → Ends (due_at limits.now shapes (start_state g) limits.now.script (I.rest host.old Script)) result
-        (I.faults host.old) (I.faults host.new) (state_of O.held O.room O.faults out.old) (state_of O.held O.room O.faults out.new) }
-    ensures read_to_end { IsReported result → IsAtEnd (I.rest host.new Script) }
-    ensures others { OthersStay Script (I.opened host.old) (I.opened host.new) (I.rest host.old) (I.rest host.new) }
+) -> Result<Status, Stop>
+    requires opened { (I.state host.old).opened Script ≡ true }
+    requires fresh { IsNew validation.old }
+    ensures ends { (s : ScriptState) → IsValidation limits.now s validation.old
+        → Ends (due_at limits.now s limits.now.script ((I.state host.old).rest Script)) (end_status result)
+        (I.state host.old).faults (I.state host.new).faults (O.state out.old) (O.state out.new) }
+    ensures fed { (s : ScriptState) → IsValidation limits.now s validation.old
+        → end_status result ≡ InputFault
+        → StopsFed (fed_text limits.now s) ((I.state host.old).rest Script) ((I.state host.new).rest Script)
+        (O.state out.old) (O.state out.new) }
+    ensures read_to_end { IsReported (end_status result) → IsAtEnd ((I.state host.new).rest Script) }
+    ensures within { TakesWithin ((I.state host.old).rest Script) ((I.state host.new).rest Script)
+        limits.now.script }
+    ensures others { OthersStay Script (I.state host.old) (I.state host.new) }
 {
     let mut reader = ScriptReader::new(limits.script);
-    let mut line = 0;
-    let mut refused = false;
     loop {
-        let taken = match take_line(alloc, &mut reader, validation, host, limits) {
-            Ok(taken) => taken,
-            Err(ReadFault::Input) => return Status::InputFault,
-            Err(ReadFault::Memory) => return Status::Memory,
-        };
+        let taken = take_line(alloc, &mut reader, validation, host, limits)?;
         match &taken {
-            Taken::Replied(reply) => {
-                line += 1;
-                refused = refused | is_refusal(reply);
-                match put_reply(reply, line, validation, out) {
-                    Ok(()) => {}
-                    Err(Failed) => return Status::WriteFault,
-                }
-            }
-            Taken::End => return last_status(alloc, validation, refused),
-            Taken::PastLimit => return put_last(SCRIPT_TOO_LONG, Status::Refused, out),
+            Taken::Replied(reply) => write_reply(reply, validation, out)?,
+            Taken::End => return last_status(alloc, validation),
+            Taken::PastLimit => return refuse(Role::Script, out),
         }
     }
 }
 
 // How the run ends after the last line.
-fn last_status(alloc: Global, validation: &Validation, refused: bool) -> Status
-    ensures { (limits : LimitsOf) (shapes : List Shape) (s : ScriptState) → IsValidation limits shapes s.graph validation.now → s.refused ≡ refused
-        → (result ≡ Status.Memory) ⊎ (result ≡ status_of_state shapes s) }
+fn last_status(alloc: Global, validation: &Validation) -> Result<Status, Stop>
+    ensures { (limits : LimitsOf) (s : ScriptState) → IsValidation limits s validation.now
+        → LastStatus s result }
 {
-    if refused {
-        return Status::LinesRefused;
+    if validation.refused {
+        return Ok(Status::LinesRefused);
     }
-    match evaluate(alloc, &validation.graph, &validation.shapes) {
-        Ok(rows) => status_of_rows(&rows),
-        Err(_) => Status::Memory,
-    }
+    let rows = evaluate(alloc, &validation.graph, &validation.shapes)?;
+    Ok(status_of_rows(&rows))
 }

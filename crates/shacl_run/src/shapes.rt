@@ -2,7 +2,7 @@
 ghost use Rattle.std.specs.Prelude.{◌≡◌, map, IfOk};
 ghost use Rattle.std.specs.Option.{option_map};
 ghost use Rattle.std.specs.List.{list_all};
-ghost use Rattle.shacl_run.specs.LineForm.{each_some};
+ghost use Rattle.shacl_run.specs.Document.{each_some};
 ghost use Rattle.shx_term.specs.IdOrder.{in_term_order};
 ghost use Rattle.shacl_run.specs.Shapes.{shapes_of, shape_at, is_built, has_value_of, target_at};
 ghost use Rattle.graph_view.specs.SameGraph.{HoldsSame};
@@ -13,8 +13,8 @@ use shx_term::vocabulary::{SH_HAS_VALUE, SH_PATH, SH_TARGET_NODE};
 use shx_term::{Id, Memory, Triple};
 use std::alloc::Global;
 
-/// The shapes of a graph whose triples are listed too, in term order of their nodes. `None` where the graph states
-/// something that is not built: another predicate, or a subject without exactly one path.
+/// The shapes of a graph whose triples are listed too, in term order of their nodes. `None` where the graph
+/// states something that is not built: another predicate, or a subject without exactly one path.
 pub fn read_shapes<V: GraphView>(
     alloc: Global,
     view: &V,
@@ -39,10 +39,11 @@ fn all_built(triples: &[Triple]) -> bool
 
 // The nodes that are shapes, in term order.
 fn shape_nodes<V: GraphView>(alloc: Global, view: &V, triples: &[Triple]) -> Result<Vec<Id>, Memory>
-    ensures { IfOk result (λ nodes. nodes.items ≡ in_term_order (V.graph view.now).terms (map (λ t. t.s) triples.now)) }
+    ensures { IfOk result (λ nodes.
+        nodes.items ≡ in_term_order (V.graph view.now).terms (map (λ t. t.s) triples.now)) }
 {
     let subjects = triples.iter().map(|t| t.s).collect(alloc)?;
-    Ok(view.pool().in_order(subjects)?)
+    Ok(view.pool().in_order(subjects))
 }
 
 fn read_each<V: GraphView>(
@@ -50,7 +51,8 @@ fn read_each<V: GraphView>(
     view: &V,
     nodes: &[Id],
 ) -> Result<Option<Vec<Shape>>, Memory>
-    ensures { IfOk result (λ shapes. option_map (λ s. s.items) shapes ≡ each_some (map (shape_at (V.graph view.now)) nodes.now)) }
+    ensures { IfOk result (λ shapes.
+        option_map (λ s. s.items) shapes ≡ each_some (map (shape_at (V.graph view.now)) nodes.now)) }
 {
     let mut shapes = Vec::new(alloc);
     for node in nodes {

@@ -1,21 +1,20 @@
-//! One line of a script: it is read, and what it asks for is done.
-ghost use Rattle.std.specs.Prelude.{◌≡◌, true, List, IfOk};
+ghost use Rattle.std.specs.Prelude.{◌≡◌, ◌≢◌, ◌+◌, ◌<◌, ◌^◌, true, IfOk, IfErr};
 ghost use Rattle.shx_outside.specs.declared.role.Role.TheVariants.{Script};
 ghost use Rattle.shx_outside.specs.Told.{IsAtEnd, OthersStay};
-ghost use Rattle.shacl_run.specs.declared.plan.Shape.{Shape};
-ghost use Rattle.shacl_run.specs.Script.{ScriptState};
-ghost use Rattle.shacl_run.specs.ScriptReader.{left_of, MetEnd};
-ghost use Rattle.shacl_run.specs.Serving.{Takes, TakesBytes};
+ghost use Rattle.text_input.specs.ScriptReader.{left_of, MetEnd, ReadsLine, KeepsCount, StopsInLine};
+ghost use Rattle.shacl_run.specs.Prepared.{StopCause};
+ghost use Rattle.shacl_run.specs.ScriptState.{ScriptState};
+ghost use Rattle.shacl_run.specs.Serving.{TakesLine, TakesBytes};
 ghost use Rattle.shacl_run.specs.Validation.{IsValidation};
-ghost use Rattle.shacl_run.specs.TextRead.{HasInputCause};
 
-use crate::reply::{Reply, reply_to};
-use crate::script_reader::{Line, ScriptReader};
-use crate::text::ReadFault;
+use crate::reply::{Reply, refuse_line, reply_to};
+use crate::stop::Stop;
 use crate::validation::Validation;
+use edit_script::NOT_BUILT;
 use shx_outside::Inputs;
 use shx_term::Limits;
 use std::alloc::Global;
+use text_input::{Line, ReadFault, ScriptReader};
 
 /// What came of a line.
 pub enum Taken {
@@ -42,27 +41,66 @@ pub fn take_line<I: Inputs>(
     validation: &mut Validation,
     host: &mut I,
     limits: &Limits,
-) -> Result<Taken, ReadFault>
-    requires opened { I.opened host.old Script ≡ true }
-    requires met { MetEnd reader.old.ended (I.rest host.old Script) }
-    ensures taken { (shapes : List Shape) (s : ScriptState) → IsValidation limits.now shapes s.graph validation.old
-        → IfOk result (Takes limits.now shapes s validation.new (left_of reader.old (I.rest host.old Script)) (left_of reader.new (I.rest host.new Script))
-        reader.old.budget reader.new.budget) }
-    ensures bytes { IfOk result (TakesBytes reader.old.budget reader.new.budget) }
-    ensures end { IfOk result (λ taken. taken ≡ Taken.End → IsAtEnd (I.rest host.new Script)) }
-    ensures cause { HasInputCause (I.faults host.old) (I.faults host.new) result }
-    ensures opened { I.opened host.new Script ≡ true }
-    ensures met { MetEnd reader.new.ended (I.rest host.new Script) }
-    ensures others { OthersStay Script (I.opened host.old) (I.opened host.new) (I.rest host.old) (I.rest host.new) }
+) -> Result<Taken, Stop>
+    requires opened { (I.state host.old).opened Script ≡ true }
+    requires met { MetEnd reader.old.ended ((I.state host.old).rest Script) }
+    requires few { validation.old.line + reader.old.budget < 2 ^ 64 }
+    ensures taken { (s : ScriptState) → IsValidation limits.now s validation.old
+        → IfOk result (TakesLine limits.now s validation.new reader.old reader.new
+        ((I.state host.old).rest Script) ((I.state host.new).rest Script)) }
+    ensures bytes { IfOk result
+        (TakesBytes validation.old.line validation.new.line reader.old.budget reader.new.budget) }
+    ensures end { IfOk result (λ taken. taken ≡ Taken.End → IsAtEnd ((I.state host.new).rest Script)) }
+    ensures stopped { IfErr result (λ stop. stop ≡ Stop.Input
+        → StopsInLine (left_of reader.old ((I.state host.old).rest Script)) reader.new
+        ((I.state host.new).rest Script)) }
+    ensures going { reader.old.ended ≡ true → IfErr result (λ stop. stop ≢ Stop.Input) }
+    ensures kept { KeepsCount reader.old ((I.state host.old).rest Script)
+        reader.new ((I.state host.new).rest Script) }
+    ensures cause { StopCause (I.state host.old).faults (I.state host.new).faults result }
+    ensures opened { (I.state host.new).opened Script ≡ true }
+    ensures met { MetEnd reader.new.ended ((I.state host.new).rest Script) }
+    ensures others { OthersStay Script (I.state host.old) (I.state host.new) }
 {
-    let line = reader.next_line(alloc, host, limits.line)?;
+    let line = next_line(alloc, reader, host, limits)?;
     match &line {
         Line::Is(bytes) => {
-            let reply = reply_to(alloc, validation, bytes)?;
+            let reply = reply_to(alloc, validation, bytes, limits)?;
             Ok(Taken::Replied(reply))
         }
-        Line::TooLong => Ok(Taken::Replied(Reply::Refused)),
+        Line::TooLong => Ok(Taken::Replied(refuse_line(validation, NOT_BUILT))),
         Line::End => Ok(Taken::End),
         Line::PastLimit => Ok(Taken::PastLimit),
+    }
+}
+
+// The next line. A line that is too long is no fault of the inputs.
+fn next_line<I: Inputs>(
+    alloc: Global,
+    reader: &mut ScriptReader,
+    host: &mut I,
+    limits: &Limits,
+) -> Result<Line, Stop>
+    requires opened { (I.state host.old).opened Script ≡ true }
+    requires met { MetEnd reader.old.ended ((I.state host.old).rest Script) }
+    ensures line { IfOk result (ReadsLine reader.old ((I.state host.old).rest Script)
+        reader.new ((I.state host.new).rest Script) limits.now.line) }
+    ensures stopped { IfErr result (λ stop. stop ≡ Stop.Input
+        → StopsInLine (left_of reader.old ((I.state host.old).rest Script)) reader.new
+        ((I.state host.new).rest Script)) }
+    ensures going { reader.old.ended ≡ true → IfErr result (λ stop. stop ≢ Stop.Input) }
+    ensures stays_ended { reader.old.ended ≡ true → reader.new.ended ≡ true }
+    ensures kept { KeepsCount reader.old ((I.state host.old).rest Script)
+        reader.new ((I.state host.new).rest Script) }
+    ensures cause { StopCause (I.state host.old).faults (I.state host.new).faults result }
+    ensures opened { (I.state host.new).opened Script ≡ true }
+    ensures met { MetEnd reader.new.ended ((I.state host.new).rest Script) }
+    ensures others { OthersStay Script (I.state host.old) (I.state host.new) }
+{
+    match reader.next_line(alloc, host, limits.line) {
+        Ok(line) => Ok(line),
+        Err(ReadFault::Input) => Err(Stop::Input),
+        Err(ReadFault::Memory) => Err(Stop::Memory),
+        Err(ReadFault::TooLong) => unreachable!(),
     }
 }

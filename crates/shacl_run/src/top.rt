@@ -1,36 +1,38 @@
-ghost use Rattle.std.specs.Prelude.{◌≡◌, Some};
-ghost use Rattle.shx_outside.specs.declared.role.Role.TheVariants.{Shapes, Data, Script};
-ghost use Rattle.shx_outside.specs.Told.{IsAtEnd};
+ghost use Rattle.std.specs.Prelude.{◌≡◌, ℕ, Some, IfSome};
+ghost use Rattle.shx_outside.specs.declared.role.Role.TheVariants.{Script};
 ghost use Rattle.shx_term.specs.Limits.{AreUsable};
-ghost use Rattle.shacl_run.specs.Output.{state_of};
-ghost use Rattle.shacl_run.specs.Run.{run_output, files_output};
-ghost use Rattle.shacl_run.specs.RunClauses.{Answers, StopsShort, HasCauses, Ends, ScriptAtEnd, ScriptEnds};
-ghost use Rattle.shacl_run.specs.Validation.{files_of};
+ghost use Rattle.shacl_run.specs.declared.status.Status.TheVariants.{BadWords, InputFault};
+ghost use Rattle.shacl_run.specs.Ends.{Ends};
+ghost use Rattle.shacl_run.specs.Outside.{outside};
+ghost use Rattle.report_write.specs.declared.answer.Answer.TheVariants.{Usage};
+ghost use Rattle.shacl_run.specs.Files.{files_of, files_output, FilesStop};
+ghost use Rattle.shacl_run.specs.Run.{answer_output, run_output};
+ghost use Rattle.shacl_run.specs.RunClauses.{ran, WritesWhole, WritesFront, HasCauses};
+ghost use Rattle.shacl_run.specs.RunClauses.{ReadsToEnd, StaysWithin, ScriptStops, IsOpenedBy};
+ghost use Rattle.shacl_run.specs.Stops.{end_status};
 ghost use Rattle.shacl_run.specs.Status.{IsAnswered, IsReported, IsCutShort};
 ghost use Rattle.shacl_run.specs.Words.{command_words, AdmitsFiles};
 
-use crate::ending::put_last;
+use crate::ending::refuse;
 use crate::prepare::{Prepared, prepare};
 use crate::run_validation::run_validation;
 use crate::status::Status;
-use crate::text::ReadFault;
+use crate::stop::Stop;
 use crate::words::{Files, read_words};
+use report_write::{Answer, write_answer};
 use shx_outside::{Inputs, PatternHost, Sink};
 use shx_term::{Limits, Steps, Text};
 use std::alloc::Global;
 use std::sync::ledger::Ledger;
 
-const USAGE: &str = "usage: shacl_keep [--format lines|turtle] [--base IRI] SHAPES DATA [SCRIPT]\n";
-
-const SHAPES_NOT_BUILT: &str = "fault shapes: 59 NotBuilt\n";
-
-const DATA_NOT_BUILT: &str = "fault data: 59 NotBuilt\n";
-
-/// Runs the validator: reads the texts that the words name, writes the report of the data, or the usage, or the fault of a
-/// text, and then answers a script line by line. `nested` and `steps` are for counting evaluations, and are not ticked so
+/// Runs the validator: reads the texts that the words name, writes the report of the data, or the usage, or
+/// the fault of a
+/// text, and then answers a script line by line. `nested` and `steps` are for counting evaluations, and are
+/// not ticked so
 /// far.
 ///
-/// A text is read in pieces, and past its limit one byte is taken and no more. A report is put in few large pieces. The
+/// A text is read in pieces, and past its limit one byte is taken and no more. A report is put in few large
+/// pieces. The
 /// answer to a line is put before the next line is waited for.
 pub fn run<H: Inputs, O: Sink, P: PatternHost, L: Ledger, M: Ledger>(
     alloc: Global,
@@ -45,23 +47,71 @@ pub fn run<H: Inputs, O: Sink, P: PatternHost, L: Ledger, M: Ledger>(
     requires limits { AreUsable limits.now }
     requires admitted { AdmitsFiles (H.admits host.old) (command_words words.now) }
 
-    // The bytes written are the defined output, and the status is its status.
-    ensures exact { IsAnswered result → Answers (run_output limits.now words.now (H.text host.old)) result
-        (state_of O.held O.room O.faults out.old) (state_of O.held O.room O.faults out.new) }
-    ensures read_to_end { IsReported result → IsAtEnd (H.rest host.new Shapes) × IsAtEnd (H.rest host.new Data)
-        × ScriptEnds (command_words words.now) (H.rest host.new Script) }
+    // The bytes written and the status are those of an output that is due, and each text was read to its end.
+    ensures exact { IsAnswered result → WritesWhole (ran limits.now words.now
+        (outside (H.state host.old) (O.state out.old) (P.state patterns.old) nested.old steps.old)
+        (outside (H.state host.new) (O.state out.new) (P.state patterns.new) nested.new steps.new) result) }
+    ensures read_to_end { IsReported result
+        → IfSome (command_words words.now) (ReadsToEnd (H.state host.new)) }
 
-    // After a failure they are a front of it.
-    ensures prefix { IsCutShort result → StopsShort (run_output limits.now words.now (H.text host.old)) result
-        (state_of O.held O.room O.faults out.old) (state_of O.held O.room O.faults out.new) }
-    ensures causes { HasCauses result (H.faults host.old) (H.faults host.new)
-        (state_of O.held O.room O.faults out.old) (state_of O.held O.room O.faults out.new)
-        (P.faults patterns.old) (P.faults patterns.new) }
+    // After a failure they are a front of it; where the script could not be read on, up to the last line
+    // that was taken.
+    ensures prefix { IsCutShort result → WritesFront (ran limits.now words.now
+        (outside (H.state host.old) (O.state out.old) (P.state patterns.old) nested.old steps.old)
+        (outside (H.state host.new) (O.state out.new) (P.state patterns.new) nested.new steps.new) result) }
+    ensures script_stops { result ≡ InputFault
+        → IsOpenedBy (H.state host.old) (H.state host.new) Script
+        → ScriptStops limits.now words.now (H.state host.old) (H.state host.new)
+        (O.state out.old) (O.state out.new) }
+
+    // A failure has its cause, and no more is taken of a text than is needed to know that it is too long.
+    ensures causes { HasCauses (ran limits.now words.now
+        (outside (H.state host.old) (O.state out.old) (P.state patterns.old) nested.old steps.old)
+        (outside (H.state host.new) (O.state out.new) (P.state patterns.new) nested.new steps.new) result) }
+    ensures within { IfSome (command_words words.now)
+        (StaysWithin limits.now (H.state host.old) (H.state host.new)) }
+{
+    match run_words(alloc, words, host, out, limits) {
+        Ok(status) => status,
+        Err(stop) => stop.status(),
+    }
+}
+
+fn run_words<H: Inputs, O: Sink>(
+    alloc: Global,
+    words: &[Text],
+    host: &mut H,
+    out: &mut O,
+    limits: &Limits,
+) -> Result<Status, Stop>
+    requires limits { AreUsable limits.now }
+    requires admitted { AdmitsFiles (H.admits host.old) (command_words words.now) }
+    ensures ends { Ends (run_output limits.now words.now (H.state host.old).text) (end_status result)
+        (H.state host.old).faults (H.state host.new).faults (O.state out.old) (O.state out.new) }
+    ensures read_to_end { IsReported (end_status result)
+        → IfSome (command_words words.now) (ReadsToEnd (H.state host.new)) }
+    ensures script_stops { end_status result ≡ InputFault
+        → IsOpenedBy (H.state host.old) (H.state host.new) Script
+        → ScriptStops limits.now words.now (H.state host.old) (H.state host.new)
+        (O.state out.old) (O.state out.new) }
+    ensures within { IfSome (command_words words.now)
+        (StaysWithin limits.now (H.state host.old) (H.state host.new)) }
 {
     match read_words(words) {
         Some(files) => run_files(alloc, &files, host, out, limits),
-        None => put_last(USAGE, Status::BadWords, out),
+        None => refuse_words(out),
     }
+}
+
+// Writes the usage, with which the run ends.
+fn refuse_words<O: Sink>(out: &mut O) -> Result<Status, Stop>
+    ensures ends { (faults : ℕ) → Ends (Some (answer_output Usage BadWords)) (end_status result) faults faults
+        (O.state out.old) (O.state out.new) }
+    ensures unreported { IsReported (end_status result) → ⊥ }
+    ensures output { end_status result ≡ InputFault → ⊥ }
+{
+    write_answer(&Answer::Usage, out)?;
+    Ok(Status::BadWords)
 }
 
 fn run_files<H: Inputs, O: Sink>(
@@ -70,22 +120,23 @@ fn run_files<H: Inputs, O: Sink>(
     host: &mut H,
     out: &mut O,
     limits: &Limits,
-) -> Status
+) -> Result<Status, Stop>
     requires limits { AreUsable limits.now }
     requires admitted { AdmitsFiles (H.admits host.old) (Some (files_of files.now)) }
-    ensures ends { Ends (files_output limits.now (files_of files.now) (H.text host.old)) result (H.faults host.old) (H.faults host.new)
-        (state_of O.held O.room O.faults out.old) (state_of O.held O.room O.faults out.new) }
-    ensures read_to_end { IsReported result → IsAtEnd (H.rest host.new Shapes) × IsAtEnd (H.rest host.new Data)
-        × ScriptAtEnd (files_of files.now).script_file (H.rest host.new Script) }
+    ensures ends { Ends (files_output limits.now (files_of files.now) (H.state host.old).text)
+        (end_status result) (H.state host.old).faults (H.state host.new).faults
+        (O.state out.old) (O.state out.new) }
+    ensures read_to_end { IsReported (end_status result)
+        → ReadsToEnd (H.state host.new) (files_of files.now) }
+    ensures script_stops { end_status result ≡ InputFault
+        → IsOpenedBy (H.state host.old) (H.state host.new) Script
+        → FilesStop limits.now (files_of files.now) (H.state host.old) (H.state host.new)
+        (O.state out.old) (O.state out.new) }
+    ensures within { StaysWithin limits.now (H.state host.old) (H.state host.new) (files_of files.now) }
 {
-    let mut prepared = match prepare(alloc, files.shapes_file, files.data_file, host, limits) {
-        Ok(prepared) => prepared,
-        Err(ReadFault::Input) => return Status::InputFault,
-        Err(ReadFault::Memory) => return Status::Memory,
-    };
+    let mut prepared = prepare(alloc, files.shapes_file, files.data_file, host, limits)?;
     match &mut prepared {
-        Prepared::ShapesNotBuilt => put_last(SHAPES_NOT_BUILT, Status::Refused, out),
-        Prepared::DataNotBuilt => put_last(DATA_NOT_BUILT, Status::Refused, out),
+        Prepared::NotBuilt(role) => refuse(*role, out),
         Prepared::Open(validation) => run_validation(
             alloc,
             validation,

@@ -2,7 +2,7 @@
 ghost use Rattle.std.specs.Prelude.{◌≡◌, ◌&&◌, Some, None, if◌then◌else◌};
 ghost use Rattle.std.specs.Option.{option_map};
 ghost use Rattle.shacl_run.specs.Words.{command_words, is_file_word, two_files, three_files};
-ghost use Rattle.shacl_run.specs.Validation.{files_of};
+ghost use Rattle.shacl_run.specs.Files.{files_of};
 
 use shx_term::Text;
 
@@ -19,15 +19,16 @@ pub fn read_words(words: &[Text]) -> Option<Files<'_>>
     ensures { option_map files_of result ≡ command_words words.now }
 {
     match words {
-        [shapes, facts] => two_files(shapes.as_str(), facts.as_str()),
-        [shapes, facts, script] => three_files(shapes.as_str(), facts.as_str(), script.as_str()),
+        [shapes, data] => two_files(shapes.as_str(), data.as_str()),
+        [shapes, data, script] => three_files(shapes.as_str(), data.as_str(), script.as_str()),
         _ => None,
     }
 }
 
 fn two_files<'a>(shapes_file: &'a str, data_file: &'a str) -> Option<Files<'a>>
     ensures { option_map files_of result
-        ≡ (if is_file_word shapes_file.now && is_file_word data_file.now then Some (two_files shapes_file.now data_file.now) else None) }
+        ≡ (if is_file_word shapes_file.now && is_file_word data_file.now
+        then Some (two_files shapes_file.now data_file.now) else None) }
 {
     if is_file_word(shapes_file) && is_file_word(data_file) {
         return Some(Files {

@@ -1,18 +1,35 @@
-use Rattle.std.proofs.Common.{None, Some}
-use Rattle.graph_view.specs.SameGraph.{HoldsSame-sym}
-use Rattle.shacl_run.proofs.Declaring.{declared_by-stored}
+use Rattle.std.proofs.Common.{◌≡◌, None, Some, ap, ◌∙◌, subst}
+use Rattle.graph_view.specs.Graph.{graph_of}
+use Rattle.graph_view.specs.ListGraph.{plain_graph}
+use Rattle.graph_view.specs.SameGraph.{SameGraph}
+use Rattle.graph_view.proofs.SameGraphLemmas.{HoldsSame-sym, HoldsSame-then, first_places_same}
+use Rattle.shacl_run.proofs.SameReportLemmas.{declared_by-same}
 use Rattle.shacl_run.proofs.declare.declare_document.Goals as goal
 
 pub read_shapes-requires : goal.read_shapes-requires
-read_shapes-requires c = HoldsSame-sym c.in_ok-graph.ensures.triples
+read_shapes-requires c =
+    HoldsSame-then (HoldsSame-sym (first_places_same c.args.triples.now)) c.in_ok-load.ensures.loaded.triples
 
 pub returns-in-Some-clause-declared : goal.returns-in-Some-clause-declared
 returns-in-Some-clause-declared c =
-    rw (c.into_pool-pool.ensures, c.in_ok-graph.ensures.pool)
-    (declared_by-stored c.args.pool.terms c.in_ok-graph.graph.triples c.args.triples.now (Some c.in-Some.shapes.items) c.in_ok-graph.ensures.triples
-    (rw (c.in-Some.is, c.in_ok-graph.ensures.pool) at c.in_ok-found.ensures))
+    let graph = plain_graph c.load.new.graph in
+    let triples = c.args.triples.now in
+    let new : c.new-graph.result.pool.terms ≡ c.args.pool.terms =
+    ap (λ made. made.pool.terms) c.new-graph.ensures in
+    let terms : c.into_pool-pool.result.terms ≡ c.args.pool.terms =
+    ap (λ pool. pool.terms) c.into_pool-pool.ensures ∙ c.load.ensures.terms ∙ new in
+    let stored : SameGraph (graph_of c.args.pool.terms triples) graph =
+    subst (λ ts. SameGraph (graph_of ts triples) graph) new c.in_ok-load.ensures.loaded in
+    rw terms
+    (declared_by-same c.args.pool.terms triples graph (Some c.in-Some.shapes.items) stored
+    (rw c.in-Some.is at c.in_ok-found.ensures))
 
 pub returns-in-None-clause-declared : goal.returns-in-None-clause-declared
 returns-in-None-clause-declared c =
-    declared_by-stored c.args.pool.terms c.in_ok-graph.graph.triples c.args.triples.now None c.in_ok-graph.ensures.triples
-    (rw (c.in-None.is, c.in_ok-graph.ensures.pool) at c.in_ok-found.ensures)
+    let graph = plain_graph c.load.new.graph in
+    let triples = c.args.triples.now in
+    let new : c.new-graph.result.pool.terms ≡ c.args.pool.terms =
+    ap (λ made. made.pool.terms) c.new-graph.ensures in
+    let stored : SameGraph (graph_of c.args.pool.terms triples) graph =
+    subst (λ ts. SameGraph (graph_of ts triples) graph) new c.in_ok-load.ensures.loaded in
+    declared_by-same c.args.pool.terms triples graph None stored (rw c.in-None.is at c.in_ok-found.ensures)

@@ -1,5 +1,5 @@
 use Rattle.std.proofs.Common.{◌≡◌, ◌≤◌, length}
-use Rattle.shacl_run.proofs.Documents.{IsReading}
+use Rattle.shacl_run.proofs.DocumentLemmas.{IsReading}
 use Rattle.shacl_run.proofs.document.read_document.Given as goal
 
 abbrev pub invariant-loop-rest : goal.invariant-loop-rest

@@ -1,19 +1,21 @@
-use Rattle.std.proofs.Common.{◌≡◌, ap, ◌∙◌}
-use Rattle.graph_view.specs.ListGraph.{plain_graph}
-use Rattle.shacl_run.specs.Document.{numbered}
-use Rattle.shacl_run.specs.Script.{terms_with}
-use Rattle.shacl_run.proofs.Edits.{numbered_known, Stores_added}
+use Rattle.std.proofs.Common.{◌≡◌, Some, sym, subst, ◌∙◌}
+use Rattle.shx_term.specs.TripleTerms.{numbered}
+use Rattle.shacl_run.proofs.EditLemmas.{numbered_known, SameGraph-added}
 use Rattle.shacl_run.proofs.edit.add.Goals as goal
 
 pub insert-requires : goal.insert-requires
-insert-requires c = rw (c.in_ok-triple.ensures.triple, c.in_ok-triple.ensures.terms) (numbered_known c.args.graph.now.pool.terms c.args.stated.now)
+insert-requires g c =
+    numbered_known (g.E.GraphView.graph c.enter_terms.new.graph).terms c.args.stated.now c.in_ok-triple.triple
+    c.in_ok-triple.ensures.triple
 
 pub returns-in-Ok-clause-after : goal.returns-in-Ok-clause-after
-returns-in-Ok-clause-after c =
-    let g = plain_graph c.args.graph.now in
-    let stated = c.args.stated.now in
-    let number : c.in_ok-triple.triple ≡ numbered (terms_with g stated) stated =
-    c.in_ok-triple.ensures.triple ∙ ap (λ terms. numbered terms stated) c.in_ok-triple.ensures.terms in
-    Stores_added g c.insert.new.self stated c.enter_terms.new.graph.triples c.in_ok-triple.triple c.in-Ok.field-0
-    c.requires.absent c.in_ok-triple.ensures.triples number (c.in-Ok.ensures.terms ∙ c.in_ok-triple.ensures.terms)
-    c.in-Ok.ensures.added c.in-Ok.ensures.new c.in-Ok.ensures.count
+returns-in-Ok-clause-after g c =
+    let graph = g.E.GraphView.graph in
+    let terms = c.in-Ok.ensures.terms in
+    let number : numbered (graph c.insert.new.self).terms c.args.stated.now ≡ Some c.in_ok-triple.triple =
+    subst (λ ts. numbered ts c.args.stated.now ≡ Some c.in_ok-triple.triple) (sym terms)
+    c.in_ok-triple.ensures.triple in
+    SameGraph-added (graph c.args.graph.now) (graph c.insert.new.self) c.args.stated.now
+    (graph c.enter_terms.new.graph).triples c.in_ok-triple.triple c.in-Ok.field-0
+    c.requires.known c.requires.absent (terms ∙ c.in_ok-triple.ensures.terms) number
+    c.in_ok-triple.ensures.triples c.in-Ok.ensures.added c.in-Ok.ensures.new c.in-Ok.ensures.count

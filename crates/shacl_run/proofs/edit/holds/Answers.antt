@@ -1,22 +1,18 @@
-use Rattle.std.proofs.Common.{[], ◌∷◌, sym, ap, ◌∙◌}
-use Rattle.std.specs.List.{list_any, list_all}
-use Rattle.shx_term.specs.Triple.{same_triple}
-use Rattle.shx_term.specs.Pool.{is_held, with_terms}
-use Rattle.graph_view.specs.ListGraph.{plain_graph}
-use Rattle.shacl_run.specs.Document.{terms_of, numbered}
-use Rattle.shacl_run.proofs.Edits.{not_stated, any_where_contained}
+use Rattle.std.proofs.Common.{ap, ◌∙◌}
+use Rattle.shx_term.specs.TripleTerms.{numbered}
+use Rattle.shacl_run.specs.Edits.{is_among}
+use Rattle.shacl_run.proofs.EditLemmas.{any_where_contained}
 use Rattle.shacl_run.proofs.edit.holds.Goals as goal
 
-pub returns-in-Some : goal.returns-in-Some
-returns-in-Some c =
-    let graph = c.args.graph.now in
-    let stated = c.args.stated.now in
+pub returns-in-Some-clause-stated : goal.returns-in-Some-clause-stated
+returns-in-Some-clause-stated g c =
+    let graph = g.E.GraphView.graph c.args.graph.now in
     any_where_contained graph.triples c.in-Some.triple c.contains.result c.contains.ensures
-    ∙ ap (λ t. list_any (same_triple t) graph.triples)
-    (c.in-Some.ensures ∙ ap (λ terms. numbered (with_terms terms (terms_of (stated ∷ []))) stated) c.pool.ensures.terms)
+    ∙ ap (is_among graph.triples)
+    (c.in-Some.ensures ∙ ap (λ terms. numbered terms c.args.stated.now) c.pool.ensures.terms)
 
-pub returns-in-None : goal.returns-in-None
-returns-in-None c =
-    let stated = c.args.stated.now in
-    sym (not_stated (plain_graph c.args.graph.now) stated c.pool.ensures.known
-    (ap (λ terms. list_all (is_held terms) (terms_of (stated ∷ []))) (sym c.pool.ensures.terms) ∙ c.in-None.ensures))
+pub returns-in-None-clause-stated : goal.returns-in-None-clause-stated
+returns-in-None-clause-stated g c =
+    let graph = g.E.GraphView.graph c.args.graph.now in
+    ap (is_among graph.triples)
+    (c.in-None.ensures ∙ ap (λ terms. numbered terms c.args.stated.now) c.pool.ensures.terms)

@@ -5,4 +5,6 @@ use Rattle.shacl_run.specs.Evaluation.{pairs_of_shape}
 use Rattle.shacl_run.proofs.evaluation.list_pairs.Given as goal
 
 abbrev pub invariant-loop-no : goal.invariant-loop-no
-invariant-loop-no g l = l.pairs.items ≡ flat_map (pairs_of_shape (g.V.GraphView.graph l.view)) (enumerate_from 0 (take l.no l.shapes))
+invariant-loop-no g l =
+    l.pairs.items
+    ≡ flat_map (pairs_of_shape (g.V.GraphView.graph l.view)) (enumerate_from 0 (take l.no l.shapes))

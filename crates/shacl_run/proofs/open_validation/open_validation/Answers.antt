@@ -1,9 +1,9 @@
-use Rattle.shacl_run.specs.Reading.{document_read-known}
+use Rattle.shacl_run.proofs.DocumentLemmas.{document_known}
 use Rattle.shacl_run.proofs.open_validation.open_validation.Goals as goal
 
 pub validation_over-requires : goal.validation_over-requires
 validation_over-requires c =
     rw c.deref.ensures.value
-    (document_read-known c.args.limits.now c.args.declared.pool.terms c.args.text.now
-    (record { terms = c.stated_triples.new.pool.terms; triples = c.in-Some.triples.items })
+    (document_known c.args.limits.now c.args.declared.pool.terms c.args.text.now
+    (record { terms = c.read_document.new.pool.terms; triples = c.in-Some.triples.items })
     (rw c.in-Some.is at c.in_ok-triples.ensures.document))

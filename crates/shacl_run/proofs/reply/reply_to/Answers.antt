@@ -1,10 +1,10 @@
-use Rattle.std.proofs.Common.{Some, sym, subst, IfOk}
-use Rattle.shacl_run.specs.Reply.{Replies}
-use Rattle.shacl_run.proofs.Replying.{step_within}
 use Rattle.shacl_run.proofs.reply.reply_to.Goals as goal
 
-pub returns-in-Some : goal.returns-in-Some
-returns-in-Some c = λ limits shapes s is within.
-    subst (λ step. IfOk c.do_command.result (λ reply. Replies limits shapes s step reply c.do_command.new.validation))
-    (sym (step_within limits shapes s c.args.line.now (Some c.in-Some.command) within (rw c.in-Some.is at c.in_ok-command.ensures)))
-    (c.do_command.ensures limits shapes s is)
+pub returns-in-Ok-clause-replies : goal.returns-in-Ok-clause-replies
+returns-in-Ok-clause-replies c = λ s is.
+    rw c.in-Ok.ensures.command (c.do_command.ensures.replies c.args.limits.now s is)
+
+pub returns-in-Err-Line-clause-replies : goal.returns-in-Err-Line-clause-replies
+returns-in-Err-Line-clause-replies c = λ s is.
+    rw (c.in-Err-Line.ensures.refused (λ is. cc), c.in-Err-Line.field-0-is)
+    (rw c.in-Err-Line.code-is at (c.refuse_line.ensures.replies c.args.limits.now s is))

@@ -1,48 +1,83 @@
-use Rattle.std.proofs.Common.{Some, [], refl, sym, subst}
-use Rattle.shacl_run.specs.declared.status.Status.TheVariants.{InputFault}
-use Rattle.shacl_run.specs.Evaluation.{report}
-use Rattle.shacl_run.specs.Output.{state_of}
-use Rattle.shacl_run.specs.Report.{report_text}
-use Rattle.shacl_run.specs.Run.{start_state, with_script, script_text}
-use Rattle.shacl_run.specs.RunClauses.{Ends}
+use Rattle.std.proofs.Common.{refl, sym, ap, ◌∙◌}
 use Rattle.std.specs.Option.{option_map}
+use Rattle.shx_outside.specs.declared.role.Role.TheVariants.{Script}
+use Rattle.shacl_run.specs.declared.status.Status.TheVariants.{InputFault}
+use Rattle.shacl_run.specs.declared.stop.Stop.TheVariants.{Input}
+use Rattle.shacl_run.specs.Run.{validation_output, script_text}
+use Rattle.shacl_run.specs.Script.{said_text}
+use Rattle.shacl_run.specs.Script.Said.{reports}
 use Rattle.shacl_run.specs.Serving.{due_at}
-use Rattle.shacl_run.proofs.Endings.{Ends-after, Ends-input}
-use Rattle.shacl_run.proofs.Serving.{script_prefixed, Ends-unreported, Ends-unscripted}
+use Rattle.shacl_run.specs.Stops.{end_status}
+use Rattle.shacl_run.proofs.EndLemmas.{Ends-after, Ends-input, passed_on, input_stop}
+use Rattle.shacl_run.proofs.ValidationRunLemmas.{validation_prefixed, Ends-unreported, Ends-unscripted}
+use Rattle.shacl_run.proofs.ValidationRunLemmas.{StopsFed-reported, unreported_quiet, reported_quiet}
 use Rattle.shacl_run.proofs.run_validation.run_validation.Goals as goal
 
-pub returns-in-Err-clause-ends : goal.returns-in-Err-clause-ends
-returns-in-Err-clause-ends g c = λ shapes start is.
-    let state = state_of g.O.Sink.held g.O.Sink.room g.O.Sink.faults in
-    Ends-unreported c.args.limits.now shapes start (script_text (g.I.Inputs.text c.args.host.now) (option_map (λ name. name.now) c.args.script)) c.in-Err.status
-    (g.I.Inputs.faults c.args.host.now) (state c.args.out.now) (state c.put_report.new.out) (c.in-Err.ensures.reports c.args.limits.now shapes start is)
+pub returns-in_err-status-clause-ends : goal.returns-in_err-status-clause-ends
+returns-in_err-status-clause-ends g c = λ s is.
+    let inputs = g.I.Inputs.state c.args.host.now in
+    let script = script_text inputs.text (option_map (λ name. name.now) c.args.script) in
+    let stop = c.in_err-status.field-0.0 in
+    rw (passed_on c.from_residual.result stop c.from_residual.ensures.1)
+    (Ends-unreported c.args.limits.now s script stop inputs.faults
+    (g.O.Sink.state c.args.out.now) (g.O.Sink.state c.put_report.new.out)
+    (c.in_err-status.ensures c.args.limits.now s is))
+
+pub returns-in_err-status-clause-fed : goal.returns-in_err-status-clause-fed
+returns-in_err-status-clause-fed g c = λ s is failed opened.
+    let stop = c.in_err-status.field-0.0 in
+    let exit = passed_on c.from_residual.result stop c.from_residual.ensures.1 in
+    absurd (unreported_quiet s stop (g.O.Sink.state c.args.out.now) (g.O.Sink.state c.put_report.new.out)
+    (c.in_err-status.ensures c.args.limits.now s is) (input_stop stop (sym (ap end_status exit) ∙ failed)))
 
 pub returns-in_default-clause-ends : goal.returns-in_default-clause-ends
-returns-in_default-clause-ends g c = λ shapes start is.
-    let state = state_of g.O.Sink.held g.O.Sink.room g.O.Sink.faults in
-    let reports = c.in-Ok.ensures.reports c.args.limits.now shapes start is in
-    let inputs = g.I.Inputs.faults c.args.host.now in
-    rw c.in_default.is (subst (λ status. Ends (with_script c.args.limits.now shapes start (Some [])) status inputs inputs (state c.args.out.now) (state c.put_report.new.out)) (sym reports.1)
-    (Ends-unscripted c.args.limits.now shapes start inputs (state c.args.out.now) (state c.put_report.new.out) reports.0))
+returns-in_default-clause-ends g c = λ s is.
+    let inputs = g.I.Inputs.state c.args.host.now in
+    rw c.in_default.is (Ends-unscripted c.args.limits.now s c.in_ok-status.status inputs.faults
+    (g.O.Sink.state c.args.out.now) (g.O.Sink.state c.put_report.new.out)
+    (sym is.refused_is ∙ c.requires.fresh.1) (c.in_ok-status.ensures c.args.limits.now s is))
 
-pub returns-in-Ok-open-clause-ends : goal.returns-in-Ok-open-clause-ends
-returns-in-Ok-open-clause-ends g c = λ shapes start is.
-    let limits = c.args.limits.now in
-    let state = state_of g.O.Sink.held g.O.Sink.room g.O.Sink.faults in
-    let script = g.I.Inputs.text c.args.host.now c.in-Some.name.now in
-    rw c.in-Some.is (Ends-after (with_script limits shapes start script) (due_at limits shapes (start_state start) limits.script script) (report_text start.terms shapes (report start shapes))
-    c.serve.result (g.I.Inputs.faults c.args.host.now) (g.I.Inputs.faults c.open.new.self) (g.I.Inputs.faults c.serve.new.host)
-    (state c.args.out.now) (state c.put_report.new.out) (state c.serve.new.out) (script_prefixed limits shapes start script) c.in-Ok-open.ensures.cause.quiet
-    (c.in-Ok.ensures.reports limits shapes start is).0 (rw c.in-Ok-open.ensures.rest at (c.serve.ensures.ends shapes start is)))
+pub returns-in_default-clause-fed : goal.returns-in_default-clause-fed
+returns-in_default-clause-fed g c = λ s is failed opened.
+    absurd (reported_quiet s c.in_ok-status.status (c.in_ok-status.ensures c.args.limits.now s is).1 failed)
 
-pub returns-in-Err-open-clause-ends : goal.returns-in-Err-open-clause-ends
-returns-in-Err-open-clause-ends g c = λ shapes start is.
+pub returns-in_err-open-clause-ends : goal.returns-in_err-open-clause-ends
+returns-in_err-open-clause-ends g c = λ s is.
     let limits = c.args.limits.now in
-    let state = state_of g.O.Sink.held g.O.Sink.room g.O.Sink.faults in
-    let script = g.I.Inputs.text c.args.host.now c.in-Some.name.now in
-    let later = due_at limits shapes (start_state start) limits.script script in
-    let inputs = g.I.Inputs.faults c.args.host.now in
-    rw c.in-Some.is (Ends-after (with_script limits shapes start script) later (report_text start.terms shapes (report start shapes))
-    InputFault inputs inputs (g.I.Inputs.faults c.open.new.self)
-    (state c.args.out.now) (state c.put_report.new.out) (state c.put_report.new.out) (script_prefixed limits shapes start script) refl
-    (c.in-Ok.ensures.reports limits shapes start is).0 (Ends-input later inputs (g.I.Inputs.faults c.open.new.self) (state c.put_report.new.out) c.in-Err-open.ensures.cause.failed))
+    let inputs = g.I.Inputs.state c.args.host.now in
+    let failed = g.I.Inputs.state c.open.new.self in
+    let sink = g.O.Sink.state c.put_report.new.out in
+    let script = inputs.text c.in-Some.name.now in
+    let later = due_at limits s limits.script script in
+    let exit = c.from_residual-in_err-open in
+    rw (passed_on exit.result Input exit.ensures.1, c.in-Some.is)
+    (Ends-after (option_map (validation_output limits s) script) later (said_text s reports)
+    InputFault inputs.faults inputs.faults failed.faults (g.O.Sink.state c.args.out.now) sink sink
+    (validation_prefixed limits s script) refl (c.in_ok-status.ensures limits s is).0
+    (Ends-input later inputs.faults failed.faults sink c.in_err-open.ensures.cause.failed))
+
+pub returns-clause-ends : goal.returns-clause-ends
+returns-clause-ends g c = λ s is.
+    let limits = c.args.limits.now in
+    let inputs = g.I.Inputs.state c.args.host.now in
+    let opened = g.I.Inputs.state c.open.new.self in
+    let served = g.I.Inputs.state c.serve.new.host in
+    let script = inputs.text c.in-Some.name.now in
+    rw c.in-Some.is
+    (Ends-after (option_map (validation_output limits s) script) (due_at limits s limits.script script)
+    (said_text s reports) (end_status c.serve.result) inputs.faults opened.faults served.faults
+    (g.O.Sink.state c.args.out.now) (g.O.Sink.state c.put_report.new.out) (g.O.Sink.state c.serve.new.out)
+    (validation_prefixed limits s script) c.in_ok-open.ensures.cause.quiet
+    (c.in_ok-status.ensures limits s is).0
+    (rw c.in_ok-open.ensures.rest at (c.serve.ensures.ends s is)))
+
+pub returns-clause-fed : goal.returns-clause-fed
+returns-clause-fed g c = λ s is failed opened.
+    let limits = c.args.limits.now in
+    let inputs = g.I.Inputs.state c.args.host.now in
+    let served = g.I.Inputs.state c.serve.new.host in
+    rw c.in-Some.is
+    (StopsFed-reported limits s (inputs.text c.in-Some.name.now) (served.rest Script)
+    (g.O.Sink.state c.args.out.now) (g.O.Sink.state c.put_report.new.out) (g.O.Sink.state c.serve.new.out)
+    (c.in_ok-status.ensures limits s is).0
+    (rw c.in_ok-open.ensures.rest at (c.serve.ensures.fed s is failed)))

@@ -1,91 +1,163 @@
-use Rattle.std.proofs.Common.{Some, ◌∙◌, refl, sym, ap, arith, subst}
+use Rattle.std.proofs.Common.{Some, ◌∙◌, sym, ap, subst, arith}
 use Rattle.std.proofs.lemmas.Option.{IfSome_then}
 use Rattle.shx_outside.specs.declared.role.Role.TheVariants.{Script}
-use Rattle.shacl_run.specs.declared.status.Status.TheVariants.{InputFault, Memory, Refused}
-use Rattle.shacl_run.specs.Output.{state_of}
-use Rattle.shacl_run.specs.Run.{Output, script_too_long}
-use Rattle.shacl_run.specs.RunClauses.{Ends}
-use Rattle.shacl_run.specs.ScriptReader.{left_of}
+use Rattle.shx_outside.proofs.ToldLemmas.{OthersStay-same, OthersStay-then}
+use Rattle.text_input.specs.ScriptReader.{left_of}
+use Rattle.text_input.proofs.CountLemmas.{IsCounted-start}
+use Rattle.shacl_run.specs.declared.stop.Stop.TheVariants.{Write}
+use Rattle.shacl_run.specs.declared.take_line.Taken.{Taken}
+use Rattle.shacl_run.specs.Ends.{Ends}
+use Rattle.shacl_run.specs.Run.{not_built}
 use Rattle.shacl_run.specs.Serving.{due_at}
-use Rattle.shacl_run.proofs.Endings.{Ends-input, Ends-memory, Ends-told}
-use Rattle.shacl_run.proofs.Serving.{Reached-start, Reached-step, Reached-short, Ends-last}
+use Rattle.shacl_run.specs.Stops.{end_status, stop_status}
+use Rattle.shacl_run.proofs.EndLemmas.{Ends-told, passed_on, input_stop}
+use Rattle.shacl_run.proofs.ServingLemmas.{Reached-start, Reached-step, Reached-short, stops_here, not_ended}
+use Rattle.shacl_run.proofs.ServingLemmas.{Ends-stopped, Ends-finished, last_quiet, TakesWithin-kept}
 use Rattle.shacl_run.proofs.serve.serve.Goals as goal
 
 pub loop-taken-init : goal.loop-taken-init
-loop-taken-init g c = rw c.new-reader.ensures (record {
-  opened = c.requires;
-  met = record { told = λ is. cc };
-  few = omega arith;
-  others = record { opened_same = λ other apart. refl; rest_same = λ other apart. refl };
-  reached = λ shapes start is. Reached-start c.args.limits.now shapes start (g.I.Inputs.rest c.args.host.now Script) (g.I.Inputs.faults c.args.host.now)
-      (state_of g.O.Sink.held g.O.Sink.room g.O.Sink.faults c.args.out.now) c.args.validation.now is;
-})
+loop-taken-init g c =
+    let inputs = g.I.Inputs.state c.args.host.now in
+    rw c.new-reader.ensures (record {
+      opened = c.requires.opened;
+      met = record { told = λ is. cc };
+      few = omega (arith, c.requires.fresh.0);
+      others = OthersStay-same Script inputs;
+      counted = λ script is. IsCounted-start script c.args.limits.now.script (inputs.rest Script) is;
+      reached = λ s is. Reached-start c.args.limits.now s (inputs.rest Script) inputs.faults
+          (g.O.Sink.state c.args.out.now) c.args.validation.now is;
+    })
 
-pub returns-in-Err-Input-clause-ends : goal.returns-in-Err-Input-clause-ends
-returns-in-Err-Input-clause-ends g c = λ shapes start is.
-    let reached = c.loop-taken.invariant.reached shapes start is in
-    let due = due_at c.args.limits.now shapes reached.state c.loop-taken.reader.budget (left_of c.loop-taken.reader (g.I.Inputs.rest c.loop-taken.host Script)) in
-    let sink = state_of g.O.Sink.held g.O.Sink.room g.O.Sink.faults c.loop-taken.out in
-    reached.onward InputFault (g.I.Inputs.faults c.take_line.new.host) sink
-    (Ends-input due (g.I.Inputs.faults c.loop-taken.host) (g.I.Inputs.faults c.take_line.new.host) sink (rw c.in-Err-Input.field-0-is at c.in-Err-Input.ensures.cause))
+pub returns-in_err-taken-clause-ends : goal.returns-in_err-taken-clause-ends
+returns-in_err-taken-clause-ends g c = λ s is.
+    let at = c.loop-taken in
+    let inputs = g.I.Inputs.state at.host in
+    let after = g.I.Inputs.state c.take_line.new.host in
+    let sink = g.O.Sink.state at.out in
+    let reached = at.invariant.reached s is in
+    let due = due_at c.args.limits.now reached.state at.reader.budget
+    (left_of at.reader (inputs.rest Script)) in
+    let stop = c.in_err-taken.field-0.0 in
+    rw (passed_on c.from_residual.result stop c.from_residual.ensures.1)
+    (reached.onward (stop_status stop) after.faults sink
+    (Ends-stopped Taken due stop inputs.faults after.faults sink c.in_err-taken.ensures.cause))
 
-pub returns-in-Err-Memory-clause-ends : goal.returns-in-Err-Memory-clause-ends
-returns-in-Err-Memory-clause-ends g c = λ shapes start is.
-    let reached = c.loop-taken.invariant.reached shapes start is in
-    let due = due_at c.args.limits.now shapes reached.state c.loop-taken.reader.budget (left_of c.loop-taken.reader (g.I.Inputs.rest c.loop-taken.host Script)) in
-    let sink = state_of g.O.Sink.held g.O.Sink.room g.O.Sink.faults c.loop-taken.out in
-    reached.onward Memory (g.I.Inputs.faults c.take_line.new.host) sink
-    (Ends-memory due (g.I.Inputs.faults c.loop-taken.host) (g.I.Inputs.faults c.take_line.new.host) sink (rw c.in-Err-Memory.field-0-is at c.in-Err-Memory.ensures.cause))
+pub returns-in_err-taken-clause-fed : goal.returns-in_err-taken-clause-fed
+returns-in_err-taken-clause-fed g c = λ s is failed.
+    let at = c.loop-taken in
+    let rest = (g.I.Inputs.state at.host).rest Script in
+    let rest' = (g.I.Inputs.state c.take_line.new.host).rest Script in
+    let sink = g.O.Sink.state at.out in
+    let reached = at.invariant.reached s is in
+    let stop = c.in_err-taken.field-0.0 in
+    let exit = passed_on c.from_residual.result stop c.from_residual.ensures.1 in
+    let input = input_stop stop (sym (ap end_status exit) ∙ failed) in
+    reached.fed (not_ended at.reader.ended stop c.in_err-taken.ensures.going input) rest' sink
+    (stops_here c.args.limits.now reached.state (left_of at.reader rest) rest' c.take_line.new.reader sink
+    (c.in_err-taken.ensures.stopped input))
+
+pub returns-in_err-taken-clause-within : goal.returns-in_err-taken-clause-within
+returns-in_err-taken-clause-within g c =
+    TakesWithin-kept ((g.I.Inputs.state c.args.host.now).rest Script) _ _ c.args.limits.now.script _ _
+    c.loop-taken.invariant.counted c.take_line.ensures.kept
+
+pub returns-in_err-write_reply-in-Replied-clause-ends :
+    goal.returns-in_err-write_reply-in-Replied-clause-ends
+returns-in_err-write_reply-in-Replied-clause-ends g c = λ s is.
+    let at = c.loop-taken in
+    let before = g.I.Inputs.state c.args.host.now in
+    let inputs = g.I.Inputs.state at.host in
+    let after = g.I.Inputs.state c.take_line.new.host in
+    let reached = at.invariant.reached s is in
+    let exit = c.from_residual-in_err-write_reply-in-Replied in
+    let (step, replies, takes) =
+    (rw c.in-Replied.is at c.in_ok-taken.ensures.taken) reached.state reached.stored in
+    rw (passed_on exit.result Write exit.ensures.1)
+    (Reached-short c.args.limits.now s (before.rest Script) before.faults (g.O.Sink.state c.args.out.now)
+    at.validation c.take_line.new.validation at.reader c.take_line.new.reader (inputs.rest Script)
+    (after.rest Script)
+    inputs.faults after.faults (g.O.Sink.state at.out) (g.O.Sink.state c.write_reply.new.out)
+    reached step c.in-Replied.reply replies takes c.in_ok-taken.ensures.cause
+    c.in_err-write_reply-in-Replied.ensures.err)
+
+pub returns-in_err-write_reply-in-Replied-clause-within :
+    goal.returns-in_err-write_reply-in-Replied-clause-within
+returns-in_err-write_reply-in-Replied-clause-within g c =
+    TakesWithin-kept ((g.I.Inputs.state c.args.host.now).rest Script) _ _ c.args.limits.now.script _ _
+    c.loop-taken.invariant.counted c.take_line.ensures.kept
 
 pub returns-in-End-clause-ends : goal.returns-in-End-clause-ends
-returns-in-End-clause-ends g c = λ shapes start is.
-    let reached = c.loop-taken.invariant.reached shapes start is in
-    let due = due_at c.args.limits.now shapes reached.state c.loop-taken.reader.budget (left_of c.loop-taken.reader (g.I.Inputs.rest c.loop-taken.host Script)) in
-    let sink = state_of g.O.Sink.held g.O.Sink.room g.O.Sink.faults c.loop-taken.out in
-    let taken = (rw c.in-End.is at c.in-Ok.ensures.taken) shapes reached.state reached.stored in
-    reached.onward c.last_status.result (g.I.Inputs.faults c.take_line.new.host) sink
-    (Ends-last due shapes reached.state c.last_status.result (g.I.Inputs.faults c.loop-taken.host) (g.I.Inputs.faults c.take_line.new.host) sink
-    taken.1 c.in-Ok.ensures.cause (c.last_status.ensures c.args.limits.now shapes reached.state taken.0 reached.refused_is))
+returns-in-End-clause-ends g c = λ s is.
+    let at = c.loop-taken in
+    let inputs = g.I.Inputs.state at.host in
+    let after = g.I.Inputs.state c.take_line.new.host in
+    let sink = g.O.Sink.state at.out in
+    let reached = at.invariant.reached s is in
+    let due = due_at c.args.limits.now reached.state at.reader.budget
+    (left_of at.reader (inputs.rest Script)) in
+    let taken = (rw c.in-End.is at c.in_ok-taken.ensures.taken) reached.state reached.stored in
+    reached.onward (end_status c.last_status.result) after.faults sink
+    (Ends-finished due reached.state c.last_status.result inputs.faults after.faults sink taken.1.due
+    c.in_ok-taken.ensures.cause (c.last_status.ensures c.args.limits.now reached.state taken.0))
+
+pub returns-in-End-clause-fed : goal.returns-in-End-clause-fed
+returns-in-End-clause-fed g c = λ s is failed.
+    let reached = c.loop-taken.invariant.reached s is in
+    let taken = (rw c.in-End.is at c.in_ok-taken.ensures.taken) reached.state reached.stored in
+    absurd (last_quiet reached.state c.last_status.result
+    (c.last_status.ensures c.args.limits.now reached.state taken.0) failed)
+
+pub returns-in-End-clause-within : goal.returns-in-End-clause-within
+returns-in-End-clause-within g c =
+    TakesWithin-kept ((g.I.Inputs.state c.args.host.now).rest Script) _ _ c.args.limits.now.script _ _
+    c.loop-taken.invariant.counted c.take_line.ensures.kept
 
 pub returns-in-PastLimit-clause-ends : goal.returns-in-PastLimit-clause-ends
-returns-in-PastLimit-clause-ends g c = λ shapes start is.
-    let reached = c.loop-taken.invariant.reached shapes start is in
-    let due = due_at c.args.limits.now shapes reached.state c.loop-taken.reader.budget (left_of c.loop-taken.reader (g.I.Inputs.rest c.loop-taken.host Script)) in
-    let state = state_of g.O.Sink.held g.O.Sink.room g.O.Sink.faults in
-    let faults = g.I.Inputs.faults c.loop-taken.host in
-    let last : Output = record { text = script_too_long; status = Refused } in
-    reached.onward c.put_last.result (g.I.Inputs.faults c.take_line.new.host) (state c.put_last.new.out)
-    (Ends-told due (Some last) c.put_last.result faults (g.I.Inputs.faults c.take_line.new.host) (state c.loop-taken.out) (state c.put_last.new.out)
-    (IfSome_then due ((rw c.in-PastLimit.is at c.in-Ok.ensures.taken) shapes reached.state reached.stored) (λ told same. ap Some (sym same)))
-    (subst (λ n. Ends (Some last) c.put_last.result faults n (state c.loop-taken.out) (state c.put_last.new.out)) (sym c.in-Ok.ensures.cause) (c.put_last.ensures.ends faults)))
+returns-in-PastLimit-clause-ends g c = λ s is.
+    let at = c.loop-taken in
+    let inputs = g.I.Inputs.state at.host in
+    let after = g.I.Inputs.state c.take_line.new.host in
+    let sink = g.O.Sink.state at.out in
+    let sink' = g.O.Sink.state c.refuse.new.out in
+    let status = end_status c.refuse.result in
+    let reached = at.invariant.reached s is in
+    let due = due_at c.args.limits.now reached.state at.reader.budget
+    (left_of at.reader (inputs.rest Script)) in
+    let last = Some (not_built Script) in
+    let taken = (rw c.in-PastLimit.is at c.in_ok-taken.ensures.taken) reached.state reached.stored in
+    reached.onward status after.faults sink'
+    (Ends-told due last status inputs.faults after.faults sink sink'
+    (IfSome_then due taken.due (λ told same. ap Some (sym same)))
+    (subst (λ n. Ends last status inputs.faults n sink sink') (sym c.in_ok-taken.ensures.cause)
+    (c.refuse.ensures.ends inputs.faults)))
 
-pub returns-in-Err-clause-ends : goal.returns-in-Err-clause-ends
-returns-in-Err-clause-ends g c = λ shapes start is.
-    let reached = c.loop-taken.invariant.reached shapes start is in
-    let state = state_of g.O.Sink.held g.O.Sink.room g.O.Sink.faults in
-    let (step, replies, due) = (rw c.in-Replied.is at c.in-Ok.ensures.taken) shapes reached.state reached.stored in
-    Reached-short c.args.limits.now shapes start (g.I.Inputs.rest c.args.host.now Script) (g.I.Inputs.faults c.args.host.now) (state c.args.out.now)
-    c.loop-taken.validation c.take_line.new.validation c.loop-taken.reader c.take_line.new.reader (g.I.Inputs.rest c.loop-taken.host Script) (g.I.Inputs.rest c.take_line.new.host Script)
-    (g.I.Inputs.faults c.loop-taken.host) (g.I.Inputs.faults c.take_line.new.host) (state c.loop-taken.out) (state c.put_reply.new.out) c.loop-taken.line c.loop-taken.refused
-    reached step c.in-Replied.reply replies due c.in-Ok.ensures.cause c.in-Err.ensures.err
+pub returns-in-PastLimit-clause-within : goal.returns-in-PastLimit-clause-within
+returns-in-PastLimit-clause-within g c =
+    TakesWithin-kept ((g.I.Inputs.state c.args.host.now).rest Script) _ _ c.args.limits.now.script _ _
+    c.loop-taken.invariant.counted c.take_line.ensures.kept
 
 pub loop-taken-preserved : goal.loop-taken-preserved
 loop-taken-preserved g c =
-    let taken = rw c.in-Replied.is at c.in-Ok.ensures.bytes in
+    let at = c.loop-taken in
+    let before = g.I.Inputs.state c.args.host.now in
+    let inputs = g.I.Inputs.state at.host in
+    let after = g.I.Inputs.state c.take_line.new.host in
+    let bytes = rw c.in-Replied.is at c.in_ok-taken.ensures.bytes in
     record {
       opened = c.take_line.ensures.opened;
       met = c.take_line.ensures.met;
-      few = let few = c.loop-taken.invariant.few in omega arith;
-      others = record {
-        opened_same = λ other apart. c.take_line.ensures.others.opened_same other apart ∙ c.loop-taken.invariant.others.opened_same other apart;
-        rest_same = λ other apart. c.take_line.ensures.others.rest_same other apart ∙ c.loop-taken.invariant.others.rest_same other apart;
-      };
-      reached = λ shapes start is.
-          let reached = c.loop-taken.invariant.reached shapes start is in
-          let state = state_of g.O.Sink.held g.O.Sink.room g.O.Sink.faults in
-          let (step, replies, due) = (rw c.in-Replied.is at c.in-Ok.ensures.taken) shapes reached.state reached.stored in
-          rw c.is_refusal-refused.ensures (Reached-step c.args.limits.now shapes start (g.I.Inputs.rest c.args.host.now Script) (g.I.Inputs.faults c.args.host.now) (state c.args.out.now)
-          c.loop-taken.validation c.take_line.new.validation c.loop-taken.reader c.take_line.new.reader (g.I.Inputs.rest c.loop-taken.host Script) (g.I.Inputs.rest c.take_line.new.host Script)
-          (g.I.Inputs.faults c.loop-taken.host) (g.I.Inputs.faults c.take_line.new.host) (state c.loop-taken.out) (state c.put_reply.new.out) c.loop-taken.line c.loop-taken.refused
-          reached step c.in-Replied.reply replies due c.in-Ok.ensures.cause c.in-Ok-put_reply.ensures.ok);
+      few = omega (arith, at.invariant.few, bytes.0, bytes.1);
+      others = OthersStay-then at.invariant.others c.take_line.ensures.others;
+      counted = λ script is.
+          c.take_line.ensures.kept.each script c.args.limits.now.script (at.invariant.counted script is);
+      reached = λ s is.
+          let reached = at.invariant.reached s is in
+          let (step, replies, takes) =
+          (rw c.in-Replied.is at c.in_ok-taken.ensures.taken) reached.state reached.stored in
+          Reached-step c.args.limits.now s (before.rest Script) before.faults (g.O.Sink.state c.args.out.now)
+          at.validation c.take_line.new.validation at.reader c.take_line.new.reader
+          (inputs.rest Script) (after.rest Script) inputs.faults after.faults
+          (g.O.Sink.state at.out) (g.O.Sink.state c.write_reply.new.out)
+          reached step c.in-Replied.reply replies takes c.in_ok-taken.ensures.cause
+          c.in_ok-write_reply-in-Replied.ensures.ok;
     }

@@ -1,24 +1,27 @@
-use Rattle.std.proofs.Common.{◌≡◌, true, List, ◌+◌, ◌≤◌}
+use Rattle.std.proofs.Common.{◌≡◌, ◌+◌, ◌<◌, ◌^◌, true, List, Some, ℕ}
 use Rattle.shx_outside.specs.declared.role.Role.TheVariants.{Script}
 use Rattle.shx_outside.specs.Told.{OthersStay}
-use Rattle.graph_view.specs.Graph.{Graph}
-use Rattle.shacl_run.specs.declared.plan.Shape.{Shape}
-use Rattle.shacl_run.specs.Output.{state_of}
-use Rattle.shacl_run.specs.ScriptReader.{MetEnd}
+use Rattle.text_input.specs.ScriptReader.{MetEnd, IsCounted}
+use Rattle.shacl_run.specs.ScriptState.{ScriptState}
 use Rattle.shacl_run.specs.Validation.{IsValidation}
-use Rattle.shacl_run.proofs.Serving.{Reached}
+use Rattle.shacl_run.proofs.ServingLemmas.{Reached}
 use Rattle.shacl_run.proofs.serve.serve.Given as goal
 
 abbrev pub invariant-loop-taken : goal.invariant-loop-taken
-invariant-loop-taken g l = record {
-  opened : g.I.Inputs.opened l.host Script ≡ true;
-  met : MetEnd l.reader.ended (g.I.Inputs.rest l.host Script);
-  few : l.line + l.reader.budget ≤ l.limits.script;
-  others : OthersStay Script (g.I.Inputs.opened l.fn.host) (g.I.Inputs.opened l.host) (g.I.Inputs.rest l.fn.host) (g.I.Inputs.rest l.host);
-  reached : (shapes : List Shape) (start : Graph) → IsValidation l.limits shapes start l.fn.validation
-      → Reached l.limits shapes start (g.I.Inputs.rest l.fn.host Script) (g.I.Inputs.faults l.fn.host) (state_of g.O.Sink.held g.O.Sink.room g.O.Sink.faults l.fn.out)
-      l.validation l.reader (g.I.Inputs.rest l.host Script) (g.I.Inputs.faults l.host) (state_of g.O.Sink.held g.O.Sink.room g.O.Sink.faults l.out) l.line l.refused;
-}
+invariant-loop-taken g l =
+    let inputs0 = g.I.Inputs.state l.fn.host in
+    let inputs = g.I.Inputs.state l.host in
+    record {
+      opened : inputs.opened Script ≡ true;
+      met : MetEnd l.reader.ended (inputs.rest Script);
+      few : l.validation.line + l.reader.budget < 2 ^ 64;
+      others : OthersStay Script inputs0 inputs;
+      counted : (script : List ℕ) → inputs0.rest Script ≡ Some script
+          → IsCounted script l.limits.script l.reader (inputs.rest Script);
+      reached : (s : ScriptState) → IsValidation l.limits s l.fn.validation
+          → Reached l.limits s (inputs0.rest Script) inputs0.faults (g.O.Sink.state l.fn.out)
+          l.validation l.reader (inputs.rest Script) inputs.faults (g.O.Sink.state l.out);
+    }
 
 abbrev pub decreases-loop-taken : goal.decreases-loop-taken
 decreases-loop-taken g l = l.reader.budget

@@ -1,14 +1,18 @@
-use Rattle.std.proofs.Common.{sym}
+use Rattle.std.proofs.Common.{refl}
+use Rattle.shacl_run.proofs.RunLemmas.{WritesWhole-ends, WritesFront-ends, HasCauses-ends}
 use Rattle.shacl_run.proofs.top.run.Goals as goal
 
-pub returns-in-Some-clause-causes : goal.returns-in-Some-clause-causes
-returns-in-Some-clause-causes g c = (c.run_files.ensures.ends.causes (g.P.PatternHost.faults c.args.patterns.now))
+pub returns-in-Ok-clause-exact : goal.returns-in-Ok-clause-exact
+returns-in-Ok-clause-exact g c = WritesWhole-ends _ c.in-Ok.ensures.ends
 
-pub returns-in-None-clause-exact : goal.returns-in-None-clause-exact
-returns-in-None-clause-exact g c = rw (sym c.in-None.ensures) ((c.put_last.ensures.ends (g.H.Inputs.faults c.args.host.now)).exact)
+pub returns-in-Ok-clause-prefix : goal.returns-in-Ok-clause-prefix
+returns-in-Ok-clause-prefix g c = WritesFront-ends _ c.in-Ok.ensures.ends
 
-pub returns-in-None-clause-prefix : goal.returns-in-None-clause-prefix
-returns-in-None-clause-prefix g c = rw (sym c.in-None.ensures) ((c.put_last.ensures.ends (g.H.Inputs.faults c.args.host.now)).prefix)
+pub returns-in-Ok-clause-causes : goal.returns-in-Ok-clause-causes
+returns-in-Ok-clause-causes g c = HasCauses-ends _ c.in-Ok.ensures.ends refl refl refl
 
-pub returns-in-None-clause-causes : goal.returns-in-None-clause-causes
-returns-in-None-clause-causes g c = (c.put_last.ensures.ends (g.H.Inputs.faults c.args.host.now)).causes (g.P.PatternHost.faults c.args.patterns.now)
+pub returns-in-Err-clause-prefix : goal.returns-in-Err-clause-prefix
+returns-in-Err-clause-prefix g c = rw c.status.ensures (WritesFront-ends _ c.in-Err.ensures.ends)
+
+pub returns-in-Err-clause-causes : goal.returns-in-Err-clause-causes
+returns-in-Err-clause-causes g c = rw c.status.ensures (HasCauses-ends _ c.in-Err.ensures.ends refl refl refl)

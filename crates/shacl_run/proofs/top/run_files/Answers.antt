@@ -1,56 +1,60 @@
-use Rattle.std.proofs.Common.{Some, sym, ap, subst}
-use Rattle.std.proofs.lemmas.Option.{IfSome_then}
-use Rattle.shacl_run.specs.Output.{state_of}
-use Rattle.shacl_run.specs.Run.{files_output, with_script, script_text, shapes_not_built, data_not_built}
-use Rattle.shacl_run.specs.RunClauses.{Ends}
-use Rattle.shacl_run.specs.Validation.{files_of}
-use Rattle.shacl_run.proofs.Endings.{Ends-input, Ends-memory, Ends-told}
-use Rattle.shacl_run.proofs.Preparing.{script_text-fixed}
+use Rattle.std.proofs.Common.{Some, sym, subst}
+use Rattle.std.specs.Option.{option_map}
+use Rattle.shacl_run.specs.declared.prepare.Prepared.{Prepared}
+use Rattle.shacl_run.specs.Ends.{Ends}
+use Rattle.shacl_run.specs.Files.{files_of, files_output}
+use Rattle.shacl_run.specs.Run.{not_built, validation_output, script_text, texts_opening}
+use Rattle.shacl_run.specs.Stops.{end_status}
+use Rattle.shacl_run.proofs.EndLemmas.{Ends-told, passed_on}
+use Rattle.shacl_run.proofs.ServingLemmas.{Ends-stopped}
+use Rattle.shacl_run.proofs.ValidationRunLemmas.{script_text-fixed, ended_told, opened_told}
 use Rattle.shacl_run.proofs.top.run_files.Goals as goal
 
-pub returns-in-Err-Input-clause-ends : goal.returns-in-Err-Input-clause-ends
-returns-in-Err-Input-clause-ends g c = Ends-input (files_output c.args.limits.now (files_of c.args.files.now) (g.H.Inputs.text c.args.host.now))
-    (g.H.Inputs.faults c.args.host.now) (g.H.Inputs.faults c.prepare.new.host) (state_of g.O.Sink.held g.O.Sink.room g.O.Sink.faults c.args.out.now)
-    (rw c.in-Err-Input.field-0-is at c.in-Err-Input.ensures.cause)
+pub returns-in_err-prepared-clause-ends : goal.returns-in_err-prepared-clause-ends
+returns-in_err-prepared-clause-ends g c =
+    let before = g.H.Inputs.state c.args.host.now in
+    let after = g.H.Inputs.state c.prepare.new.host in
+    let due = files_output c.args.limits.now (files_of c.args.files.now) before.text in
+    let stop = c.in_err-prepared.field-0.0 in
+    rw (passed_on c.from_residual.result stop c.from_residual.ensures.1)
+    (Ends-stopped Prepared due stop before.faults after.faults
+    (g.O.Sink.state c.args.out.now) c.in_err-prepared.ensures.cause)
 
-pub returns-in-Err-Memory-clause-ends : goal.returns-in-Err-Memory-clause-ends
-returns-in-Err-Memory-clause-ends g c = Ends-memory (files_output c.args.limits.now (files_of c.args.files.now) (g.H.Inputs.text c.args.host.now))
-    (g.H.Inputs.faults c.args.host.now) (g.H.Inputs.faults c.prepare.new.host) (state_of g.O.Sink.held g.O.Sink.room g.O.Sink.faults c.args.out.now)
-    (rw c.in-Err-Memory.field-0-is at c.in-Err-Memory.ensures.cause)
-
-pub returns-in-ShapesNotBuilt-clause-ends : goal.returns-in-ShapesNotBuilt-clause-ends
-returns-in-ShapesNotBuilt-clause-ends g c =
-    let texts = g.H.Inputs.text c.args.host.now in
-    let due = files_output c.args.limits.now (files_of c.args.files.now) texts in
-    let state = state_of g.O.Sink.held g.O.Sink.room g.O.Sink.faults in
-    let inputs = g.H.Inputs.faults c.args.host.now in
-    Ends-told due (Some shapes_not_built) c.put_last.result inputs (g.H.Inputs.faults c.prepare.new.host) (state c.args.out.now) (state c.put_last.new.out)
-    (IfSome_then due ((rw c.in-ShapesNotBuilt.is at c.in-Ok.ensures.prepared) (script_text texts (files_of c.args.files.now).script_file)) (λ told same. ap Some (sym same)))
-    (subst (λ n. Ends (Some shapes_not_built) c.put_last.result inputs n (state c.args.out.now) (state c.put_last.new.out)) (sym c.in-Ok.ensures.cause) (c.put_last.ensures.ends inputs))
-
-pub returns-in-DataNotBuilt-clause-ends : goal.returns-in-DataNotBuilt-clause-ends
-returns-in-DataNotBuilt-clause-ends g c =
-    let texts = g.H.Inputs.text c.args.host.now in
-    let due = files_output c.args.limits.now (files_of c.args.files.now) texts in
-    let state = state_of g.O.Sink.held g.O.Sink.room g.O.Sink.faults in
-    let inputs = g.H.Inputs.faults c.args.host.now in
-    let put = c.put_last-in-DataNotBuilt in
-    Ends-told due (Some data_not_built) put.result inputs (g.H.Inputs.faults c.prepare.new.host) (state c.args.out.now) (state put.new.out)
-    (IfSome_then due ((rw c.in-DataNotBuilt.is at c.in-Ok.ensures.prepared) (script_text texts (files_of c.args.files.now).script_file)) (λ told same. ap Some (sym same)))
-    (subst (λ n. Ends (Some data_not_built) put.result inputs n (state c.args.out.now) (state put.new.out)) (sym c.in-Ok.ensures.cause) (put.ensures.ends inputs))
+pub returns-in-NotBuilt-clause-ends : goal.returns-in-NotBuilt-clause-ends
+returns-in-NotBuilt-clause-ends g c =
+    let limits = c.args.limits.now in
+    let files = files_of c.args.files.now in
+    let before = g.H.Inputs.state c.args.host.now in
+    let after = g.H.Inputs.state c.prepare.new.host in
+    let sink = g.O.Sink.state c.args.out.now in
+    let sink' = g.O.Sink.state c.refuse.new.out in
+    let last = not_built c.in-NotBuilt.role in
+    let status = end_status c.refuse.result in
+    Ends-told (files_output limits files before.text) (Some last) status before.faults after.faults sink sink'
+    (ended_told limits (script_text before.text files.script_file)
+    (texts_opening limits (before.text files.shapes_file) (before.text files.data_file)) last
+    (rw c.in-NotBuilt.is at c.in_ok-prepared.ensures.prepared))
+    (subst (λ n. Ends (Some last) status before.faults n sink sink') (sym c.in_ok-prepared.ensures.cause)
+    (c.refuse.ensures.ends before.faults))
 
 pub returns-clause-ends : goal.returns-clause-ends
 returns-clause-ends g c =
     let limits = c.args.limits.now in
-    let texts = g.H.Inputs.text c.args.host.now in
-    let name = (files_of c.args.files.now).script_file in
-    let script = script_text texts name in
-    let state = state_of g.O.Sink.held g.O.Sink.room g.O.Sink.faults in
-    let opens = rw c.in-Open.is at c.in-Ok.ensures.prepared in
-    let ran = c.run_validation in
-    Ends-told (files_output limits (files_of c.args.files.now) texts) (with_script limits opens.declared opens.graph script) ran.result
-    (g.H.Inputs.faults c.args.host.now) (g.H.Inputs.faults ran.new.host) (state c.args.out.now) (state ran.new.out) (opens.due script)
-    (subst (λ n. Ends (with_script limits opens.declared opens.graph script) ran.result n (g.H.Inputs.faults ran.new.host) (state c.args.out.now) (state ran.new.out)) c.in-Ok.ensures.cause
-    (subst (λ script. Ends (with_script limits opens.declared opens.graph script) ran.result (g.H.Inputs.faults c.prepare.new.host) (g.H.Inputs.faults ran.new.host) (state c.args.out.now) (state ran.new.out))
-    (script_text-fixed texts (g.H.Inputs.text c.prepare.new.host) name c.in-Ok.ensures.fixed.texts)
-    (ran.ensures.ends opens.declared opens.graph opens.stored)))
+    let files = files_of c.args.files.now in
+    let before = g.H.Inputs.state c.args.host.now in
+    let after = g.H.Inputs.state c.prepare.new.host in
+    let last = g.H.Inputs.state c.run_validation.new.host in
+    let sink = g.O.Sink.state c.args.out.now in
+    let sink' = g.O.Sink.state c.run_validation.new.out in
+    let status = end_status c.run_validation.result in
+    let script = script_text before.text files.script_file in
+    let opened = rw c.in-Open.is at c.in_ok-prepared.ensures.prepared in
+    let due = option_map (validation_output limits opened.state) in
+    Ends-told (files_output limits files before.text) (due script) status before.faults last.faults sink sink'
+    (opened_told limits script
+    (texts_opening limits (before.text files.shapes_file)
+    (before.text files.data_file)) opened.state opened.due)
+    (subst (λ n. Ends (due script) status n last.faults sink sink') c.in_ok-prepared.ensures.cause
+    (subst (λ script. Ends (due script) status after.faults last.faults sink sink')
+    (script_text-fixed before.text after.text files.script_file c.in_ok-prepared.ensures.texts.each)
+    (c.run_validation.ensures.ends opened.state opened.stored)))

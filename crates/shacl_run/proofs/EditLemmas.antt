@@ -1,0 +1,215 @@
+-- The numbers of a triple whose terms are entered, how many terms that adds, and the graph with the triple.
+use Rattle.std.proofs.Common.{◌≡◌, ℕ, ◌<◌, ◌≤◌, ◌+◌, Bool, true, false, ◌||◌, List, [], ◌∷◌, ◌++◌, length}
+use Rattle.std.proofs.Common.{Option, Some, None}
+use Rattle.std.proofs.Common.{if◌then◌else◌, refl, sym, ap, ◌∙◌, subst, inl, inr, arith, length-append}
+use Rattle.std.proofs.Common.{lt-ltb}
+use Rattle.std.specs.Prelude.{Contains, ◌↔◌, ◌⊎◌, IsTrue, nat_le, nat_lt}
+use Rattle.std.specs.List.{list_any}
+use Rattle.std.specs.Cmp.{both_ways}
+use Rattle.std.proofs.lemmas.Bool.{or_left, or_right, le-leb}
+use Rattle.std.proofs.lemmas.List.Folds.{list_any-append, list_any_at}
+use Rattle.std.proofs.lemmas.List.Quantifiers.{position-Some}
+use Rattle.std.proofs.lemmas.List.{get_or_append_left}
+use Rattle.std.proofs.lemmas.Option.{same_Some}
+use Rattle.shx_term.specs.declared.term.Term.{Term}
+use Rattle.shx_term.specs.declared.triple.Triple.{Triple}
+use Rattle.shx_term.specs.declared.triple.TermTriple.{TermTriple}
+use Rattle.shx_term.specs.Triple.{same_triple}
+use Rattle.shx_term.specs.TripleLaws.{same_triple_equiv, same_triple_exact}
+use Rattle.shx_term.specs.TermOrder.{same_term}
+use Rattle.shx_term.specs.TermOrderLaws.{same_term_exact}
+use Rattle.shx_term.specs.Pool.{is_held, with_term, with_terms}
+use Rattle.shx_term.specs.TripleTerms.{terms_of, number_in, triple_of_numbers, numbered}
+use Rattle.shx_term.proofs.HeldLemmas.{with_terms_grow, number_stays, number_from_place}
+use Rattle.shx_term.proofs.MemberLemmas.{Contains-test, each_of_All}
+use Rattle.graph_view.specs.Graph.{Graph, IsKnownTriple, AllKnown, HasAlso}
+use Rattle.graph_view.specs.SameGraph.{HoldsSame, SameGraph}
+use Rattle.graph_view.proofs.SameGraphLemmas.{HoldsSame-itself, HoldsSame-sym}
+use Rattle.shacl_run.specs.declared.edit.Edited.TheVariants.{Changed, Refused}
+use Rattle.shacl_run.specs.Edits.{edited, graph_after, is_among, is_stated, terms_with}
+use Rattle.shacl_run.proofs.LoadLemmas.{HoldsSame-push}
+
+made_of : (s p o : Option ℕ) (u : Triple) → triple_of_numbers s p o ≡ Some u
+    → (s ≡ Some u.s) × (p ≡ Some u.p) × (o ≡ Some u.o)
+made_of (Some s) (Some p) (Some o) u e =
+    let same : record { s = s; p = p; o = o } ≡ u = same_Some (record { s = s; p = p; o = o }) u e in (
+      ap (λ (v : Triple). Some v.s) same,
+      ap (λ (v : Triple). Some v.p) same,
+      ap (λ (v : Triple). Some v.o) same,
+    )
+made_of (Some s) (Some p) None u e = absurd (cc)
+made_of (Some s) None o u e = absurd (cc)
+made_of None p o u e = absurd (cc)
+
+-- a triple over numbers has those of its terms
+pub numbers_of : (terms : List Term) (t : TermTriple) (u : Triple) → numbered terms t ≡ Some u
+    → (number_in terms t.s ≡ Some u.s) × (number_in terms t.p ≡ Some u.p) × (number_in terms t.o ≡ Some u.o)
+numbers_of terms t u e = made_of (number_in terms t.s) (number_in terms t.p) (number_in terms t.o) u e
+
+pub numbered_of : (terms : List Term) (t : TermTriple) (u : Triple)
+    → number_in terms t.s ≡ Some u.s → number_in terms t.p ≡ Some u.p → number_in terms t.o ≡ Some u.o
+    → numbered terms t ≡ Some u
+numbered_of terms t u s p o = rw (s, p, o) refl
+
+number_within : (terms : List Term) (t : Term) (id : ℕ) → number_in terms t ≡ Some id → id < length terms
+number_within terms t id e = (position-Some (same_term t) terms id t e).0
+
+-- its numbers have terms
+pub numbered_known : (terms : List Term) (t : TermTriple) (u : Triple) → numbered terms t ≡ Some u
+    → IsKnownTriple terms u
+numbered_known terms t u e =
+    let numbers = numbers_of terms t u e in
+    record {
+      s = number_within terms t.s u.s numbers.0;
+      p = number_within terms t.p u.p numbers.1;
+      o = number_within terms t.o u.o numbers.2;
+    }
+
+-- the triple over the numbers that its terms have when they are entered in turn
+pub numbered-in_turn : (one two three : List Term) (t : TermTriple) (s p o : ℕ)
+    → two ≡ with_term one t.p → three ≡ with_term two t.o
+    → number_in one t.s ≡ Some s → number_in two t.p ≡ Some p → number_in three t.o ≡ Some o
+    → numbered three t ≡ Some (record { s = s; p = p; o = o })
+numbered-in_turn one two three t s p o second third first_id second_id third_id =
+    let first : number_in three t.s ≡ Some s =
+    rw (third, second) (number_from_place one (t.p ∷ (t.o ∷ [])) t.s s first_id) in
+    let next : number_in three t.p ≡ Some p = rw third (number_from_place two (t.o ∷ []) t.p p second_id) in
+    numbered_of three t (record { s = s; p = p; o = o }) first next third_id
+
+-- a term with the number of an old term is old, with the same number
+number_before : (terms more : List Term) (t : Term) (id : ℕ)
+    → number_in (terms ++ more) t ≡ Some id → id < length terms → number_in terms t ≡ Some id
+number_before terms more t id e below =
+    let found = position-Some (same_term t) (terms ++ more) id t e in
+    let held : is_held terms t ≡ true =
+    list_any_at (same_term t) terms id t below
+    (subst (λ u. same_term t u ≡ true) (get_or_append_left terms more t id below) found.1) in
+    sym (number_stays terms more t held) ∙ e
+
+-- a triple that a graph does not hold by the numbers of its terms is new where these are entered
+pub absent_after : (g : Graph) (t : TermTriple) (terms : List Term) (u : Triple) → AllKnown g
+    → is_stated g t ≡ false
+    → terms ≡ terms_with g t → numbered terms t ≡ Some u → Contains g.triples u → ⊥
+absent_after g t terms u known absent entered e c =
+    let numbers = numbers_of terms t u e in
+    let here = each_of_All (IsKnownTriple g.terms) g.triples known u c in
+    let grown = with_terms_grow g.terms (terms_of (t ∷ [])) in
+    let more : terms ≡ g.terms ++ grown.0 = entered ∙ grown.1 in
+    let before = λ (v : Term) (id : ℕ) (is : number_in terms v ≡ Some id) (below : id < length g.terms).
+    number_before g.terms grown.0 v id (subst (λ xs. number_in xs v ≡ Some id) more is) below in
+    let old : numbered g.terms t ≡ Some u =
+    numbered_of g.terms t u
+    (before t.s u.s numbers.0 here.s) (before t.p u.p numbers.1 here.p) (before t.o u.o numbers.2 here.o) in
+    let stated : is_stated g t ≡ true =
+    ap (is_among g.triples) old
+    ∙ (Contains-test same_triple same_triple_equiv same_triple_exact g.triples u).1 c in
+    absurd (cc)
+
+or_nothing : (b : Bool) → (b || false) ≡ b
+or_nothing true = refl
+or_nothing false = refl
+
+-- what is held once a term is entered
+held_after : (terms : List Term) (a b : Term)
+    → is_held (with_term terms a) b ≡ (is_held terms b || same_term b a)
+held_after terms a b =
+    let goal = λ (xs : List Term). is_held xs b ≡ (is_held terms b || same_term b a) in
+    elim (is_held terms a) as (λ c. is_held terms a ≡ c → goal (if c then terms else terms ++ a ∷ [])) [
+      | true ↦ λ held. same_case held
+      | false ↦ λ _.
+          list_any-append (same_term b) terms (a ∷ [])
+          ∙ ap (λ c. is_held terms b || c) (or_nothing (same_term b a))
+    ] refl
+  where
+    same_case : is_held terms a ≡ true → is_held terms b ≡ (is_held terms b || same_term b a)
+    same_case held =
+        elim (same_term b a) as (λ c. same_term b a ≡ c → is_held terms b ≡ (is_held terms b || c)) [
+          | true ↦ λ same.
+              let it : is_held terms b ≡ true = ap (is_held terms) (same_term_exact b a same) ∙ held in
+              rw it refl
+          | false ↦ λ _. sym (or_nothing (is_held terms b))
+        ] refl
+
+-- how many a test counts for
+abbrev pub one_if_new : Bool → ℕ
+one_if_new held = if held then 0 else 1
+
+length-with_term : (terms : List Term) (t : Term)
+    → length (with_term terms t) ≡ length terms + one_if_new (is_held terms t)
+length-with_term terms t =
+    elim (is_held terms t)
+    as (λ b. length (if b then terms else terms ++ t ∷ []) ≡ length terms + one_if_new b) [
+      | true ↦ omega arith
+      | false ↦ length-append terms (t ∷ [])
+    ]
+
+module _ (terms : List Term) (s p o : Term) where
+  abbrev new_s : ℕ
+  new_s = one_if_new (is_held terms s)
+
+  abbrev new_p : ℕ
+  new_p = one_if_new (is_held terms p || same_term p s)
+
+  abbrev new_o : ℕ
+  new_o = one_if_new ((is_held terms o || same_term o s) || same_term o p)
+
+  -- how many terms there are once those of a triple are entered
+  pub length-terms_with : length (with_terms terms (s ∷ (p ∷ (o ∷ []))))
+      ≡ length terms + (new_s + new_p + new_o)
+  length-terms_with =
+      let one = with_term terms s in
+      let two = with_term one p in
+      let second : is_held one p ≡ (is_held terms p || same_term p s) = held_after terms s p in
+      let third : is_held two o ≡ ((is_held terms o || same_term o s) || same_term o p) =
+      held_after one p o ∙ ap (λ b. b || same_term o p) (held_after terms s o) in
+      length-with_term two o
+      ∙ ap (λ n. n + one_if_new (is_held two o))
+      (length-with_term one p ∙ ap (λ n. n + one_if_new (is_held one p)) (length-with_term terms s))
+      ∙ (λ i. length terms + new_s + one_if_new (second i) + one_if_new (third i))
+      ∙ sums (length terms) new_s new_p new_o
+    where
+      sums : (n a b c : ℕ) → n + a + b + c ≡ n + (a + b + c)
+      sums n a b c = omega arith
+
+-- a test whether a list contains a triple
+pub any_where_contained : (triples : List Triple) (t : Triple) (found : Bool)
+    → (IsTrue found ↔ Contains triples t)
+    → found ≡ list_any (same_triple t) triples
+any_where_contained triples t found says =
+    let test = Contains-test same_triple same_triple_equiv same_triple_exact triples t in
+    both_ways found (list_any (same_triple t) triples) (λ h. test.1 (says.0 h)) (λ h. says.1 (test.0 h))
+
+pub edited_where_full : (most_triples most_terms : ℕ) (g : Graph) (t : TermTriple) → is_stated g t ≡ false
+    → (most_triples ≤ length g.triples) ⊎ (most_terms < length (terms_with g t))
+    → Refused ≡ edited most_triples most_terms g t
+edited_where_full most_triples most_terms g t absent full =
+    let past
+    : (nat_le most_triples (length g.triples) || nat_lt most_terms (length (terms_with g t))) ≡ true =
+    elim full [
+      | inl h ↦ or_left _ _ (le-leb most_triples (length g.triples) h)
+      | inr h ↦ or_right _ _ (lt-ltb most_terms (length (terms_with g t)) h)
+    ] in
+    rw (absent, past) refl
+
+-- a graph with the terms of a triple that was not there, and then the triple, is the graph after the
+-- insertion
+pub SameGraph-added : (g h : Graph) (t : TermTriple) (old : List Triple) (u : Triple) (new : Bool)
+    → AllKnown g → is_stated g t ≡ false → h.terms ≡ terms_with g t → numbered h.terms t ≡ Some u
+    → old ≡ g.triples
+    → HasAlso old h.triples u → (IsTrue new ↔ (Contains old u → ⊥))
+    → length h.triples ≡ length old + (if new then 1 else 0)
+    → SameGraph (graph_after Changed g t) h
+SameGraph-added g h t old u new known absent terms number same also is_new count =
+    let none : Contains old u → ⊥ = λ c.
+    absent_after g t h.terms u known absent terms number (subst (λ xs. Contains xs u) same c) in
+    let one : new ≡ true = is_new.1 none in
+    let more : length h.triples ≡ length g.triples + 1 =
+    count ∙ (λ i. length (same i) + (if one i then 1 else 0)) in
+    let it : numbered (terms_with g t) t ≡ Some u = subst (λ xs. numbered xs t ≡ Some u) terms number in
+    let held : HoldsSame h.triples (g.triples ++ u ∷ []) =
+    HoldsSame-push u (subst (HoldsSame old) same (HoldsSame-itself old)) also in
+    rw it (record {
+      terms = sym terms;
+      triples = HoldsSame-sym held;
+      count = length-append g.triples (u ∷ []) ∙ sym more;
+    })

@@ -1,5 +1,0 @@
-use Rattle.shacl_run.specs.Writers.{Queues-then}
-use Rattle.shacl_run.proofs.term_text.add_two.Goals as goal
-
-pub returns : goal.returns
-returns g c = Queues-then c.in_ok-add.ensures c.add-2.ensures

@@ -1,0 +1,29 @@
+-- A run over the files that the words name.
+use Rattle.std.specs.Prelude.{ℕ, List, Option, IfSome}
+use Rattle.std.specs.Option.{option_map, option_and_then}
+use Rattle.shx_outside.specs.declared.role.Role.TheVariants.{Script}
+use Rattle.shx_outside.specs.Outside.{InputState, SinkState}
+use Rattle.shx_term.specs.declared.limits.Limits.{Limits}
+use Rattle.shacl_run.specs.declared.words.Files.{Files as named_files}
+use Rattle.shacl_run.specs.Run.{Output, texts_opening, opening_output, opening_fed, script_text}
+use Rattle.shacl_run.specs.RunClauses.{StopsFed}
+use Rattle.shacl_run.specs.Words.{Files}
+
+-- the names that words gave
+abbrev pub files_of : named_files → Files
+files_of files = record {
+  shapes_file = files.shapes_file.now;
+  data_file = files.data_file.now;
+  script_file = option_map (λ name. name.now) files.script_file;
+}
+
+abbrev pub files_output : Limits → Files → (List ℕ → Option (List ℕ)) → Option Output
+files_output limits files texts =
+    option_and_then (opening_output limits (script_text texts files.script_file))
+    (texts_opening limits (texts files.shapes_file) (texts files.data_file))
+
+abbrev pub FilesStop : Limits → Files → InputState → InputState → SinkState → SinkState → Type 0
+FilesStop limits files inputs inputs' before after =
+    IfSome (texts_opening limits (inputs.text files.shapes_file) (inputs.text files.data_file)) (λ opening.
+    StopsFed (opening_fed limits opening) (script_text inputs.text files.script_file)
+    (inputs'.rest Script) before after)

@@ -1,0 +1,20 @@
+-- The outside of a run at one moment: what the inputs, the sink and the pattern host tell of themselves,
+-- and where the two counters of evaluations stand.
+use Rattle.std.specs.Prelude.{ℕ}
+use Rattle.shx_outside.specs.Outside.{InputState, SinkState, PatternState}
+
+pub record Outside : Type 0 where
+  pub inputs : InputState
+  pub sink : SinkState
+  pub patterns : PatternState
+  pub nested : ℕ
+  pub steps : ℕ
+
+abbrev pub outside : InputState → SinkState → PatternState → ℕ → ℕ → Outside
+outside inputs sink patterns nested steps = record {
+  inputs = inputs;
+  sink = sink;
+  patterns = patterns;
+  nested = nested;
+  steps = steps;
+}

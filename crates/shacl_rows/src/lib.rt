@@ -1,0 +1,23 @@
+//! Whole runs of the validator over the forms in memory, as tests alone: the worked rows, tables of runs, and
+//! runs whose inputs or sink fail.
+//!
+//! | file | what it holds |
+//! |---|---|
+//! | `tests/case.rt` | `Case`: a run as a block of text, with the output and the status that are due |
+//! | `tests/outside.rt` | `Outside`: how much a read and a put take, and which of them fail |
+//! | `tests/runs.rt` | a run of a case, and the first of a table that ends in another way |
+//! | `tests/rows.rt` | the worked rows, each by its name |
+//! | `tests/words.rt` | words that have no reading |
+//! | `tests/triples.rt` | lines that are triples, and lines that are not, in each of the three texts |
+//! | `tests/shapes.rt` | what shapes state, and the order of a report |
+//! | `tests/limits.rt` | texts and edits at each limit and one past it |
+//! | `tests/scripts.rt` | scripts line by line |
+//! | `tests/failures.rt` | each call of the inputs and each put fails in turn |
+//! | `tests/order.rt` | when texts are opened, read and answered, which no contract says |
+//!
+//! It stands on `shacl_run`, and on `shx_outside` and `shx_term` for the forms in memory and the limits.
+//! Start with `tests/case.rt` and `tests/rows.rt`.
+#![tactic(auto)]
+
+#[cfg(test)]
+mod tests;

@@ -1,0 +1,11 @@
+mod case;
+mod failures;
+mod limits;
+mod order;
+mod outside;
+mod rows;
+mod runs;
+mod scripts;
+mod shapes;
+mod triples;
+mod words;

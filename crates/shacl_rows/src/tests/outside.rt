@@ -1,0 +1,66 @@
+ghost use Rattle.std.specs.Prelude.{◌<◌};
+
+use super::case::{Case, number};
+use shx_outside::{Bytes, Memory, MemoryInputs, MemorySink, Name, NamedText};
+use std::alloc::Global;
+
+/// What the outside does in a run: a read gives and a put takes so many bytes at most, and a call of the
+/// inputs and a put fail, each counted from 1, where 0 fails none.
+#[derive(Clone, Copy)]
+pub(super) struct Outside {
+    pub read_bytes: u64,
+    pub failing_call: u64,
+    pub put_bytes: u64,
+    pub failing_put: u64,
+}
+
+impl Outside {
+    /// The outside that lines describe: pieces of 64 bytes in, 4,096 out and no failures, but for what they
+    /// name.
+    pub fn of(lines: &str) -> Outside {
+        Outside {
+            read_bytes: number(lines, "read bytes ", 64),
+            failing_call: number(lines, "failing call ", 0),
+            put_bytes: number(lines, "put bytes ", 4096),
+            failing_put: number(lines, "failing put ", 0),
+        }
+    }
+
+    /// Inputs that hold the texts of a case.
+    pub fn inputs(&self, alloc: Global, case: &Case) -> Result<MemoryInputs, Memory> {
+        let files = files_of(alloc, case)?;
+        let failing = only(alloc, self.failing_call)?;
+        Ok(MemoryInputs::new(files, piece(self.read_bytes), failing))
+    }
+
+    /// An empty sink.
+    pub fn sink(&self, alloc: Global) -> Result<MemorySink, Memory> {
+        let failing = only(alloc, self.failing_put)?;
+        Ok(MemorySink::new(alloc, piece(self.put_bytes), failing))
+    }
+}
+
+fn files_of(alloc: Global, case: &Case) -> Result<Vec<NamedText>, Memory> {
+    let mut files = Vec::new(alloc);
+    files.push(named(alloc, "shapes", case.shapes)?)?;
+    files.push(named(alloc, "data", case.data)?)?;
+    files.push(named(alloc, "script", case.script)?)?;
+    Ok(files)
+}
+
+fn named(alloc: Global, name: &str, text: &str) -> Result<NamedText, Memory> {
+    Ok(NamedText {
+        name: Name::new(String::from_str(alloc, name)?),
+        bytes: Bytes::new(text.as_bytes().to_vec(alloc)?),
+    })
+}
+
+fn only(alloc: Global, number: u64) -> Result<Vec<u64>, Memory> {
+    Ok(vec![in alloc; number]?)
+}
+
+fn piece(bytes: u64) -> usize
+    ensures { 0 < result }
+{
+    bytes.clamp(1, 4096) as usize
+}

@@ -1,0 +1,123 @@
+ghost use Rattle.std.specs.Prelude.{◌≡◌};
+ghost use Rattle.shx_term.specs.Limits.{AreUsable};
+
+use super::case::Case;
+use super::outside::Outside;
+use shacl_run::{Status, run};
+use shx_outside::{Memory, MemoryInputs, MemorySink, RegexHost};
+use shx_term::{Limits, Steps, Text};
+use std::alloc::Global;
+use std::marker::Brand;
+use std::process::Abort;
+use std::sync::ledger::{Blank, Ledger};
+use std::test::Fail;
+
+/// How a run ended, and the sink with the bytes that it put.
+#[derive(Drop)]
+pub(super) struct Ended {
+    pub status: Status,
+    pub sink: MemorySink,
+}
+
+impl Ended {
+    /// Whether these bytes were put, and the run ended with the status of this number.
+    pub fn is(&self, output: &str, status: u8) -> bool {
+        self.status.number() == status && self.sink.bytes() == output.as_bytes()
+    }
+}
+
+/// Runs a case in an outside.
+pub(super) fn run_in(alloc: Global, case: &Case, outside: Outside) -> Result<Ended, Memory>
+    requires { AreUsable case.now.limits }
+{
+    let words = texts_of(alloc, case.words)?;
+    let mut host = outside.inputs(alloc, case)?;
+    let mut sink = outside.sink(alloc)?;
+    let status = run_counted::<Brand, Brand>(
+        alloc,
+        &words,
+        &mut host,
+        &mut sink,
+        &case.limits,
+        Blank::new(1),
+        Blank::new(1),
+    );
+    Ok(Ended { status, sink })
+}
+
+fn texts_of(alloc: Global, words: &str) -> Result<Vec<Text>, Memory> {
+    let mut texts = Vec::new(alloc);
+    for word in words.lines() {
+        texts.push(Text::new(String::from_str(alloc, word)?))?;
+    }
+    Ok(texts)
+}
+
+// Runs with counters of its own.
+fn run_counted<L: Ledger, M: Ledger>(
+    alloc: Global,
+    words: &[Text],
+    host: &mut MemoryInputs,
+    sink: &mut MemorySink,
+    limits: &Limits,
+    steps: Blank,
+    nested: Blank,
+) -> Status
+    requires limits { AreUsable limits.now }
+    requires steps_name { steps.name ≡ L.name }
+    requires steps_parts { steps.parts ≡ L.parts }
+    requires steps_some { steps.parts ≡ 1 }
+    requires nested_name { nested.name ≡ M.name }
+    requires nested_parts { nested.parts ≡ M.parts }
+    requires nested_some { nested.parts ≡ 1 }
+{
+    let mut steps: Steps<L> = Steps::open(steps);
+    let mut nested: Steps<M> = Steps::open(nested);
+    let mut patterns = RegexHost::new();
+    run(
+        alloc,
+        words,
+        host,
+        sink,
+        &mut patterns,
+        limits,
+        &mut nested,
+        &mut steps,
+    )
+}
+
+/// Whether a case puts its output and ends with its status.
+pub(super) fn ends_as_due(alloc: Global, case: &Case) -> Result<bool, Memory>
+    requires { AreUsable case.now.limits }
+{
+    let ended = run_in(alloc, case, Outside::of(case.outside))?;
+    Ok(ended.is(case.output, case.status))
+}
+
+// The name of the first run of a table that ends in another way than it has to, or nothing.
+fn first_other(
+    alloc: Global,
+    shared: &'static str,
+    table: &'static str,
+) -> Result<&'static str, Memory> {
+    for block in table.split("== run ") {
+        if !block.is_empty() {
+            let case = Case::of(block, shared);
+            if !ends_as_due(alloc, &case)? {
+                return Ok(case.name);
+            }
+        }
+    }
+    Ok("")
+}
+
+/// Runs a table, and stops the test with the name of the first run that ends in another way than it has to.
+pub(super) fn all_end_as_due<R: Abort + AllocGlobal>(
+    rt: &R,
+    shared: &'static str,
+    table: &'static str,
+) -> Result<(), Fail> {
+    let other = first_other(rt.alloc(), shared, table)?;
+    assert_eq!(rt; other, "");
+    Ok(())
+}

@@ -1,48 +1,47 @@
-//! `shacl_keep SHAPES DATA [SCRIPT]`: validates a data text against a shapes text, prints the report, and answers a script
-//! line by line.
+//! `shacl_keep SHAPES DATA [SCRIPT]`: validates a data text against a shapes text, prints the report, and
+//! answers a script line by line.
 //!
-//! It only joins the run to the outside, files and standard output, and ends with the status's number. Words that are
-//! not UTF-8 end it with 2, and nothing is written.
+//! | file | what it holds |
+//! |---|---|
+//! | `program.rt` | the program over any inputs, sink and pattern host, with the theorem of `run` |
+//! | `command_line.rt` | the words behind the program's name, or how the program ends without them |
+//! | `main.rt` | the program over files and standard output |
+//!
+//! It stands on `shacl_run`, `shx_outside` and `shx_term`. Start with `program.rt`: `main` only makes the
+//! adapters, and ends with the status's number.
 #![tactic(auto)]
 
 ghost use Rattle.std.specs.Prelude.{◌≡◌};
 
-use shacl_run::{Status, run};
+mod command_line;
+mod program;
+#[cfg(test)]
+mod tests;
+
+use command_line::read_words;
+use program::run_program;
+use shacl_run::Status;
 use shx_outside::{FileInputs, RegexHost, StdSink};
-use shx_term::{Limits, Steps, Text};
-use std::env;
-use std::io::ErrorKind;
+use shx_term::{Steps, Text};
 use std::marker::Brand;
 use std::process::ExitCode;
-use std::rt::{Env, Files};
+use std::rt::Files;
 use std::sync::ledger::{Blank, Ledger};
 
 fn main(rt: HostRuntime) -> ExitCode {
     let status = match read_words(&rt) {
-        Ok(words) => run_on::<HostRuntime, Brand, Brand>(&rt, &words, Blank::new(1), Blank::new(1)),
+        Ok(words) => run_on_files(&rt, &words),
         Err(status) => status,
     };
     ExitCode::from(status.number())
 }
 
-// The words behind the program's name, or how the program ends without them.
-fn read_words<R: Env + AllocGlobal>(rt: &R) -> Result<Vec<Text>, Status> {
-    let args = match env::args(rt) {
-        Ok(args) => args,
-        Err(error) if error.kind() == ErrorKind::OutOfMemory => return Err(Status::Memory),
-        Err(_) => return Err(Status::BadWords),
-    };
-    let mut words = Vec::new(rt.alloc());
-    for word in args.skip(1) {
-        if words.push(Text::new(word)).is_err() {
-            return Err(Status::Memory);
-        }
-    }
-    Ok(words)
+fn run_on_files(rt: &HostRuntime, words: &[Text]) -> Status {
+    run_counted::<HostRuntime, Brand, Brand>(rt, words, Blank::new(1), Blank::new(1))
 }
 
-// Runs over files and standard output, with the limits of the program and counters of its own.
-fn run_on<R: Files + Print + AllocGlobal, L: Ledger, M: Ledger>(
+// Runs over files and standard output, with counters of its own.
+fn run_counted<R: Files + Print + AllocGlobal, L: Ledger, M: Ledger>(
     rt: &R,
     words: &[Text],
     steps: Blank,
@@ -60,13 +59,12 @@ fn run_on<R: Files + Print + AllocGlobal, L: Ledger, M: Ledger>(
     let mut host = FileInputs::new(rt);
     let mut out = StdSink::new(rt);
     let mut patterns = RegexHost::new();
-    run(
+    run_program(
         rt.alloc(),
         words,
         &mut host,
         &mut out,
         &mut patterns,
-        &Limits::program(),
         &mut nested,
         &mut steps,
     )

@@ -17,7 +17,7 @@ use Rattle.graph_view.specs.Graph.{Graph, IsKnownTriple, AllKnown, HasAlso, HasN
 use Rattle.graph_view.specs.Valid.{IsValidTriple, IsValidView}
 
 -- a triple has the numbers that it was made of
-made_of : (s p o : Option ℕ) (t : Triple) → triple_of_numbers s p o ≡ Some t
+pub made_of : (s p o : Option ℕ) (t : Triple) → triple_of_numbers s p o ≡ Some t
     → (s ≡ Some t.s) × (p ≡ Some t.p) × (o ≡ Some t.o)
 made_of (Some s) (Some p) (Some o) t e =
     let same : record { s = s; p = p; o = o } ≡ t = cc in

@@ -1,6 +1,6 @@
 -- The numbers of a triple whose terms are entered, how many terms that adds, and the graph with the triple.
 use Rattle.std.proofs.Common.{◌≡◌, ℕ, ◌<◌, ◌≤◌, ◌+◌, Bool, true, false, ◌||◌, List, [], ◌∷◌, ◌++◌, length}
-use Rattle.std.proofs.Common.{Option, Some, None}
+use Rattle.std.proofs.Common.{Some}
 use Rattle.std.proofs.Common.{if◌then◌else◌, refl, sym, ap, ◌∙◌, subst, inl, inr, arith, length-append}
 use Rattle.std.proofs.Common.{lt-ltb}
 use Rattle.std.specs.Prelude.{Contains, ◌↔◌, ◌⊎◌, IsTrue, nat_le, nat_lt}
@@ -10,7 +10,6 @@ use Rattle.std.proofs.lemmas.Bool.{or_left, or_right, le-leb}
 use Rattle.std.proofs.lemmas.List.Folds.{list_any-append, list_any_at}
 use Rattle.std.proofs.lemmas.List.Quantifiers.{position-Some}
 use Rattle.std.proofs.lemmas.List.{get_or_append_left}
-use Rattle.std.proofs.lemmas.Option.{same_Some}
 use Rattle.shx_term.specs.declared.term.Term.{Term}
 use Rattle.shx_term.specs.declared.triple.Triple.{Triple}
 use Rattle.shx_term.specs.declared.triple.TermTriple.{TermTriple}
@@ -19,27 +18,16 @@ use Rattle.shx_term.specs.TripleLaws.{same_triple_equiv, same_triple_exact}
 use Rattle.shx_term.specs.TermOrder.{same_term}
 use Rattle.shx_term.specs.TermOrderLaws.{same_term_exact}
 use Rattle.shx_term.specs.Pool.{is_held, with_term, with_terms}
-use Rattle.shx_term.specs.TripleTerms.{terms_of, number_in, triple_of_numbers, numbered}
+use Rattle.shx_term.specs.TripleTerms.{terms_of, number_in, numbered}
 use Rattle.shx_term.proofs.HeldLemmas.{with_terms_grow, number_stays, number_from_place}
 use Rattle.shx_term.proofs.MemberLemmas.{Contains-test, each_of_All}
 use Rattle.graph_view.specs.Graph.{Graph, IsKnownTriple, AllKnown, HasAlso}
 use Rattle.graph_view.specs.SameGraph.{HoldsSame, SameGraph}
 use Rattle.graph_view.proofs.SameGraphLemmas.{HoldsSame-itself, HoldsSame-sym}
+use Rattle.graph_view.proofs.ValidLemmas.{made_of}
 use Rattle.shacl_run.specs.declared.edit.Edited.TheVariants.{Changed, Refused}
 use Rattle.shacl_run.specs.Edits.{edited, graph_after, is_among, is_stated, terms_with}
 use Rattle.shacl_run.proofs.LoadLemmas.{HoldsSame-push}
-
-made_of : (s p o : Option ℕ) (u : Triple) → triple_of_numbers s p o ≡ Some u
-    → (s ≡ Some u.s) × (p ≡ Some u.p) × (o ≡ Some u.o)
-made_of (Some s) (Some p) (Some o) u e =
-    let same : record { s = s; p = p; o = o } ≡ u = same_Some (record { s = s; p = p; o = o }) u e in (
-      ap (λ (v : Triple). Some v.s) same,
-      ap (λ (v : Triple). Some v.p) same,
-      ap (λ (v : Triple). Some v.o) same,
-    )
-made_of (Some s) (Some p) None u e = absurd (cc)
-made_of (Some s) None o u e = absurd (cc)
-made_of None p o u e = absurd (cc)
 
 -- a triple over numbers has those of its terms
 pub numbers_of : (terms : List Term) (t : TermTriple) (u : Triple) → numbered terms t ≡ Some u

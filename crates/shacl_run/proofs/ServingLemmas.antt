@@ -36,7 +36,7 @@ use Rattle.shacl_run.specs.RunClauses.{StopsFed}
 use Rattle.shacl_run.specs.Script.{Step, step_text, script_step, answers_text, state_after}
 use Rattle.shacl_run.specs.Script.{refusal}
 use Rattle.shacl_run.specs.ScriptState.{ScriptState}
-use Rattle.shacl_run.specs.Serving.{due_at, Prefixed, Feeds, TakesStep, TakesEnd, LastStatus}
+use Rattle.shacl_run.specs.Serving.{due_at, Prefixed, Feeds, TakesStep, LastStatus}
 use Rattle.shacl_run.specs.Validation.{IsValidation}
 use Rattle.shacl_run.specs.Status.{IsAnswered}
 use Rattle.shacl_run.proofs.EndLemmas.{append_none, answered_apart, Ends-after, Ends-input, Ends-memory}
@@ -121,18 +121,7 @@ pub state-unrefused : (s : ScriptState) (refused : Bool) → refused ≡ s.refus
     → status_of_rows (report s.graph s.shapes) ≡ status_of_state s
 state-unrefused s refused same unrefused = rw (sym same ∙ unrefused) refl
 
--- there was no further line, so what is due is the end
-pub end_due : (limits : Limits) (s : ScriptState) (reader : ReaderState) (left left' : Option (List ℕ))
-    (past : Bool)
-    → TookEnd left left' reader.budget past → TakesEnd limits s reader left (ending past s)
-end_due limits s reader None left' past took = record { due = tt }
-end_due limits s reader (Some bytes) left' past took =
-    let told = took.told bytes refl in record {
-      due = λ i. behind (answers_text limits s (told.0 i))
-          (ending (told.1 i) (state_after limits s (told.0 i)));
-    }
-
--- and the inputs have nothing left
+-- where there was no further line, the inputs have nothing left
 pub end_met : (left : Option (List ℕ)) (budget : ℕ) (reader : ReaderState) (rest : Option (List ℕ))
     → TookEnd left (left_of reader rest) budget false → IsAtEnd rest
 end_met left budget reader rest took = record {

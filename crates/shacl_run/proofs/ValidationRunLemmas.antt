@@ -130,11 +130,3 @@ pub opened_told : (limits : Limits) (script : Option (List ℕ)) (opening : Opti
 opened_told limits script None s is = tt
 opened_told limits script (Some opening) s is =
     rw is (told_self (option_map (validation_output limits s) script))
-
-pub opened_fed : (limits : Limits) (script left : Option (List ℕ)) (opening : Option Opening)
-    (s : ScriptState)
-    (before after : SinkState) → IfSome opening (λ o. o ≡ opens s)
-    → StopsFed (opening_fed limits (opens s)) script left before after
-    → IfSome opening (λ o. StopsFed (opening_fed limits o) script left before after)
-opened_fed limits script left None s before after is stops = tt
-opened_fed limits script left (Some opening) s before after is stops = rw is stops

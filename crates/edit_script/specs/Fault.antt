@@ -1,8 +1,8 @@
 -- Why a line is no command, and how it is told.
 use Rattle.std.specs.Prelude.{ℕ, List, [], ◌++◌, Option, Some, None, codes, decimal}
+use Rattle.shx_term.specs.declared.fault_code.TheConstants.{NOT_BUILT}
 use Rattle.edit_script.specs.declared.fault.LineFault.{LineFault}
 use Rattle.edit_script.specs.declared.fault.LineFault.TheVariants.{Line, Memory}
-use Rattle.edit_script.specs.declared.fault.TheConstants.{NOT_BUILT}
 
 -- the line is none of those that are read so far
 abbrev pub not_built : LineFault

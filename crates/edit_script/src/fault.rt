@@ -2,12 +2,10 @@
 ghost use Rattle.std.specs.Prelude.{◌≡◌};
 ghost use Rattle.edit_script.specs.Fault.{not_built};
 
+use shx_term::NOT_BUILT;
 use std::alloc::AllocError;
 use std::error::Error;
 use std::fmt;
-
-/// The code of a line that is none of the lines that are read so far.
-pub const NOT_BUILT: u32 = 59;
 
 /// Why a line is no command: a code, with the place of the fault where it has one.
 #[derive(Clone, Copy, Debug, PartialEq, Eq)]

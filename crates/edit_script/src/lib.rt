@@ -17,10 +17,8 @@ mod command;
 mod fault;
 mod iri;
 mod split;
-#[cfg(test)]
-mod tests;
 mod triple;
 
 pub use command::{Command, read_line};
-pub use fault::{LineFault, NOT_BUILT};
+pub use fault::LineFault;
 pub use triple::read_triple;

@@ -18,8 +18,6 @@ mod edit;
 mod key;
 mod list_graph;
 mod reads;
-#[cfg(test)]
-mod tests;
 mod view;
 
 pub use edit::{GraphEdit, StoreFault, edits_agree};

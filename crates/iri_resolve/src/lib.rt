@@ -17,8 +17,6 @@ mod dot_segments;
 mod fault;
 mod reference;
 mod resolution;
-#[cfg(test)]
-mod tests;
 
 pub use absolute::is_absolute;
 pub use fault::IriFault;

@@ -1,5 +1,6 @@
 -- The texts of answers. Each ends with a line feed.
 use Rattle.std.specs.Prelude.{ℕ, List, ◌++◌, codes, decimal}
+use Rattle.shx_term.specs.declared.fault_code.TheConstants.{NOT_BUILT}
 use Rattle.report_write.specs.declared.answer.Answer.{Answer}
 use Rattle.report_write.specs.declared.answer.Answer.TheVariants.{Changed, Unchanged, RefusedLine}
 use Rattle.report_write.specs.declared.answer.Answer.TheVariants.{NotBuilt, Usage}
@@ -16,5 +17,5 @@ abbrev pub answer_text : Answer → List ℕ
 answer_text Changed = codes "ok changed\n"
 answer_text Unchanged = codes "ok unchanged\n"
 answer_text (RefusedLine line code) = codes "refused line " ++ decimal line ++ codes ": " ++ code_text code
-answer_text (NotBuilt role) = codes "fault " ++ role_name role ++ codes ": " ++ code_text 59
+answer_text (NotBuilt role) = codes "fault " ++ role_name role ++ codes ": " ++ code_text NOT_BUILT
 answer_text Usage = usage_text

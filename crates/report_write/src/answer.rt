@@ -3,11 +3,11 @@ ghost use Rattle.report_write.specs.Names.{role_name};
 ghost use Rattle.report_write.specs.Answers.{answer_text, code_text};
 ghost use Rattle.report_write.specs.Writes.{Writes};
 
-use crate::names::{NOT_BUILT, code_name, role_name};
+use crate::names::{code_name, role_name};
 use crate::number::add_number;
 use crate::{WriteFault, Writer};
 use shx_outside::{Role, Sink};
-use shx_term::Pieces;
+use shx_term::{NOT_BUILT, Pieces};
 
 /// What is said to a line of a script, or in place of a report.
 #[derive(Clone, Copy, Debug, PartialEq, Eq)]

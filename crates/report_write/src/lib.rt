@@ -19,13 +19,10 @@ mod number;
 mod pending;
 mod put_all;
 mod term;
-#[cfg(test)]
-mod tests;
 mod write_fault;
 mod writer;
 
 pub use answer::{Answer, add_answer, write_answer};
-pub use names::NOT_BUILT;
 pub use number::add_number;
 pub use term::write_term;
 pub use write_fault::WriteFault;

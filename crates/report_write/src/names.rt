@@ -2,9 +2,7 @@ ghost use Rattle.std.specs.Prelude.{◌≡◌};
 ghost use Rattle.report_write.specs.Names.{code_name, role_name};
 
 use shx_outside::Role;
-
-/// The code of what this version does not read.
-pub const NOT_BUILT: u32 = 59;
+use shx_term::NOT_BUILT;
 
 /// The name of a code, empty where the code is not known.
 pub fn code_name(code: u32) -> &'static str

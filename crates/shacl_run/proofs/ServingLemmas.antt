@@ -10,6 +10,7 @@ use Rattle.shx_outside.specs.Outside.{SinkState}
 use Rattle.shx_outside.specs.Told.{Grew, IsAtEnd}
 use Rattle.shx_outside.proofs.ToldLemmas.{Grew-none, Grew-then}
 use Rattle.shx_term.specs.declared.limits.Limits.{Limits}
+use Rattle.shx_term.specs.declared.fault_code.TheConstants.{NOT_BUILT}
 use Rattle.text_input.specs.Lines.{script_lines}
 use Rattle.text_input.specs.ScriptReader.{ReaderState, new_reader, left_of, TookLine, TookEnd}
 use Rattle.text_input.specs.ScriptReader.{StopsInLine, IsCounted, KeepsCount}
@@ -112,7 +113,7 @@ TakesStep-line limits s reader reader' left left' P step each took stays = recor
 
 -- a line that is too long is refused
 pub step-too_long : (limits : Limits) (s : ScriptState) (line : List ℕ) → limits.line < length line
-    → script_step limits s line ≡ refusal s 59
+    → script_step limits s line ≡ refusal s NOT_BUILT
 step-too_long limits s line past =
     let longer : nat_le (length line) limits.line ≡ false = grind (arith, nat_tests) in rw longer refl
 

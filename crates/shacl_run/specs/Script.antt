@@ -1,5 +1,6 @@
 -- Scripts: what each line does to the graph, and what is said to it.
 use Rattle.std.specs.Prelude.{ℕ, ◌+◌, true, List, [], ◌∷◌, ◌++◌, flat_map, Result, Ok, Err}
+use Rattle.shx_term.specs.declared.fault_code.TheConstants.{NOT_BUILT}
 use Rattle.shx_term.specs.declared.limits.Limits.{Limits}
 use Rattle.shx_term.specs.declared.triple.TermTriple.{TermTriple}
 use Rattle.graph_view.specs.Graph.{Graph}
@@ -53,7 +54,7 @@ refusal s code = record {
 abbrev pub edit_step : ScriptState → TermTriple → Edited → Step
 edit_step s t Changed = answered s (answers ok_changed) (graph_after Changed s.graph t)
 edit_step s t Unchanged = answered s (answers ok_unchanged) s.graph
-edit_step s t Refused = refusal s 59
+edit_step s t Refused = refusal s NOT_BUILT
 
 abbrev pub command_step : Limits → ScriptState → Command → Step
 command_step limits s Report = answered s reports s.graph

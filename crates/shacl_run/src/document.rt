@@ -89,6 +89,3 @@ fn enter_terms(pool: &mut Pool, stated: &TermTriple) -> Result<Triple, PoolFault
     let o = pool.enter(&stated.o)?;
     Ok(Triple { s, p, o })
 }
-
-#[cfg(test)]
-mod tests;

@@ -126,33 +126,3 @@ fn enter<E: GraphEdit>(graph: &mut E, term: &Term) -> Result<Id, Memory>
         Err(PoolFault::Memory) => Err(AllocError),
     }
 }
-
-#[cfg(test)]
-mod tests {
-    use super::{Edited, insert};
-    use edit_script::read_triple;
-    use graph_view::{GraphView, ListGraph};
-    use shx_term::Pool;
-    use std::test::Fail;
-
-    #[test]
-    fn inserts_within_the_limits(rt: HostRuntime) -> Result<(), Fail> {
-        let alloc = rt.alloc();
-        let pool = Pool::with_vocabulary(alloc, 66)?;
-        let mut graph = ListGraph::new(alloc, pool, 2);
-        for (line, outcome, terms, triples) in [
-            ("<a:s> <a:p> <a:s> .", Edited::Changed, 64, 1),
-            ("<a:s> <a:p> <a:s> .", Edited::Unchanged, 64, 1),
-            ("<a:1> <a:2> <a:3> .", Edited::Refused, 64, 1),
-            ("<a:s> <a:1> <a:2> .", Edited::Changed, 66, 2),
-            ("<a:s> <a:p> <a:1> .", Edited::Refused, 66, 2),
-            ("<a:s> <a:1> <a:2> .", Edited::Unchanged, 66, 2),
-        ] {
-            let stated = read_triple(alloc, line.as_bytes())?;
-            assert_eq!(rt; insert(&mut graph, &stated)?, outcome, "at {line}");
-            assert_eq!(rt; graph.pool().len(), terms, "at {line}");
-            assert_eq!(rt; graph.len(), triples, "at {line}");
-        }
-        Ok(())
-    }
-}

@@ -63,39 +63,3 @@ fn validation_over(
         refused: false,
     })
 }
-
-#[cfg(test)]
-mod tests {
-    use super::open_validation;
-    use crate::declare::declare;
-    use crate::edit::{Edited, insert};
-    use crate::evaluation::evaluate;
-    use edit_script::read_triple;
-    use shx_term::Limits;
-    use std::test::Fail;
-
-    const SHAPES: &str = "<urn:s> <http://www.w3.org/ns/shacl#targetNode> <urn:a> .
-<urn:s> <http://www.w3.org/ns/shacl#targetNode> <urn:b> .
-<urn:s> <http://www.w3.org/ns/shacl#path> <urn:p> .
-<urn:s> <http://www.w3.org/ns/shacl#hasValue> <urn:v> .
-";
-
-    #[test]
-    fn reports_on_a_validation(rt: HostRuntime) -> Result<(), Fail> {
-        let alloc = rt.alloc();
-        let limits = Limits::program();
-        let declared = declare(alloc, SHAPES.as_bytes(), &limits)?.expect(&rt, "shapes");
-        let data = "<urn:a> <urn:p> <urn:v> .";
-        let opened = open_validation(alloc, declared, data.as_bytes(), &limits)?;
-        let mut validation = opened.expect(&rt, "a validation");
-        assert_eq!(rt; validation.line, 0);
-        assert!(rt; !validation.refused);
-        let rows = evaluate(alloc, &validation.graph, validation.shapes.as_slice())?;
-        assert_eq!(rt; rows.len(), 1);
-        let stated = read_triple(alloc, b"<urn:b> <urn:p> <urn:v> .".as_slice())?;
-        assert_eq!(rt; insert(&mut validation.graph, &stated)?, Edited::Changed);
-        let rows = evaluate(alloc, &validation.graph, validation.shapes.as_slice())?;
-        assert_eq!(rt; rows.len(), 0);
-        Ok(())
-    }
-}

@@ -12,11 +12,11 @@ use crate::evaluation::evaluate;
 use crate::report::write_report;
 use crate::result_row::ResultRow;
 use crate::validation::Validation;
-use edit_script::{Command, LineFault, NOT_BUILT, read_line};
+use edit_script::{Command, LineFault, read_line};
 use graph_view::GraphView;
 use report_write::{Answer, WriteFault, write_answer};
 use shx_outside::Sink;
-use shx_term::{Limits, Memory, TermTriple};
+use shx_term::{Limits, Memory, NOT_BUILT, TermTriple};
 use std::alloc::{AllocError, Global};
 
 /// What is said to a line.

@@ -117,6 +117,3 @@ fn add_id<W: Pieces>(id: Id, pool: &Pool, out: &mut W)
     }
     write_term(pool.term(id), out)
 }
-
-#[cfg(test)]
-mod tests;

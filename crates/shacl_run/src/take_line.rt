@@ -10,9 +10,8 @@ ghost use Rattle.shacl_run.specs.Validation.{IsValidation};
 use crate::reply::{Reply, refuse_line, reply_to};
 use crate::stop::Stop;
 use crate::validation::Validation;
-use edit_script::NOT_BUILT;
 use shx_outside::Inputs;
-use shx_term::Limits;
+use shx_term::{Limits, NOT_BUILT};
 use std::alloc::Global;
 use text_input::{Line, ReadFault, ScriptReader};
 

@@ -48,6 +48,3 @@ pub use regex_host::RegexHost;
 pub use role::Role;
 pub use sink::Sink;
 pub use std_sink::StdSink;
-
-#[cfg(test)]
-mod tests;

@@ -4,6 +4,7 @@ pub mod IdOrderLemmas
 pub mod InOrderLemmas
 pub mod MemberLemmas
 pub mod NumberedLemmas
+pub mod PieceLemmas
 pub mod PlaceLemmas
 pub mod SortLemmas
 pub mod TripleOrderLemmas

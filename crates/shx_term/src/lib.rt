@@ -11,12 +11,14 @@
 //! | `pool.rt` | `Pool`: distinct terms by number |
 //! | `vocabulary.rt` | the 62 terms that every pool begins with, and a constant for each number |
 //! | `limits.rt` | `Limits` |
+//! | `fault_code.rt` | the codes of faults that more than one crate gives |
 //! | `steps.rt` | `Steps`: a counter that takes no memory and no time |
 //!
 //! It stands on `indexmap` and `itoa`. Start with `term.rt` and `pool.rt`; `specs/TermOrder.antt` has the
 //! order and `specs/Pool.antt` the words of a pool's contracts.
 #![tactic(auto)]
 
+mod fault_code;
 mod iri_text;
 mod label;
 mod limits;
@@ -27,12 +29,11 @@ mod pool;
 mod spelling;
 mod steps;
 mod term;
-#[cfg(test)]
-mod tests;
 mod text;
 mod triple;
 pub mod vocabulary;
 
+pub use fault_code::NOT_BUILT;
 pub use iri_text::IriText;
 pub use label::Label;
 pub use limits::Limits;

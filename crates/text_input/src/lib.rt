@@ -21,6 +21,3 @@ pub use line_split::split_line;
 pub use read_fault::ReadFault;
 pub use script_reader::{Line, ScriptReader};
 pub use text::read_text;
-
-#[cfg(test)]
-mod tests;

@@ -27,8 +27,6 @@ mod number;
 mod numeral;
 mod order;
 mod read_literal;
-#[cfg(test)]
-mod tests;
 mod value;
 mod values;
 mod zone;

@@ -1,4 +1,4 @@
-use Rattle.report_write.proofs.PieceLemmas.{four_in_turn}
+use Rattle.shx_term.proofs.PieceLemmas.{four_in_turn}
 use Rattle.report_write.proofs.answer.add_fault.Goals as goal
 
 pub returns : goal.returns

@@ -1,7 +1,7 @@
 use Rattle.std.proofs.Common.{◌≡◌, ◌<◌, List, [], ◌∷◌, ◌++◌, length, refl, codes, arith}
 use Rattle.std.proofs.lemmas.Bool.Decides.{nat_tests}
 use Rattle.std.specs.Prelude.{decimal}
-use Rattle.report_write.proofs.PieceLemmas.{three_in_turn}
+use Rattle.shx_term.proofs.PieceLemmas.{three_in_turn}
 use Rattle.shacl_run.specs.Report.{head_text}
 use Rattle.shacl_run.specs.declared.result_row.ResultRow.{ResultRow}
 use Rattle.shacl_run.proofs.report.add_head.Goals as goal

@@ -1,4 +1,4 @@
-use Rattle.report_write.proofs.PieceLemmas.{three_in_turn, four_in_turn}
+use Rattle.shx_term.proofs.PieceLemmas.{three_in_turn, four_in_turn}
 use Rattle.shacl_run.proofs.report.add_row.Goals as goal
 
 pub returns : goal.returns

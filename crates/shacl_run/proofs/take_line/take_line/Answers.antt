@@ -1,5 +1,6 @@
 use Rattle.std.proofs.Common.{◌≡◌, ◌<◌, length, ap, arith}
 use Rattle.shx_outside.specs.declared.role.Role.TheVariants.{Script}
+use Rattle.shx_term.specs.declared.fault_code.TheConstants.{NOT_BUILT}
 use Rattle.text_input.specs.ScriptReader.{left_of}
 use Rattle.shacl_run.specs.Script.{script_step, refusal}
 use Rattle.shacl_run.proofs.ServingLemmas.{step-too_long, TakesStep-line, end_met}
@@ -33,12 +34,12 @@ pub returns-in-TooLong-clause-taken : goal.returns-in-TooLong-clause-taken
 returns-in-TooLong-clause-taken g c = λ s is.
     let limits = c.args.limits.now in
     let read = rw c.in-TooLong.is at c.in_ok-line.ensures.line in (
-      refusal s 59,
+      refusal s NOT_BUILT,
       c.refuse_line.ensures.replies limits s is,
       TakesStep-line limits s c.args.reader.now c.next_line.new.reader
           (left_of c.args.reader.now ((g.I.Inputs.state c.args.host.now).rest Script))
           (left_of c.next_line.new.reader ((g.I.Inputs.state c.next_line.new.host).rest Script))
-          (λ first. limits.line < length first) (refusal s 59) (step-too_long limits s) read.0
+          (λ first. limits.line < length first) (refusal s NOT_BUILT) (step-too_long limits s) read.0
           c.next_line.ensures.stays_ended,
     )
 

@@ -1,0 +1,7 @@
+mod graphs;
+mod literals;
+mod look_ups;
+mod made;
+mod pools;
+mod references;
+mod terms;

@@ -1,0 +1,15 @@
+//! What is read and written, as tests alone: inputs and sinks, texts and scripts, lines, answers.
+//!
+//! | file | what it holds |
+//! |---|---|
+//! | `tests/outside.rt` | the inputs and the sink in memory, and files |
+//! | `tests/texts.rt` | whole texts and the lines of a script, within their limits |
+//! | `tests/lines.rt` | lines of a script as commands, by the tables beside it |
+//! | `tests/answers.rt` | answers, numbers and terms that are put into a sink |
+//!
+//! It stands on `shx_outside`, `text_input`, `edit_script`, `report_write` and `shx_term`. A table is a text of
+//! lines, and a test asks for the first line that is met otherwise.
+#![tactic(auto)]
+
+#[cfg(test)]
+mod tests;

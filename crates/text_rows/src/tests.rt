@@ -1,0 +1,4 @@
+mod answers;
+mod lines;
+mod outside;
+mod texts;

@@ -1,0 +1,133 @@
+mod rows;
+
+use edit_script::{Command, LineFault, read_line, read_triple};
+use shx_term::{Limits, Memory, NOT_BUILT, Term, TermTriple};
+use std::alloc::Global;
+use std::test::Fail;
+
+// A row as the text before its arrow, and what the text is.
+fn cut(row: &str) -> (&str, &str) {
+    match row.split_once('→') {
+        Some(parts) => parts,
+        None => (row, ""),
+    }
+}
+
+fn iri(term: &Term) -> &str {
+    match term {
+        Term::Iri(iri) => iri.as_str(),
+        _ => "no IRI",
+    }
+}
+
+fn spelled_triple(alloc: Global, triple: &TermTriple) -> Result<String, Memory> {
+    format!(in alloc; "{} {} {}", iri(&triple.s), iri(&triple.p), iri(&triple.o))
+}
+
+// The code of a fault.
+fn code(alloc: Global, fault: &LineFault) -> Result<String, Memory> {
+    match fault {
+        LineFault::Line { code, at: None } => format!(in alloc; "{code}"),
+        _ => format!(in alloc; "{fault}"),
+    }
+}
+
+// The triple of a text, or the code of the fault.
+fn triple_in(alloc: Global, text: &str) -> Result<String, Memory> {
+    match &read_triple(alloc, text.as_bytes()) {
+        Ok(triple) => spelled_triple(alloc, triple),
+        Err(fault) => code(alloc, fault),
+    }
+}
+
+// The command of a line, of which so many bytes are read, or the code of the fault.
+fn command_in(alloc: Global, line: &[u8], most: u64) -> Result<String, Memory> {
+    let mut limits = Limits::program();
+    limits.line = most;
+    match &read_line(alloc, line, &limits) {
+        Ok(Command::Insert(triple)) => {
+            let triple = spelled_triple(alloc, triple)?;
+            format!(in alloc; "insert {}", triple.as_str())
+        }
+        Ok(Command::Report) => String::from_str(alloc, "report"),
+        Err(fault) => code(alloc, fault),
+    }
+}
+
+// The first row whose text is another triple.
+fn first_other_triple(alloc: Global, rows: &'static str) -> Result<&'static str, Memory> {
+    for row in rows.lines() {
+        let (text, wanted) = cut(row);
+        if triple_in(alloc, text)?.as_str() != wanted {
+            return Ok(row);
+        }
+    }
+    Ok("")
+}
+
+// The first row whose line is another command.
+fn first_other_command(alloc: Global, rows: &'static str) -> Result<&'static str, Memory> {
+    for row in rows.lines() {
+        let (line, wanted) = cut(row);
+        if command_in(alloc, line.as_bytes(), 100)?.as_str() != wanted {
+            return Ok(row);
+        }
+    }
+    Ok("")
+}
+
+#[test]
+fn texts_are_triples(rt: HostRuntime) -> Result<(), Fail> {
+    assert_eq!(rt; first_other_triple(rt.alloc(), rows::TRIPLES)?, "");
+    Ok(())
+}
+
+#[test]
+fn lines_are_commands(rt: HostRuntime) -> Result<(), Fail> {
+    assert_eq!(rt; first_other_command(rt.alloc(), rows::COMMANDS)?, "");
+    Ok(())
+}
+
+// Whether the line, of which so many bytes are read, is this command, or has a fault of this code.
+fn is_read_as(alloc: Global, line: &[u8], most: u64, wanted: &str) -> Result<bool, Memory> {
+    let found = command_in(alloc, line, most)?;
+    Ok(found.as_str() == wanted)
+}
+
+#[test]
+fn lines_are_read_to_their_limit(rt: HostRuntime) -> Result<(), Fail> {
+    let line = b"insert <a:s> <a:p> <a:o> .";
+    assert!(rt; is_read_as(rt.alloc(), line, 26, "insert a:s a:p a:o")?);
+    assert!(rt; is_read_as(rt.alloc(), line, 25, "59")?);
+    Ok(())
+}
+
+#[test]
+fn bytes_that_are_no_text_are_no_command(rt: HostRuntime) -> Result<(), Fail> {
+    assert!(rt; is_read_as(rt.alloc(), b"report\n", 100, "59")?);
+    assert!(rt; is_read_as(rt.alloc(), b"insert <a:s> <a:p> <a:\xff> .", 100, "59")?);
+    Ok(())
+}
+
+fn is_told_as(alloc: Global, fault: &LineFault, wanted: &str) -> Result<bool, Memory> {
+    let told = format!(in alloc; "{fault}")?;
+    Ok(told.as_str() == wanted)
+}
+
+#[test]
+fn faults_are_told(rt: HostRuntime) -> Result<(), Fail> {
+    let code = NOT_BUILT;
+    let line = LineFault::Line { code, at: None };
+    assert!(rt; is_told_as(rt.alloc(), &line, "the line is refused with code 59")?);
+    let at = Some(7);
+    let placed = LineFault::Line { code, at };
+    assert!(rt;
+        is_told_as(
+            rt.alloc(),
+            &placed,
+            "the line is refused with code 59 at byte 7"
+        )?
+    );
+    assert!(rt; is_told_as(rt.alloc(), &LineFault::Memory, "out of memory")?);
+    Ok(())
+}

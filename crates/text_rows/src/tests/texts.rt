@@ -1,0 +1,172 @@
+use shx_outside::{Bytes, Inputs, MemoryInputs, Name, NamedText, Role};
+use std::alloc::{AllocError, Global};
+use std::test::Fail;
+use text_input::{Line, ReadFault, ScriptReader, read_text, split_line};
+
+/// A script with `~` for a line feed; the most bytes of the script and of a line; the number of the call that
+/// fails, from the opening on; and what five calls give: a line before `;`, `!` for one that is too long, `.`
+/// at the end, `>` past the limit, and `?` for a failure.
+const SCRIPTS: &str = "a~~bc|100|10|0|a;;bc;..
+a~~bc|100|10|5|a;;bc;..
+a~~bc~|100|10|3|a;;?bc;.
+|0|10|3|.....
+ab~cd~|6|10|0|ab;cd;...
+ab~cd~|5|10|0|ab;>>>>
+abcd~|0|10|3|>>>>>
+abcdefgh~ij~|100|8|0|abcdefgh;ij;...
+abcdefgh~ij~|100|7|0|!ij;...
+abcd|4|3|0|!....
+a~~|100|0|0|!;...";
+
+/// A text; the most bytes that it may have; the number of the call that fails; and what comes of reading it.
+const TEXTS: &str = "abcd|10|0|abcd
+abcd|4|0|abcd
+abcd|3|0|the text is too long
+abcdefg|4|0|the text is too long
+|0|0|
+a|0|0|the text is too long
+abcd|10|1|an input failed
+abcd|10|2|an input failed
+abcd|10|4|an input failed
+abcd|10|5|abcd";
+
+// A row as the part before its first bar, and the rest.
+fn cut(row: &str) -> (&str, &str) {
+    match row.split_once('|') {
+        Some(parts) => parts,
+        None => (row, ""),
+    }
+}
+
+// Inputs that hold one text, in pieces of three bytes, and whose call of this number fails.
+fn inputs_of(
+    alloc: Global,
+    name: &str,
+    text: &str,
+    failing: u64,
+) -> Result<MemoryInputs, AllocError> {
+    let mut bytes = text.as_bytes().to_vec(alloc)?;
+    for byte in bytes.iter_mut() {
+        if *byte == b'~' {
+            *byte = b'\n';
+        }
+    }
+    let file = NamedText {
+        name: Name::new(String::from_str(alloc, name)?),
+        bytes: Bytes::new(bytes),
+    };
+    Ok(MemoryInputs::new(vec![in alloc; file]?, 3, vec![in alloc; failing]?))
+}
+
+fn add_line(answers: &mut Vec<u8>, read: &Result<Line, ReadFault>) -> Result<(), AllocError> {
+    match read {
+        Ok(Line::Is(line)) => {
+            answers.extend_from_slice(line)?;
+            answers.push(b';')?;
+        }
+        Ok(Line::TooLong) => answers.push(b'!')?,
+        Ok(Line::End) => answers.push(b'.')?,
+        Ok(Line::PastLimit) => answers.push(b'>')?,
+        Err(_) => answers.push(b'?')?,
+    }
+    Ok(())
+}
+
+fn read_lines(
+    alloc: Global,
+    inputs: &mut MemoryInputs,
+    limit: u64,
+    most: u64,
+) -> Result<Vec<u8>, AllocError> {
+    let mut answers = Vec::new(alloc);
+    if inputs.open(Role::Script, "script").is_err() {
+        return Ok(answers);
+    }
+    let mut reader = ScriptReader::new(limit);
+    for _ in 0..5 {
+        let read = reader.next_line(alloc, inputs, most);
+        add_line(&mut answers, &read)?;
+    }
+    Ok(answers)
+}
+
+// Whether the row's script gives what the row says.
+fn is_script_row(alloc: Global, row: &str) -> Result<bool, Fail> {
+    let (script, rest) = cut(row);
+    let (limit, rest) = cut(rest);
+    let (most, rest) = cut(rest);
+    let (failing, want) = cut(rest);
+    let mut inputs = inputs_of(alloc, "script", script, failing.parse::<u64>()?)?;
+    let answers = read_lines(
+        alloc,
+        &mut inputs,
+        limit.parse::<u64>()?,
+        most.parse::<u64>()?,
+    )?;
+    Ok(answers.as_slice() == want.as_bytes())
+}
+
+fn first_other_script(alloc: Global) -> Result<&'static str, Fail> {
+    for row in SCRIPTS.lines() {
+        if !is_script_row(alloc, row)? {
+            return Ok(row);
+        }
+    }
+    Ok("")
+}
+
+#[test]
+fn scripts_are_read_line_by_line(rt: HostRuntime) -> Result<(), Fail> {
+    assert_eq!(rt; first_other_script(rt.alloc())?, "");
+    Ok(())
+}
+
+// Whether the row's text is read as the row says.
+fn is_text_row(alloc: Global, row: &str) -> Result<bool, Fail> {
+    let (text, rest) = cut(row);
+    let (most, rest) = cut(rest);
+    let (failing, want) = cut(rest);
+    let mut inputs = inputs_of(alloc, "data", text, failing.parse::<u64>()?)?;
+    match read_text(alloc, &mut inputs, Role::Data, "data", most.parse::<u64>()?) {
+        Ok(bytes) => Ok(bytes.as_slice() == want.as_bytes()),
+        Err(fault) => {
+            let said = format!(in alloc; "{fault}")?;
+            Ok(said.as_str() == want)
+        }
+    }
+}
+
+fn first_other_text(alloc: Global) -> Result<&'static str, Fail> {
+    for row in TEXTS.lines() {
+        if !is_text_row(alloc, row)? {
+            return Ok(row);
+        }
+    }
+    Ok("")
+}
+
+#[test]
+fn texts_are_read_within_their_limit(rt: HostRuntime) -> Result<(), Fail> {
+    assert_eq!(rt; first_other_text(rt.alloc())?, "");
+    Ok(())
+}
+
+// Whether a text has this first line, and this behind it.
+fn splits(text: &[u8], first: &[u8], rest: &[u8]) -> bool {
+    let (line, behind) = split_line(text);
+    line == first && behind == rest
+}
+
+#[test]
+fn a_text_is_split_at_its_first_line_feed(rt: HostRuntime) {
+    assert!(rt; splits(b"a\nb\nc", b"a", b"b\nc"));
+    assert!(rt; splits(b"\n", b"", b""));
+    assert!(rt; splits(b"abc", b"abc", b""));
+}
+
+#[test]
+fn want_of_memory_has_a_text(rt: HostRuntime) -> Result<(), Fail> {
+    let said = format!(in rt.alloc(); "{}", ReadFault::Memory)?;
+    assert_eq!(rt; said.as_str(), "out of memory");
+    Ok(())
+}

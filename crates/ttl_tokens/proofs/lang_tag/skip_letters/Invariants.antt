@@ -1,0 +1,14 @@
+use Rattle.std.proofs.Common.{length}
+use denote.Text.{Utf8}
+use denote.Shadow.{shadow}
+use Rattle.std.specs.Str.{chars}
+use Rattle.ttl_tokens.specs.Chars.{PastChar, is_letter}
+use Rattle.ttl_tokens.specs.Form.{Item}
+use Rattle.ttl_tokens.specs.Walks.{Runs}
+use Rattle.ttl_tokens.proofs.lang_tag.skip_letters.Given as goal
+
+abbrev pub invariant-loop-behind : goal.invariant-loop-behind
+invariant-loop-behind l = shadow (Utf8 l.rest) × Runs PastChar (Item is_letter) (chars l.text) (chars l.rest)
+
+abbrev pub decreases-loop-behind : goal.decreases-loop-behind
+decreases-loop-behind l = length (chars l.rest)

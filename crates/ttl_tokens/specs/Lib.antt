@@ -1,0 +1,17 @@
+pub mod Blanks
+pub mod CharWalks
+pub mod Chars
+pub mod EscapeForms
+pub mod Form
+pub mod Groups
+pub mod IriRefForms
+pub mod LangTagForms
+pub mod Leaves
+pub mod Marks
+pub mod NameForms
+pub mod NumberForms
+pub mod StringForms
+pub mod Terminals
+pub mod Tokens
+pub mod Unescaped
+pub mod Walks

@@ -1,0 +1,41 @@
+//! The terminals of Turtle 1.1: the token at a place of a text, and what it stands for.
+//!
+//! | file | what it holds |
+//! |---|---|
+//! | `token.rt` | `TokenKind`, `Token`, `NoToken` |
+//! | `scan.rt` | `next_token`: the longest terminal behind white space and comments |
+//! | `meaning.rt`, `content.rt` | `unescape`: a token's text between its marks, its escapes undone |
+//! | `group.rt` | which terminals may begin with a character |
+//! | `blanks.rt`, `marks.rt`, `caret.rt` | white space and comments; marks and ANON; `^^` |
+//! | `numbers.rt`, `lang_tag.rt`, `iri_ref.rt`, `strings.rt`, `escapes.rt` | the terminals of these names |
+//! | `names.rt`, `local_names.rt`, `words.rt`, `blank_label.rt`, `name_walks.rt` | names, words and labels |
+//! | `walk.rt`, `classes.rt` | past a character; classes of characters |
+//!
+//! It stands on std alone. Start with `scan.rt`; `specs/Tokens.antt` says which token stands at a place,
+//! `specs/Terminals.antt` has the grammar, and `specs/Form.antt` the notation that it is written in.
+#![tactic(auto)]
+
+mod blank_label;
+mod blanks;
+mod caret;
+mod classes;
+mod content;
+mod escapes;
+mod group;
+mod iri_ref;
+mod lang_tag;
+mod local_names;
+mod marks;
+mod meaning;
+mod name_walks;
+mod names;
+mod numbers;
+mod scan;
+mod strings;
+mod token;
+mod walk;
+mod words;
+
+pub use meaning::unescape;
+pub use scan::next_token;
+pub use token::{NoToken, Token, TokenKind};

@@ -1,0 +1,71 @@
+ghost use Rattle.std.specs.Prelude.{◌≡◌, ◌≤◌, IfOk, IfErr, length, MatchOption};
+ghost use Rattle.std.specs.Str.{chars, IsCharBoundary};
+ghost use Rattle.ttl_tokens.specs.Tokens.{IsToken, IsNoToken, IsTokenAt, IsNoTokenAt};
+
+use crate::blank_label::blank_label;
+use crate::blanks::skip_blanks;
+use crate::caret::carets;
+use crate::group::{Group, group_of};
+use crate::iri_ref::iri_ref;
+use crate::lang_tag::lang_tag;
+use crate::marks::{mark, square};
+use crate::names::name;
+use crate::numbers::number;
+use crate::strings::{double_quoted, single_quoted};
+use crate::walk::first_char;
+use crate::{NoToken, Token, TokenKind};
+
+/// The token at byte `at`, behind white space and comments (Turtle 1.1, section 6): the longest terminal that
+/// stands there, or the end of the text. It takes no memory, and time linear in what it passes and in the
+/// token; for a word, also in the characters of names behind it, among which a colon would make it a prefix.
+///
+/// # Errors
+///
+/// `NoToken` where something else stands there and no terminal begins with it.
+pub fn next_token(text: &str, at: usize) -> Result<Token, NoToken>
+    requires within { at ≤ length text.now }
+    requires boundary { IsCharBoundary text.now at }
+    ensures found { IfOk result (IsTokenAt text.now at) }
+    ensures none { IfErr result (λ none. IsNoTokenAt text.now at none.at) }
+{
+    let behind = skip_blanks(&text[at..]);
+    let start = text.len() - behind.len();
+    if behind.is_empty() {
+        let kind = TokenKind::End;
+        return Ok(Token {
+            kind,
+            start,
+            end: start,
+        });
+    }
+    match terminal(behind) {
+        Some((kind, rest)) => {
+            let end = text.len() - rest.len();
+            Ok(Token { kind, start, end })
+        }
+        None => Err(NoToken { at: start }),
+    }
+}
+
+// The terminal with which a text begins, and what stands behind it.
+fn terminal(text: &str) -> Option<(TokenKind, &str)>
+    ensures { MatchOption result (IsNoToken (chars text.now))
+        (λ t. IsToken (chars text.now) t.0 (chars t.1.now)) }
+{
+    match first_char(text) {
+        Some((first, _)) => match group_of(first) {
+            Group::Number => number(text),
+            Group::Name => name(text),
+            Group::DoubleQuoted => double_quoted(text),
+            Group::SingleQuoted => single_quoted(text),
+            Group::Angle => iri_ref(text),
+            Group::At => lang_tag(text),
+            Group::Underscore => blank_label(text),
+            Group::Caret => carets(text),
+            Group::Square => square(text),
+            Group::Mark => mark(text),
+            Group::Other => None,
+        },
+        None => None,
+    }
+}

@@ -1,0 +1,102 @@
+mod rows;
+
+ghost use Rattle.ttl_tokens.specs.Unescaped.{IsGiven};
+
+use std::alloc::{AllocError, Global};
+use std::test::Fail;
+use ttl_tokens::{Token, TokenKind, next_token};
+
+/// A row as the text before its arrow, and its tokens.
+pub(super) fn cut(row: &str) -> (&str, &str) {
+    match row.split_once('→') {
+        Some(parts) => parts,
+        None => (row, ""),
+    }
+}
+
+/// A text with white space in place of the signs for it.
+pub(super) fn text_of(alloc: Global, text: &str) -> Result<String, AllocError> {
+    let text = text.replace(alloc, "␊", "\n")?;
+    let text = text.as_str().replace(alloc, "␍", "\r")?;
+    text.as_str().replace(alloc, "␉", "\t")
+}
+
+// The tokens of a text, each by its kind and its own text, up to the end or to a place where none begins.
+fn tokens_of(alloc: Global, text: &str) -> Result<String, AllocError> {
+    let mut found = String::new(alloc);
+    let mut at = 0;
+    for _ in 0..40 {
+        match next_token(text, at) {
+            Ok(token) => {
+                if token.kind == TokenKind::End {
+                    break;
+                }
+                add_token(alloc, &mut found, text, &token)?;
+                at = token.end;
+            }
+            Err(none) => {
+                let place = format!(in alloc; "none at {}", none.at)?;
+                found.push_str(place.as_str())?;
+                break;
+            }
+        }
+    }
+    Ok(found)
+}
+
+fn add_token(alloc: Global, found: &mut String, text: &str, token: &Token) -> Result<(), AllocError>
+    requires { IsGiven text.now token.now }
+{
+    let piece = &text[token.start..token.end];
+    let kind = format!(in alloc; "{:?} {piece}|", token.kind)?;
+    found.push_str(kind.as_str())
+}
+
+// Whether the row's text has the row's tokens.
+fn has_tokens(alloc: Global, row: &str) -> Result<bool, AllocError> {
+    let (text, wanted) = cut(row);
+    let text = text_of(alloc, text)?;
+    let found = tokens_of(alloc, text.as_str())?;
+    let wanted = text_of(alloc, wanted)?;
+    Ok(found.as_str() == wanted.as_str())
+}
+
+// The first row whose text has other tokens.
+fn first_other(alloc: Global, rows: &'static str) -> Result<&'static str, AllocError> {
+    for row in rows.lines() {
+        if !has_tokens(alloc, row)? {
+            return Ok(row);
+        }
+    }
+    Ok("")
+}
+
+#[test]
+fn splits(rt: HostRuntime) -> Result<(), Fail> {
+    assert_eq!(rt; first_other(rt.alloc(), rows::SPLITS)?, "");
+    Ok(())
+}
+
+#[test]
+fn names_and_words(rt: HostRuntime) -> Result<(), Fail> {
+    assert_eq!(rt; first_other(rt.alloc(), rows::NAMES)?, "");
+    Ok(())
+}
+
+#[test]
+fn numbers(rt: HostRuntime) -> Result<(), Fail> {
+    assert_eq!(rt; first_other(rt.alloc(), rows::NUMBERS)?, "");
+    Ok(())
+}
+
+#[test]
+fn strings_and_references(rt: HostRuntime) -> Result<(), Fail> {
+    assert_eq!(rt; first_other(rt.alloc(), rows::QUOTED)?, "");
+    Ok(())
+}
+
+#[test]
+fn white_space_and_comments(rt: HostRuntime) -> Result<(), Fail> {
+    assert_eq!(rt; first_other(rt.alloc(), rows::BLANKS)?, "");
+    Ok(())
+}

@@ -9,6 +9,11 @@ pub times_one_more : {P : Type 0} (S : P → P → Type 0) (n : ℕ) (x m y : P)
 times_one_more S zero x m y e s = (y, subst (λ v. S v y) (sym e) s, refl)
 times_one_more S (suc n) x m y t s = (t.0, t.1, times_one_more S n t.0 m y t.2 s)
 
+pub times_then : {P : Type 0} (S : P → P → Type 0) (n : ℕ) (x m y : P) → Times S n x m
+    → (k : ℕ) × Times S k m y → (k : ℕ) × Times S k x y
+times_then S zero x m y e t = subst (λ v. (k : ℕ) × Times S k v y) (sym e) t
+times_then S (suc n) x m y s t = let more = times_then S n s.0 m y s.2 t in (suc more.0, (s.0, s.1, more.1))
+
 pub times_takes : {I P : Type 0} (R : I → P → P → Type 0) (f : Form I) (n : ℕ) (x y : P)
     → Times (Only R f) n x y → Times (Takes R f) n x y
 times_takes R f zero x y e = e

@@ -96,7 +96,7 @@ stands_in_group StringSingleQuote c cs zs t =
     sym (begins_in_group StringSingleQuote c (takes_begins (terminal StringSingleQuote) c cs zs refl t.0))
 stands_in_group k c cs zs t = sym (begins_in_group k c (takes_begins (terminal k) c cs zs refl t))
 
-nothing_stands_at_end : (k : TokenKind) (zs : List ℕ) → Stands k [] zs → ⊥
+pub nothing_stands_at_end : (k : TokenKind) (zs : List ℕ) → Stands k [] zs → ⊥
 nothing_stands_at_end Anon zs t = absurd (omega (arith, ap length t.1))
 nothing_stands_at_end StringQuote zs t = (never_at_end (terminal StringQuote) refl).none zs t.0
 nothing_stands_at_end StringSingleQuote zs t = (never_at_end (terminal StringSingleQuote) refl).none zs t.0

@@ -1,3 +1,4 @@
+pub mod AheadLemmas
 pub mod CaretLemmas
 pub mod CharLemmas
 pub mod DottedLemmas
@@ -13,6 +14,7 @@ pub mod MarkLemmas
 pub mod NameLemmas
 pub mod NumberLemmas
 pub mod OneKindLemmas
+pub mod OneTokenLemmas
 pub mod PlaceLemmas
 pub mod PrefixLemmas
 pub mod RestLemmas

@@ -44,7 +44,7 @@ stands_rest k xs ys t = takes_rest (terminal k) xs ys t
 
 -- ---- bytes
 
-bytes_rest : (text rest : List ℕ) → IsUtf8 text → IsUtf8 rest → IsRest (chars text) (chars rest)
+pub bytes_rest : (text rest : List ℕ) → IsUtf8 text → IsUtf8 rest → IsRest (chars text) (chars rest)
     → IsRest text rest
 bytes_rest text rest utf8 utf8' a = (
   encodes a.0,
@@ -61,7 +61,7 @@ rest_le text rest a = let same = rest_length text rest a in omega (arith, same)
 rest_start : (text rest : List ℕ) (a : IsRest text rest) → length text - length rest ≡ length a.0
 rest_start text rest a = let same = rest_length text rest a in omega (arith, same)
 
-rest_drop : (text rest : List ℕ) → IsRest text rest → drop (length text - length rest) text ≡ rest
+pub rest_drop : (text rest : List ℕ) → IsRest text rest → drop (length text - length rest) text ≡ rest
 rest_drop text rest a =
     ap (λ (n : ℕ). drop n text) (rest_start text rest a) ∙ ap (λ (l : List ℕ). drop (length a.0) l) a.1
     ∙ drop-append_seam a.0 rest
@@ -86,7 +86,7 @@ token_rest text kind rest utf8 utf8' t =
 
 -- ---- the token at a place
 
-at_front : (text : List ℕ) (at : ℕ) → IsRest text (drop at text)
+pub at_front : (text : List ℕ) (at : ℕ) → IsRest text (drop at text)
 at_front text at = (take at text, sym (take-append-drop at text))
 
 place_le : (text : List ℕ) (at : ℕ) (behind : List ℕ) → at ≤ length text → IsRest (drop at text) behind
@@ -126,6 +126,14 @@ behind_text text at rest b =
 
 pub behind_le : (text : List ℕ) (at : ℕ) (rest : List ℕ) → IsBehind text at rest → length rest ≤ length text
 behind_le text at rest b = rest_le text rest (behind_text text at rest b)
+
+pub behind_drops : (text : List ℕ) (at : ℕ) (rest : List ℕ) → IsBehind text at rest
+    → drop (length text - length rest) text ≡ rest
+behind_drops text at rest b = rest_drop text rest (behind_text text at rest b)
+
+pub behind_begins : (text : List ℕ) (at : ℕ) (rest : List ℕ) → IsBehind text at rest
+    → IsCharBoundary text (length text - length rest)
+behind_begins text at rest b = rest_boundary text rest b.utf8 (behind_text text at rest b)
 
 pub token_at_end : (text : List ℕ) (at : ℕ) (rest : List ℕ) → IsBehind text at rest → length rest ≡ 0
     → IsTokenAt text at
@@ -173,6 +181,7 @@ no_token_at text at rest b some n =
     record {
       from = place_le text at rest b.within (behind_drop text at rest b);
       within = omega (arith, some, shorter);
+      begin = rest_boundary text rest b.utf8 place;
       behind = ap chars (rest_drop text rest place) ∙ b.same;
       none = rw (rest_drop text rest place) n;
     }

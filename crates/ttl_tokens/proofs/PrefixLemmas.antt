@@ -21,7 +21,7 @@ use Rattle.ttl_tokens.proofs.FormLemmas.{times_one_more}
 abbrev pub name_or_dot : Chars
 name_or_dot = Or (Item is_name_char) (exactly 46)
 
-past_wider : (p q : ℕ → Bool) → ((c : ℕ) → p c ≡ true → q c ≡ true) → (xs ys : List ℕ) → PastChar p xs ys
+pub past_wider : (p q : ℕ → Bool) → ((c : ℕ) → p c ≡ true → q c ≡ true) → (xs ys : List ℕ) → PastChar p xs ys
     → PastChar q xs ys
 past_wider p q wider [] ys t = absurd t
 past_wider p q wider (c ∷ cs) ys t = (wider c t.0, t.1)
@@ -44,7 +44,7 @@ times_only : (n : ℕ) (xs ys : List ℕ) → Times (Takes PastChar name_or_dot)
 times_only zero xs ys e = e
 times_only (suc n) xs ys t = (t.0, one_only xs t.0 t.1, times_only n t.0 ys t.2)
 
-colon_ends : (xs ys : List ℕ) → Takes PastChar (exactly 58) xs ys → Never PastChar name_or_dot xs
+pub colon_ends : (xs ys : List ℕ) → Takes PastChar (exactly 58) xs ys → Never PastChar name_or_dot xs
 colon_ends xs ys mark = record { none = λ zs t. (name_apart).apart xs zs ys t mark }
   where
     name_apart : Apart PastChar name_or_dot (exactly 58)
@@ -58,10 +58,10 @@ run_longest xs w ys t mark =
 
 -- ---- prefixes
 
-start_is_name : (c : ℕ) → is_name_start c ≡ true → is_name_char c ≡ true
+pub start_is_name : (c : ℕ) → is_name_start c ≡ true → is_name_char c ≡ true
 start_is_name c h = rw h refl
 
-prefix_run : (xs w : List ℕ) → Takes PastChar pn_prefix xs w → Takes PastChar (Many name_or_dot) xs w
+pub prefix_run : (xs w : List ℕ) → Takes PastChar pn_prefix xs w → Takes PastChar (Many name_or_dot) xs w
 prefix_run xs w t = tail t.2
   where
     begun : Takes PastChar name_or_dot xs t.0

@@ -7,6 +7,7 @@ pub mod Groups
 pub mod IriRefForms
 pub mod LangTagForms
 pub mod Leaves
+pub mod Lookahead
 pub mod Marks
 pub mod NameForms
 pub mod NumberForms

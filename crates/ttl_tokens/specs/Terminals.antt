@@ -1,4 +1,4 @@
--- The terminals of Turtle, each with its line of the grammar (Turtle 1.1, section 6.5).
+-- The terminals of Turtle, each under its name in the grammar (Turtle 1.1, section 6.5).
 use Rattle.std.specs.Prelude.{ℕ, Bool, false, ◌&&◌, ◌||◌, not, ◌==◌, nat_le, codes}
 use Rattle.ttl_tokens.specs.declared.token.TokenKind.{TokenKind}
 use Rattle.ttl_tokens.specs.declared.token.TokenKind.TheVariants.{IriRef, PnameNs, PnameLn, BlankLabel}
@@ -44,7 +44,7 @@ eight_digits =
     (Or (Then (word (codes "000")) (Then (Item (λ c. is_hex c && not (c == 48))) hex_4))
     (Then (word (codes "0010")) hex_4))
 
--- UCHAR ::= '\u' HEX HEX HEX HEX | '\U' HEX HEX HEX HEX HEX HEX HEX HEX
+-- UCHAR
 abbrev pub uchar : Chars
 uchar = Or (Then (word (codes "\\u")) four_digits) (Then (word (codes "\\U")) eight_digits)
 
@@ -53,7 +53,7 @@ abbrev pub is_escaped : ℕ → Bool
 is_escaped c =
     (c == 116) || (c == 98) || (c == 110) || (c == 114) || (c == 102) || (c == 34) || (c == 39) || (c == 92)
 
--- ECHAR ::= '\' [tbnrf"'\]
+-- ECHAR
 abbrev pub echar : Chars
 echar = Then (word (codes "\\")) (Item is_escaped)
 
@@ -65,48 +65,48 @@ is_iri_char c =
     nat_le 33 c && not ((c == 60) || (c == 62) || (c == 34) || (c == 123) || (c == 125) || (c == 124)
     || (c == 94) || (c == 96) || (c == 92))
 
--- IRIREF ::= '<' ([^#x00-#x20<>"{}|^`\] | UCHAR)* '>'
+-- IRIREF
 abbrev pub iri_ref : Chars
 iri_ref = Then (word (codes "<")) (Then (Many (Or (Item is_iri_char) uchar)) (word (codes ">")))
 
 -- ---- names
 
--- PN_PREFIX ::= PN_CHARS_BASE ((PN_CHARS | '.')* PN_CHARS)?
+-- PN_PREFIX
 abbrev pub pn_prefix : Chars
 pn_prefix = Then (Item is_name_start) (dotted (Item is_name_char) (word (codes ".")))
 
--- PNAME_NS ::= PN_PREFIX? ':'
+-- PNAME_NS
 abbrev pub pname_ns : Chars
 pname_ns = Then (Maybe pn_prefix) (word (codes ":"))
 
--- one of _ ~ . - ! $ & ' ( ) * + , ; = / ? # @ %
+-- PN_LOCAL_ESC, behind its backslash
 abbrev pub is_local_escaped : ℕ → Bool
 is_local_escaped c =
     (c == 95) || (c == 126) || (c == 46) || (c == 45) || (c == 33) || (c == 36) || between 38 44 c
     || (c == 59) || (c == 61) || (c == 47) || (c == 63) || (c == 35) || (c == 64) || (c == 37)
 
--- PLX ::= '%' HEX HEX | PN_LOCAL_ESC
+-- PLX
 abbrev pub plx : Chars
 plx =
     Or (Then (word (codes "%")) hex_2) (Then (word (codes "\\")) (Item is_local_escaped))
 
--- PN_LOCAL ::= (PN_CHARS_U | ':' | [0-9] | PLX) ((PN_CHARS | '.' | ':' | PLX)* (PN_CHARS | ':' | PLX))?
+-- PN_LOCAL
 abbrev pub pn_local : Chars
 pn_local =
     Then (Or (Item (λ c. is_name_start_or_line c || (c == 58) || is_digit c)) plx)
     (dotted (Or (Item (λ c. is_name_char c || (c == 58))) plx) (word (codes ".")))
 
--- PNAME_LN ::= PNAME_NS PN_LOCAL
+-- PNAME_LN
 abbrev pub pname_ln : Chars
 pname_ln = Then pname_ns pn_local
 
--- BLANK_NODE_LABEL ::= '_:' (PN_CHARS_U | [0-9]) ((PN_CHARS | '.')* PN_CHARS)?
+-- BLANK_NODE_LABEL
 abbrev pub blank_label : Chars
 blank_label =
     Then (word (codes "_:")) (Then (Item (λ c. is_name_start_or_line c || is_digit c))
     (dotted (Item is_name_char) (word (codes "."))))
 
--- LANGTAG ::= '@' [a-zA-Z]+ ('-' [a-zA-Z0-9]+)*
+-- LANGTAG
 abbrev pub lang_tag : Chars
 lang_tag =
     Then (word (codes "@")) (Then (some (Item is_letter))
@@ -129,19 +129,19 @@ some_digits = some (Item is_digit)
 abbrev pub point : Chars
 point = word (codes ".")
 
--- INTEGER ::= [+-]? [0-9]+
+-- INTEGER
 abbrev pub integer : Chars
 integer = Then sign some_digits
 
--- DECIMAL ::= [+-]? [0-9]* '.' [0-9]+
+-- DECIMAL
 abbrev pub decimal : Chars
 decimal = Then sign (Then digits (Then point some_digits))
 
--- EXPONENT ::= [eE] [+-]? [0-9]+
+-- EXPONENT
 abbrev pub exponent : Chars
 exponent = Then (Item (λ c. (c == 69) || (c == 101))) (Then sign some_digits)
 
--- DOUBLE ::= [+-]? ([0-9]+ '.' [0-9]* EXPONENT | '.' [0-9]+ EXPONENT | [0-9]+ EXPONENT)
+-- DOUBLE
 abbrev pub double : Chars
 double =
     Then sign (Or (Then some_digits (Then point (Then digits exponent)))
@@ -152,29 +152,27 @@ double =
 abbrev pub three_quotes : ℕ → Chars
 three_quotes q = Then (exactly q) (Then (exactly q) (exactly q))
 
--- [^q#x5C#xA#xD] | ECHAR | UCHAR
+-- a character of a short string: none of the quote, the backslash and the ends of lines, or an escape
 abbrev pub short_char : ℕ → Chars
 short_char q = Or (Item (λ c. not ((c == q) || (c == 92) || (c == 10) || (c == 13)))) (Or echar uchar)
 
--- STRING_LITERAL_QUOTE ::= '"' ([^#x22#x5C#xA#xD] | ECHAR | UCHAR)* '"'
--- STRING_LITERAL_SINGLE_QUOTE ::= "'" ([^#x27#x5C#xA#xD] | ECHAR | UCHAR)* "'"
+-- STRING_LITERAL_QUOTE and STRING_LITERAL_SINGLE_QUOTE
 abbrev pub short_string : ℕ → Chars
 short_string q = Then (exactly q) (Then (Many (short_char q)) (exactly q))
 
--- [^q\] | ECHAR | UCHAR
+-- a character of a long string: none of the quote and the backslash, or an escape
 abbrev pub long_char : ℕ → Chars
 long_char q = Or (Item (λ c. not ((c == q) || (c == 92)))) (Or echar uchar)
 
--- (q | qq)?
+-- none, one or two
 abbrev pub up_to_2_quotes : ℕ → Chars
 up_to_2_quotes q = Maybe (Or (exactly q) (Then (exactly q) (exactly q)))
 
--- (q | qq)? ([^q\] | ECHAR | UCHAR)
+-- up to two quotes and a character
 abbrev pub block : ℕ → Chars
 block q = Then (up_to_2_quotes q) (long_char q)
 
--- STRING_LITERAL_LONG_SINGLE_QUOTE ::= "'''" (("'" | "''")? ([^'\] | ECHAR | UCHAR))* "'''"
--- STRING_LITERAL_LONG_QUOTE ::= '"""' (('"' | '""')? ([^"\] | ECHAR | UCHAR))* '"""'
+-- STRING_LITERAL_LONG_QUOTE and STRING_LITERAL_LONG_SINGLE_QUOTE
 abbrev pub long_string : ℕ → Chars
 long_string q = Then (three_quotes q) (Then (Many (block q)) (three_quotes q))
 

@@ -53,5 +53,6 @@ pub record IsTokenAt (text : List ℕ) (at : ℕ) (token : Token) : Type 0 where
 pub record IsNoTokenAt (text : List ℕ) (at fault : ℕ) : Type 0 where
   pub from : at ≤ fault
   pub within : fault < length text
+  pub begin : IsCharBoundary text fault
   pub behind : chars (drop fault text) ≡ behind_blanks (chars (drop at text))
   pub none : IsNoToken (chars (drop fault text))

@@ -48,8 +48,7 @@ digit_number c =
 abbrev pub with_digit : ℕ → ℕ → ℕ
 with_digit n c = 16 * (n % 268435456) + digit_number c
 
--- ECHAR: t, b, n, r and f stand for tab, backspace, line feed, carriage return and form feed; every other
--- character behind a backslash stands for itself
+-- ECHAR: behind a backslash five letters stand for control characters, and every other character for itself
 abbrev pub escaped_char : ℕ → ℕ
 escaped_char c =
     if c == 116 then 9 else if c == 98 then 8 else if c == 110 then 10 else if c == 114 then 13

@@ -43,12 +43,12 @@ fn is_low_name_start(c: char) -> bool
 {
     matches!(
         c,
-        '\u{C0}'..='\u{D6}'
-            | '\u{D8}'..='\u{F6}'
-            | '\u{F8}'..='\u{2FF}'
-            | '\u{370}'..='\u{37D}'
-            | '\u{37F}'..='\u{1FFF}'
-            | '\u{200C}'..='\u{200D}'
+        '\u{c0}'..='\u{d6}'
+            | '\u{d8}'..='\u{f6}'
+            | '\u{f8}'..='\u{2ff}'
+            | '\u{370}'..='\u{37d}'
+            | '\u{37f}'..='\u{1fff}'
+            | '\u{200c}'..='\u{200d}'
     )
 }
 
@@ -58,12 +58,12 @@ fn is_high_name_start(c: char) -> bool
 {
     matches!(
         c,
-        '\u{2070}'..='\u{218F}'
-            | '\u{2C00}'..='\u{2FEF}'
-            | '\u{3001}'..='\u{D7FF}'
-            | '\u{F900}'..='\u{FDCF}'
-            | '\u{FDF0}'..='\u{FFFD}'
-            | '\u{10000}'..='\u{EFFFF}'
+        '\u{2070}'..='\u{218f}'
+            | '\u{2c00}'..='\u{2fef}'
+            | '\u{3001}'..='\u{d7ff}'
+            | '\u{f900}'..='\u{fdcf}'
+            | '\u{fdf0}'..='\u{fffd}'
+            | '\u{10000}'..='\u{effff}'
     )
 }
 
@@ -88,9 +88,9 @@ pub(crate) fn is_name_char(c: char) -> bool
     is_name_start_or_line(c)
         || c == '-'
         || is_digit(c)
-        || c == '\u{B7}'
-        || matches!(c, '\u{300}'..='\u{36F}')
-        || matches!(c, '\u{203F}'..='\u{2040}')
+        || c == '\u{b7}'
+        || matches!(c, '\u{300}'..='\u{36f}')
+        || matches!(c, '\u{203f}'..='\u{2040}')
 }
 
 /// The first character of a label.

@@ -3,12 +3,14 @@
 //! | file | what it holds |
 //! |---|---|
 //! | `token.rt` | `TokenKind`, `Token`, `NoToken` |
-//! | `scan.rt` | `next_token`: the longest terminal behind white space and comments |
+//! | `scan.rt` | `next_token`, `next_token_after`: the longest terminal behind white space and comments |
+//! | `lookahead.rt` | `Lookahead`: where no prefixed name begins, for a loop over the tokens |
 //! | `meaning.rt`, `content.rt` | `unescape`: a token's text between its marks, its escapes undone |
 //! | `group.rt` | which terminals may begin with a character |
 //! | `blanks.rt`, `marks.rt`, `caret.rt` | white space and comments; marks and ANON; `^^` |
 //! | `numbers.rt`, `lang_tag.rt`, `iri_ref.rt`, `strings.rt`, `escapes.rt` | the terminals of these names |
 //! | `names.rt`, `local_names.rt`, `words.rt`, `blank_label.rt`, `name_walks.rt` | names, words and labels |
+//! | `laws.rt` | that one token stands at a place |
 //! | `walk.rt`, `classes.rt` | past a character; classes of characters |
 //!
 //! It stands on std alone. Start with `scan.rt`; `specs/Tokens.antt` says which token stands at a place,
@@ -24,7 +26,9 @@ mod escapes;
 mod group;
 mod iri_ref;
 mod lang_tag;
+mod laws;
 mod local_names;
+mod lookahead;
 mod marks;
 mod meaning;
 mod name_walks;
@@ -36,6 +40,8 @@ mod token;
 mod walk;
 mod words;
 
+pub use laws::one_token_stands;
+pub use lookahead::Lookahead;
 pub use meaning::unescape;
-pub use scan::next_token;
+pub use scan::{next_token, next_token_after};
 pub use token::{NoToken, Token, TokenKind};

@@ -1,4 +1,4 @@
-ghost use Rattle.std.specs.Prelude.{MatchOption};
+ghost use Rattle.std.specs.Prelude.{◌≡◌, true, MatchOption};
 ghost use Rattle.std.specs.Str.{chars};
 ghost use Rattle.ttl_tokens.specs.CharWalks.{Longest};
 ghost use Rattle.ttl_tokens.specs.Chars.{PastChar, is_name_start};
@@ -15,8 +15,18 @@ use crate::token::TokenKind;
 use crate::walk::{first_char, past_char};
 use crate::words::word;
 
-/// The prefixed name or, where none stands there, the word at the front of a text, and the text behind it.
-pub(crate) fn name(text: &str) -> Option<(TokenKind, &str)>
+/// The terminal of names and words at the front of a text, and the text behind it. It may be known that no
+/// prefixed name stands there.
+pub(crate) fn name_after(text: &str, is_known: bool) -> Option<(TokenKind, &str)>
+    requires { is_known ≡ true → Never PastChar pname_ns (chars text.now) }
+    ensures { MatchOption result (IsNoTokenOf Name (chars text.now))
+        (λ t. IsTokenOf Name (chars text.now) t.0 (chars t.1.now)) }
+{
+    if is_known { word(text) } else { name(text) }
+}
+
+// The prefixed name or, where none stands there, the word at the front of a text, and the text behind it.
+fn name(text: &str) -> Option<(TokenKind, &str)>
     ensures { MatchOption result (IsNoTokenOf Name (chars text.now))
         (λ t. IsTokenOf Name (chars text.now) t.0 (chars t.1.now)) }
 {
@@ -40,8 +50,8 @@ fn namespace(text: &str) -> Option<&str>
     }
 }
 
-// Past the longest prefix that is not empty.
-fn prefix(text: &str) -> Option<&str>
+/// Past the longest prefix that is not empty.
+pub(crate) fn prefix(text: &str) -> Option<&str>
     ensures { MatchOption result (Never PastChar pn_prefix (chars text.now))
         (λ rest. Longest pn_prefix (chars text.now) (chars rest.now)) }
 {

@@ -1,11 +1,25 @@
-ghost use Rattle.std.specs.Prelude.{◌+◌, ◌||◌, ◌==◌, MatchOption};
+ghost use Rattle.std.specs.Prelude.{◌≡◌, ◌+◌, ◌||◌, ◌==◌, MatchOption};
 ghost use Rattle.std.specs.Str.{chars};
 ghost use Rattle.ttl_tokens.specs.Chars.{PastChar, any_case, word, either_case};
-ghost use Rattle.ttl_tokens.specs.NameForms.{IsNoWord, IsWord};
+ghost use Rattle.ttl_tokens.specs.NameForms.{IsNoWord, IsWord, is_word};
 ghost use Rattle.ttl_tokens.specs.Walks.{Never, Only};
 
 use crate::token::TokenKind;
 use crate::walk::{first_char, past_char};
+
+/// Whether a token is a word.
+pub(crate) fn is_word(kind: TokenKind) -> bool
+    ensures { result ≡ is_word kind }
+{
+    matches!(
+        kind,
+        TokenKind::WordA
+            | TokenKind::WordTrue
+            | TokenKind::WordFalse
+            | TokenKind::WordPrefix
+            | TokenKind::WordBase
+    )
+}
 
 /// The word at the front of a text, whatever follows it.
 pub(crate) fn word(text: &str) -> Option<(TokenKind, &str)>

@@ -4,7 +4,7 @@ ghost use Rattle.ttl_tokens.specs.Unescaped.{IsGiven};
 
 use std::alloc::{AllocError, Global};
 use std::test::Fail;
-use ttl_tokens::{Token, TokenKind, next_token};
+use ttl_tokens::{Lookahead, Token, TokenKind, next_token_after};
 
 /// A row as the text before its arrow, and its tokens.
 pub(super) fn cut(row: &str) -> (&str, &str) {
@@ -25,8 +25,9 @@ pub(super) fn text_of(alloc: Global, text: &str) -> Result<String, AllocError> {
 fn tokens_of(alloc: Global, text: &str) -> Result<String, AllocError> {
     let mut found = String::new(alloc);
     let mut at = 0;
+    let mut ahead = Lookahead::new();
     for _ in 0..40 {
-        match next_token(text, at) {
+        match next_token_after(text, at, &mut ahead) {
             Ok(token) => {
                 if token.kind == TokenKind::End {
                     break;

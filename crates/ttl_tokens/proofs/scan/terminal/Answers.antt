@@ -37,7 +37,7 @@ returns-in-Caret c =
 pub returns-in-Name : goal.returns-in-Name
 returns-in-Name c =
     group_answer (λ t. t.0) (λ t. chars t.1.now) _ c.in-Some.ensures (sym c.group_of.ensures ∙ c.in-Name.is)
-    c.name.ensures
+    c.name_after.ensures
 
 pub returns-in-DoubleQuoted : goal.returns-in-DoubleQuoted
 returns-in-DoubleQuoted c =

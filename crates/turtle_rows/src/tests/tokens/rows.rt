@@ -69,6 +69,8 @@ truex→WordTrue true|none at 4
 True→none at 0
 false→WordFalse false|
 falsea→WordFalse false|WordA a|
+aa.a a:b→WordA a|WordA a|Dot .|WordA a|PnameLn a:b|
+aa.:b→WordA a|WordA a|Dot .|PnameLn :b|
 prefix→WordPrefix prefix|
 PreFix→WordPrefix PreFix|
 base→WordBase base|

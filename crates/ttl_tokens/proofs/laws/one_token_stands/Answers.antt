@@ -1,0 +1,8 @@
+use Rattle.ttl_tokens.proofs.OneTokenLemmas.{one_token, token_or_none}
+use Rattle.ttl_tokens.proofs.laws.one_token_stands.Goals as goal
+
+pub returns-clause-one : goal.returns-clause-one
+returns-clause-one c = one_token
+
+pub returns-clause-none : goal.returns-clause-none
+returns-clause-none c = token_or_none

@@ -8,6 +8,7 @@ use Rattle.ttl_tokens.specs.Form.{Empty, Item, Then, Or, Maybe, Many, Times, Tak
 use Rattle.ttl_tokens.specs.Walks.{Never, Only, Same, Apart, Greedy}
 use Rattle.ttl_tokens.specs.Chars.{Chars, PastChar}
 use Rattle.ttl_tokens.specs.CharWalks.{Longest}
+use Rattle.ttl_tokens.proofs.BeginLemmas.{begins_with, never_where, never_where_none}
 use Rattle.ttl_tokens.proofs.FormLemmas.{times_takes, match_only}
 
 -- whether a form of characters may take nothing, and which characters it may begin with
@@ -46,106 +47,37 @@ takes_le (Many a) xs ys t = times_le (Takes PastChar a) (takes_le a) t.0 xs ys t
 
 -- ---- beginnings
 
-or_right : (b : Bool) → (b || true) ≡ true
-or_right true = refl
-or_right false = refl
+-- this character stands first
+abbrev pub StandsFirst : ℕ → List ℕ → Type 0
+StandsFirst c xs = (cs : List ℕ) × (xs ≡ c ∷ cs)
 
-times_begin : (R : List ℕ → List ℕ → Type 0) (c : ℕ) (cs : List ℕ) (B : Bool)
-    → ((ys : List ℕ) → R (c ∷ cs) ys → (B ≡ true) ⊎ (c ∷ cs ≡ ys)) → (n : ℕ) (ys : List ℕ)
-    → Times R n (c ∷ cs) ys → (B ≡ true) ⊎ (c ∷ cs ≡ ys)
-times_begin R c cs B one zero ys e = inr e
-times_begin R c cs B one (suc n) ys t = go (one t.0 t.1) (times_begin R c cs B one n ys)
+char_item : (c : ℕ) (p : ℕ → Bool) (xs ys : List ℕ) → StandsFirst c xs → PastChar p xs ys
+    → (p c ≡ true) ⊎ ((false ≡ true) × StandsFirst c ys)
+char_item c p xs ys s t = inl (first_of (subst (λ v. PastChar p v ys) s.1 t))
   where
-    go : (B ≡ true) ⊎ (c ∷ cs ≡ t.0) → (Times R n (c ∷ cs) ys → (B ≡ true) ⊎ (c ∷ cs ≡ ys))
-        → (B ≡ true) ⊎ (c ∷ cs ≡ ys)
-    go (inl b) more = inl b
-    go (inr e) more = more (subst (λ m. Times R n m ys) (sym e) t.2)
+    first_of : PastChar p (c ∷ s.0) ys → p c ≡ true
+    first_of u = u.0
 
--- what is taken of c ∷ cs begins with c, or it is nothing
-begins_or_nothing : (f : Chars) (c : ℕ) (cs ys : List ℕ) → Takes PastChar f (c ∷ cs) ys
-    → (first f c ≡ true) ⊎ ((takes_nothing f ≡ true) × (c ∷ cs ≡ ys))
-begins_or_nothing Empty c cs ys e = inr (refl, e)
-begins_or_nothing (Item p) c cs ys t = inl t.0
-begins_or_nothing (Then a b) c cs ys t =
-    front (begins_or_nothing a c cs t.0 t.1) (begins_or_nothing b c cs ys)
+end_item : (p : ℕ → Bool) (xs ys : List ℕ) → xs ≡ [] → PastChar p xs ys → (false ≡ true) × (ys ≡ [])
+end_item p xs ys e t = absurd (none (subst (λ v. PastChar p v ys) e t))
   where
-    rest : takes_nothing a ≡ true → (first b c ≡ true) ⊎ ((takes_nothing b ≡ true) × (c ∷ cs ≡ ys))
-        → (first (Then a b) c ≡ true) ⊎ ((takes_nothing (Then a b) ≡ true) × (c ∷ cs ≡ ys))
-    rest empty (inl begin) = inl (rw (empty, begin) (or_right (first a c)))
-    rest empty (inr (nothing, same)) = inr (rw (empty, nothing) refl, same)
-
-    front : (first a c ≡ true) ⊎ ((takes_nothing a ≡ true) × (c ∷ cs ≡ t.0))
-        → (Takes PastChar b (c ∷ cs) ys → (first b c ≡ true) ⊎ ((takes_nothing b ≡ true) × (c ∷ cs ≡ ys)))
-        → (first (Then a b) c ≡ true) ⊎ ((takes_nothing (Then a b) ≡ true) × (c ∷ cs ≡ ys))
-    front (inl begin) more = inl (rw begin refl)
-    front (inr (empty, same)) more = rest empty (more (subst (λ m. Takes PastChar b m ys) (sym same) t.2))
-begins_or_nothing (Or a b) c cs ys (inl t) = left (begins_or_nothing a c cs ys t)
-  where
-    left : (first a c ≡ true) ⊎ ((takes_nothing a ≡ true) × (c ∷ cs ≡ ys))
-        → (first (Or a b) c ≡ true) ⊎ ((takes_nothing (Or a b) ≡ true) × (c ∷ cs ≡ ys))
-    left (inl begin) = inl (rw begin refl)
-    left (inr (empty, same)) = inr (rw empty refl, same)
-begins_or_nothing (Or a b) c cs ys (inr t) = right (begins_or_nothing b c cs ys t)
-  where
-    right : (first b c ≡ true) ⊎ ((takes_nothing b ≡ true) × (c ∷ cs ≡ ys))
-        → (first (Or a b) c ≡ true) ⊎ ((takes_nothing (Or a b) ≡ true) × (c ∷ cs ≡ ys))
-    right (inl begin) = inl (rw begin (or_right (first a c)))
-    right (inr (empty, same)) = inr (rw empty (or_right (takes_nothing a)), same)
-begins_or_nothing (Maybe a) c cs ys (inl e) = inr (refl, e)
-begins_or_nothing (Maybe a) c cs ys (inr t) = some (begins_or_nothing a c cs ys t)
-  where
-    some : (first a c ≡ true) ⊎ ((takes_nothing a ≡ true) × (c ∷ cs ≡ ys))
-        → (first a c ≡ true) ⊎ ((true ≡ true) × (c ∷ cs ≡ ys))
-    some (inl begin) = inl begin
-    some (inr (empty, same)) = inr (refl, same)
-begins_or_nothing (Many a) c cs ys t =
-    let here = λ (zs : List ℕ) (s : Takes PastChar a (c ∷ cs) zs). one zs (begins_or_nothing a c cs zs s) in
-    all (times_begin (Takes PastChar a) c cs (first a c) here t.0 ys t.1)
-  where
-    one : (zs : List ℕ) → (first a c ≡ true) ⊎ ((takes_nothing a ≡ true) × (c ∷ cs ≡ zs))
-        → (first a c ≡ true) ⊎ (c ∷ cs ≡ zs)
-    one zs (inl begin) = inl begin
-    one zs (inr (empty, same)) = inr same
-
-    all : (first a c ≡ true) ⊎ (c ∷ cs ≡ ys) → (first a c ≡ true) ⊎ ((true ≡ true) × (c ∷ cs ≡ ys))
-    all (inl begin) = inl begin
-    all (inr same) = inr (refl, same)
+    none : PastChar p [] ys → ⊥
+    none u = u
 
 pub takes_begins : (f : Chars) (c : ℕ) (cs ys : List ℕ) → takes_nothing f ≡ false
     → Takes PastChar f (c ∷ cs) ys → first f c ≡ true
-takes_begins f c cs ys some t = only (begins_or_nothing f c cs ys t)
-  where
-    only : (first f c ≡ true) ⊎ ((takes_nothing f ≡ true) × (c ∷ cs ≡ ys)) → first f c ≡ true
-    only (inl begin) = begin
-    only (inr (empty, same)) = absurd (true≢false (sym empty ∙ some))
+takes_begins f c cs ys some t =
+    begins_with PastChar (λ p. false) (λ p d. p d) (StandsFirst c) c (char_item c) f (c ∷ cs) ys some
+    (cs, refl) t
 
 pub never_begins : (f : Chars) (c : ℕ) (cs : List ℕ) → takes_nothing f ≡ false → first f c ≡ false
     → Never PastChar f (c ∷ cs)
-never_begins f c cs some other = record {
-  none = λ ys t. true≢false (sym (takes_begins f c cs ys some t) ∙ other);
-}
-
-nothing_at_end : (f : Chars) (ys : List ℕ) → Takes PastChar f [] ys → takes_nothing f ≡ true
-nothing_at_end Empty ys t = refl
-nothing_at_end (Item p) ys t = absurd t
-nothing_at_end (Then a b) ys t = both (nothing_at_end a t.0 t.1) (nothing_at_end b ys)
-  where
-    empty : (xs ys : List ℕ) → length ys ≤ length xs → xs ≡ [] → ys ≡ []
-    empty xs [] le e = refl
-    empty xs (y ∷ ys) le e = absurd (omega (arith, le, ap length e))
-
-    both : takes_nothing a ≡ true → (Takes PastChar b [] ys → takes_nothing b ≡ true)
-        → (takes_nothing a && takes_nothing b) ≡ true
-    both front rest =
-        let left : t.0 ≡ [] = empty [] t.0 (takes_le a [] t.0 t.1) refl in
-        rw (front, rest (subst (λ m. Takes PastChar b m ys) left t.2)) refl
-nothing_at_end (Or a b) ys (inl t) = rw (nothing_at_end a ys t) refl
-nothing_at_end (Or a b) ys (inr t) = rw (nothing_at_end b ys t) (or_right (takes_nothing a))
-nothing_at_end (Maybe a) ys t = refl
-nothing_at_end (Many a) ys t = refl
+never_begins f c cs some other =
+    never_where PastChar (λ p. false) (λ p d. p d) (StandsFirst c) c (char_item c) f (c ∷ cs) some other
+    (cs, refl)
 
 pub never_at_end : (f : Chars) → takes_nothing f ≡ false → Never PastChar f []
-never_at_end f some = record { none = λ ys t. true≢false (sym (nothing_at_end f ys t) ∙ some) }
+never_at_end f some = never_where_none PastChar (λ p. false) (λ xs. xs ≡ []) end_item f [] some refl
 
 pub apart_begins : (f g : Chars) → takes_nothing f ≡ false → takes_nothing g ≡ false
     → ((c : ℕ) → first f c ≡ true → first g c ≡ false) → Apart PastChar f g

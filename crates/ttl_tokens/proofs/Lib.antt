@@ -1,4 +1,5 @@
 pub mod AheadLemmas
+pub mod BeginLemmas
 pub mod CaretLemmas
 pub mod CharLemmas
 pub mod DottedLemmas

@@ -1,17 +1,22 @@
 -- At a place one token stands, and no other.
 use Rattle.std.proofs.Common.{◌≡◌, ℕ, ◌≤◌, ◌<◌, List, [], length, refl, sym, ap, ◌∙◌, subst, ◌⊎◌}
 use Rattle.std.proofs.Common.{inl, inr}
-use Rattle.std.proofs.Common.{arith}
+use Rattle.std.proofs.Common.{arith, false, ◌∷◌}
 use Rattle.std.proofs.Math.ListN.{drop}
+use Rattle.std.proofs.Math.Nat.{eq-or-lt_of_le}
 use Rattle.std.proofs.Math.Utf8.{encodes}
 use Rattle.std.proofs.lemmas.List.{length-drop}
 use Rattle.std.proofs.lemmas.Str.{encodes-chars, IsUtf8-drop}
 use Rattle.std.specs.Str.{IsUtf8, IsCharBoundary, chars}
 use Rattle.ttl_tokens.specs.declared.token.Token.{Token}
 use Rattle.ttl_tokens.specs.declared.token.TokenKind.{TokenKind}
-use Rattle.ttl_tokens.specs.declared.token.TokenKind.TheVariants.{End}
+use Rattle.ttl_tokens.specs.declared.token.TokenKind.TheVariants.{Anon, End, StringQuote, StringSingleQuote}
 use Rattle.ttl_tokens.specs.Tokens.{Stands, IsToken, IsNext, IsTokenAt, IsNoTokenAt}
+use Rattle.ttl_tokens.specs.Blanks.{behind_blanks}
+use Rattle.ttl_tokens.specs.Terminals.{terminal}
+use Rattle.ttl_tokens.proofs.CharLemmas.{takes_shorter}
 use Rattle.ttl_tokens.proofs.GroupLemmas.{nothing_stands_at_end}
+use Rattle.ttl_tokens.proofs.SquareLemmas.{behind_le}
 
 -- two places with the same characters behind them are one
 same_place : (text : List ℕ) (a b : ℕ) → IsUtf8 text → a ≤ length text → b ≤ length text
@@ -101,3 +106,32 @@ token_or_none text at fault t utf8 a n = go (next_is _ t.kind (chars (drop t.end
     go (inr u) =
         n.none.none t.kind (chars (drop t.end text))
         (subst (λ v. Stands t.kind v (chars (drop t.end text))) same u.stands)
+
+stands_shorter : (k : TokenKind) (xs ys : List ℕ) → Stands k xs ys → length ys < length xs
+stands_shorter Anon xs ys t =
+    let inside = behind_le false t.0 in
+    let whole : length xs ≡ length (91 ∷ t.0) = ap length t.1 in
+    let rest : length (behind_blanks t.0) ≡ length (93 ∷ ys) = ap length t.2 in
+    omega (arith, inside, whole, rest)
+stands_shorter StringQuote xs ys t = takes_shorter (terminal StringQuote) xs ys refl t.0
+stands_shorter StringSingleQuote xs ys t = takes_shorter (terminal StringSingleQuote) xs ys refl t.0
+stands_shorter k xs ys t = takes_shorter (terminal k) xs ys refl t
+
+pub some_token : (text : List ℕ) (at : ℕ) (t : Token) → IsTokenAt text at t → (t.kind ≡ End → ⊥)
+    → t.start < t.end
+some_token text at t a other = go (next_is _ t.kind (chars (drop t.end text)) a.next)
+  where
+    empty : t.start ≡ t.end → length (chars (drop t.end text)) < length (chars (drop t.start text)) → ⊥
+    empty e less =
+        let same : length (chars (drop t.start text)) ≡ length (chars (drop t.end text)) =
+        ap (λ (n : ℕ). length (chars (drop n text))) e in
+        omega (arith, same, less)
+
+    go : ((t.kind ≡ End) × (chars (drop t.start text) ≡ []) × (chars (drop t.end text) ≡ []))
+        ⊎ IsToken (chars (drop t.start text)) t.kind (chars (drop t.end text)) → t.start < t.end
+    go (inl e) = absurd (other e.0)
+    go (inr u) = strict (eq-or-lt_of_le a.order)
+      where
+        strict : (t.start ≡ t.end) ⊎ (t.start < t.end) → t.start < t.end
+        strict (inl e) = absurd (empty e (stands_shorter t.kind _ (chars (drop t.end text)) u.stands))
+        strict (inr less) = less

@@ -14,7 +14,7 @@ use Rattle.ttl_tokens.specs.Blanks.{behind, behind_blanks}
 use Rattle.ttl_tokens.specs.Tokens.{Stands, IsAnon}
 use Rattle.ttl_tokens.specs.Groups.{kind_group, IsTokenOf, IsNoTokenOf}
 
-behind_le : (b : Bool) (xs : List ℕ) → length (behind b xs) ≤ length xs
+pub behind_le : (b : Bool) (xs : List ℕ) → length (behind b xs) ≤ length xs
 behind_le true [] = omega arith
 behind_le false [] = omega arith
 behind_le true (c ∷ cs) = step (is_line_end c) (behind_le false cs) (behind_le true cs)

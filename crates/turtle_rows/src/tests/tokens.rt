@@ -4,7 +4,7 @@ ghost use Rattle.ttl_tokens.specs.Unescaped.{IsGiven};
 
 use std::alloc::{AllocError, Global};
 use std::test::Fail;
-use ttl_tokens::{Lookahead, Token, TokenKind, next_token_after};
+use ttl_tokens::{Lookahead, Token, TokenKind, next_token_after, one_token_stands};
 
 /// A row as the text before its arrow, and its tokens.
 pub(super) fn cut(row: &str) -> (&str, &str) {
@@ -100,4 +100,9 @@ fn strings_and_references(rt: HostRuntime) -> Result<(), Fail> {
 fn white_space_and_comments(rt: HostRuntime) -> Result<(), Fail> {
     assert_eq!(rt; first_other(rt.alloc(), rows::BLANKS)?, "");
     Ok(())
+}
+
+#[test]
+fn one_token_stands_at_a_place() {
+    one_token_stands();
 }

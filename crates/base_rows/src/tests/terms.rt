@@ -95,12 +95,20 @@ fn spelled(alloc: Global, term: &Term) -> Result<String, Fail> {
     Ok(String::from_utf8(out)?)
 }
 
+// How the term of a row is written.
+fn spelling_of(row: &str) -> &str {
+    let (_, parts) = cut(row);
+    let (_, second) = cut(parts);
+    let (_, spelling) = cut(second);
+    spelling
+}
+
 // Whether the row's term and a copy of it are equal and written as the row says.
 fn is_spelled(alloc: Global, row: &str) -> Result<bool, Fail> {
     let term = term_of(alloc, row)?;
     let copy = term.copy(alloc)?;
     let spelling = spelled(alloc, &copy)?;
-    Ok(copy == term && row.ends_with(spelling.as_str()))
+    Ok(copy == term && spelling.as_str() == spelling_of(row))
 }
 
 fn first_other_spelling(alloc: Global) -> Result<&'static str, Fail> {

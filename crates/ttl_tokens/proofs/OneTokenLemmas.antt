@@ -19,7 +19,7 @@ use Rattle.ttl_tokens.proofs.GroupLemmas.{nothing_stands_at_end}
 use Rattle.ttl_tokens.proofs.SquareLemmas.{behind_le}
 
 -- two places with the same characters behind them are one
-same_place : (text : List ℕ) (a b : ℕ) → IsUtf8 text → a ≤ length text → b ≤ length text
+pub same_place : (text : List ℕ) (a b : ℕ) → IsUtf8 text → a ≤ length text → b ≤ length text
     → IsCharBoundary text a → IsCharBoundary text b → chars (drop a text) ≡ chars (drop b text) → a ≡ b
 same_place text a b utf8 le_a le_b begin_a begin_b same =
     let rest : drop a text ≡ drop b text =

@@ -1,0 +1,141 @@
+-- From what is kept before an item to what is kept behind it.
+use Rattle.std.proofs.Common.{◌≡◌, ℕ, false, List, [], Option, Some, None, Result, Ok, is_some, reverse}
+use Rattle.std.proofs.Common.{refl, sym, ap, ◌∙◌, subst, string_bytes, bytes_eq, Vec, String, Global}
+use Rattle.std.specs.BTreeMap.{BTreeMap, get_by_text}
+use Rattle.std.specs.Map.{update}
+use Rattle.shx_term.specs.Pool.{Pooled}
+use Rattle.shx_term.specs.declared.term.Literal.{Literal}
+use Rattle.ttl_meaning.specs.declared.context.Context.{Context}
+use Rattle.ttl_meaning.specs.declared.fault.TermFaultKind.{TermFaultKind}
+use Rattle.ttl_meaning.specs.declared.reading.Reading.{Reading}
+use Rattle.ttl_meaning.specs.State.{State, unless_fault, enter}
+use Rattle.ttl_meaning.specs.Items.{put_literal, end_string, used_or_blamed, set_base, bind}
+use Rattle.ttl_meaning.specs.IsStated.{Bounds}
+use Rattle.ttl_meaning.specs.IsReading.{Keeps, IsReading, Does, DoesSound, KeepsOn}
+
+none_by_test : {X : Type 0} (o : Option X) → false ≡ is_some o → o ≡ None
+none_by_test None e = refl
+none_by_test (Some x) e = absurd (cc)
+
+-- what keeps on does the same where there is no fault
+pub sound_where_kept : (act : State → State) (r : Reading) (p : Pooled) (r' : Reading) (p' : Pooled)
+    → KeepsOn act r p r' p' → DoesSound act r p r' p'
+sound_where_kept act r p r' p' on bounds s none keeps =
+    let after = on bounds s keeps in
+    record { fault = after.fault; keeps = λ _. after }
+
+-- where there is no fault, an item does what it does there
+pub item_sound : (act : State → State) (r : Reading) (p : Pooled) (r' : Reading) (p' : Pooled)
+    → false ≡ is_some r.fault → DoesSound act r p r' p' → Does (unless_fault act) r p r' p'
+item_sound act r p r' p' none sound bounds s reads =
+    let same : false ≡ is_some s.fault = none ∙ ap is_some reads.fault in
+    let empty : s.fault ≡ None = none_by_test s.fault same in
+    rw (sym same) (sound bounds s empty (reads.keeps empty))
+
+-- where there is no fault, an item keeps on
+pub item_kept : (act : State → State) (r : Reading) (p : Pooled) (r' : Reading) (p' : Pooled)
+    → false ≡ is_some r.fault → KeepsOn act r p r' p' → Does (unless_fault act) r p r' p'
+item_kept act r p r' p' none on = item_sound act r p r' p' none (sound_where_kept act r p r' p' on)
+
+-- ---- calls in turn
+
+-- two calls that keep on
+pub kept_in_turn : (f g : State → State) (r : Reading) (p : Pooled) (r' : Reading) (p' : Pooled)
+    (r'' : Reading) (p'' : Pooled) → KeepsOn f r p r' p' → KeepsOn g r' p' r'' p''
+    → KeepsOn (λ s. g (f s)) r p r'' p''
+kept_in_turn f g r p r' p' r'' p'' first then bounds s keeps = then bounds (f s) (first bounds s keeps)
+
+-- a context is entered that was made of what stood before
+pub kept_entered : (f : State → State) (context : State → Context) (inner : Context) (r : Reading)
+    (p : Pooled) (r' : Reading) (p' : Pooled) (r'' : Reading) (p'' : Pooled)
+    → ((bounds : Bounds) (s : State) → Keeps bounds s r p → inner ≡ context s)
+    → KeepsOn f r p r' p' → KeepsOn (enter inner) r' p' r'' p''
+    → KeepsOn (λ s. enter (context s) (f s)) r p r'' p''
+kept_entered f context inner r p r' p' r'' p'' same first then bounds s keeps =
+    subst (λ (c : Context). Keeps bounds (enter c (f s)) r'' p'') (same bounds s keeps)
+    (then bounds (f s) (first bounds s keeps))
+
+-- ---- strings
+
+-- the string that waited is taken, and its literal is put
+pub string_ends : (literal : List ℕ → Literal) (held : List ℕ) (made : Literal) (at : ℕ) (r : Reading)
+    (p : Pooled) (r' : Reading) (r'' : Reading) (p'' : Pooled) → held ≡ string_bytes r.held → at ≡ r.held_at
+    → made ≡ literal held → KeepsOn (λ s. record s { held = [] }) r p r' p
+    → DoesSound (put_literal at made) r' p r'' p''
+    → DoesSound (λ s. end_string (literal s.held) s) r p r'' p''
+string_ends literal held made at r p r' r'' p'' said begun is_made taken put bounds s none keeps =
+    let text : held ≡ s.held = said ∙ keeps.held in
+    let place : at ≡ s.held_at = begun ∙ keeps.held_at in
+    let term : made ≡ literal s.held = is_made ∙ ap literal text in
+    let after : State = record s { held = [] } in
+    subst (λ (n : ℕ). IsReading bounds (put_literal n (literal s.held) after) r'' p'') place
+    (subst (λ (l : Literal). IsReading bounds (put_literal at l after) r'' p'') term
+    (put bounds after none (taken bounds s keeps)))
+
+-- ---- IRIs
+
+-- the IRI that was found is used
+pub kept_where_found : (meant : State → Result (List ℕ) TermFaultKind) (act : List ℕ → State → State) (at : ℕ)
+    (iri : List ℕ) (r : Reading) (p : Pooled) (r' : Reading) (p' : Pooled)
+    → ((bounds : Bounds) (s : State) (p : Pooled) → Keeps bounds s r p → meant s ≡ Ok iri)
+    → KeepsOn (act iri) r p r' p' → KeepsOn (λ s. used_or_blamed act at (meant s) s) r p r' p'
+kept_where_found meant act at iri r p r' p' found on bounds s keeps =
+    subst (λ (v : Result (List ℕ) TermFaultKind). Keeps bounds (used_or_blamed act at v s) r' p')
+    (sym (found bounds s p keeps)) (on bounds s keeps)
+
+-- the base is set
+pub kept_base : (iri base : List ℕ) (r : Reading) (p : Pooled) → base ≡ iri
+    → KeepsOn (set_base iri) r p (record r { base = base }) p
+kept_base iri base r p same bounds s keeps = record {
+  fault = keeps.fault;
+  scope = keeps.scope;
+  base = same;
+  prefixes = keeps.prefixes;
+  labels = keeps.labels;
+  next = keeps.next;
+  contexts = keeps.contexts;
+  held = keeps.held;
+  held_at = keeps.held_at;
+  stated = keeps.stated;
+}
+
+-- the namespace stands in the map under the name that was held
+pub kept_bound : (iri : List ℕ) (name : String Global) (m : BTreeMap (String Global) (List ℕ)) (r : Reading)
+    (p : Pooled) (r' : Reading) → string_bytes name ≡ string_bytes r.held
+    → ((cs : List ℕ) → get_by_text m cs
+    ≡ update bytes_eq (get_by_text r'.prefixes) (string_bytes name) (Some iri) cs)
+    → KeepsOn (λ s. record s { held = [] }) r p r' p → KeepsOn (bind iri) r p (record r' { prefixes = m }) p
+kept_bound iri name m r p r' named updated taken bounds s keeps =
+    let after = taken bounds s keeps in
+    let key : string_bytes name ≡ s.held = named ∙ keeps.held in
+    record {
+      fault = after.fault;
+      scope = after.scope;
+      base = after.base;
+      prefixes = λ cs. updated cs ∙ rw (key, after.prefixes cs) refl;
+      labels = after.labels;
+      next = after.next;
+      contexts = after.contexts;
+      held = after.held;
+      held_at = after.held_at;
+      stated = after.stated;
+    }
+
+-- ---- statements
+
+-- the contexts are these
+pub kept_contexts : (contexts : List Context) (v : Vec Context Global) (r : Reading) (p : Pooled)
+    → reverse v.items ≡ contexts
+    → KeepsOn (λ s. record s { contexts = contexts }) r p (record r { contexts = v }) p
+kept_contexts contexts v r p same bounds s keeps = record {
+  fault = keeps.fault;
+  scope = keeps.scope;
+  base = keeps.base;
+  prefixes = keeps.prefixes;
+  labels = keeps.labels;
+  next = keeps.next;
+  contexts = same;
+  held = keeps.held;
+  held_at = keeps.held_at;
+  stated = keeps.stated;
+}

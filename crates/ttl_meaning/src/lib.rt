@@ -1,0 +1,42 @@
+//! What the items of Turtle mean (Turtle 1.1, section 7): the state of a reader, and what each token does to
+//! it. Which tokens may follow one another is none of its matters.
+//!
+//! | file | what it holds |
+//! |---|---|
+//! | `reading.rt` | `Reading`: what a reader of a text knows at a place, and what it has read |
+//! | `items.rt` | what each item of the grammar does |
+//! | `iris.rt` | which IRI a reference or a prefixed name stands for, and what it is used for |
+//! | `directives.rt` | what directives do |
+//! | `nodes.rt` | where a term belongs: contexts, blank nodes and collections |
+//! | `strings.rt` | literals |
+//! | `terms.rt` | the terms that are made |
+//! | `stated.rt` | the triples so far, within the limits |
+//! | `base.rt` | `Base`: the IRI against which references are resolved |
+//! | `document.rt` | `Document`: what a text states |
+//! | `context.rt` | `Context`: what the next term belongs to |
+//! | `fault.rt` | why a term has no place here |
+//!
+//! It stands on `ttl_tokens` for what tokens say, on `iri_resolve`, `value_space` and `shx_term`. Start with
+//! `reading.rt`; `specs/State.antt` and `specs/Items.antt` say what is meant.
+#![tactic(auto)]
+
+mod base;
+mod context;
+mod directives;
+mod document;
+mod fault;
+mod iris;
+mod items;
+mod nodes;
+mod reading;
+mod stated;
+mod strings;
+mod terms;
+
+pub use base::Base;
+pub use context::Context;
+pub use document::{Document, Prefix};
+pub use fault::{TermFault, TermFaultKind};
+pub use iris::IriRole;
+pub use reading::Reading;
+pub use stated::{Excess, Stated};

@@ -1,0 +1,9 @@
+pub mod Depth
+pub mod Documents
+pub mod Follows
+pub mod Grammar
+pub mod Reads
+pub mod Sound
+pub mod Stated
+pub mod Stops
+pub mod Unique

@@ -1,0 +1,83 @@
+ghost use Rattle.std.specs.Prelude.{◌≡◌, ◌≤◌, length, IfOk, IfErr};
+ghost use Rattle.std.specs.Str.{IsCharBoundary, IsUtf8};
+ghost use Rattle.iri_resolve.specs.Resolution.{IsAbsolute};
+ghost use Rattle.ttl_meaning.specs.DocumentOf.{IsDocumentOf};
+ghost use Rattle.ttl_meaning.specs.State.{State};
+ghost use Rattle.ttl_read.specs.Documents.{first_byte, setting};
+ghost use Rattle.ttl_read.specs.Stated.{FaultStands, States};
+
+use crate::fault::TtlFault;
+use crate::reader::{Reader, Tokens};
+use crate::statements::statements;
+use shx_term::{IriText, Limits, Pool, Scope};
+use std::alloc::Global;
+use std::str;
+use ttl_meaning::{Document, Reading};
+
+/// What a text of Turtle states (Turtle 1.1). Its terms are entered into the pool, which after a refusal may
+/// hold more of them. Beside the check of UTF-8 and the undoing of escapes, each token is read twice: it
+/// takes time linear in the text, but for looking up terms by hash and prefixes by name, and memory for what
+/// it gives alone.
+///
+/// # Errors
+///
+/// The fault of the text, with its code and its byte; a text has one at most. `Memory` where an allocation is
+/// refused.
+pub fn read_document(
+    alloc: Global,
+    text: &[u8],
+    base: &IriText,
+    scope: Scope,
+    limits: &Limits,
+    pool: &mut Pool,
+) -> Result<Document, TtlFault>
+    requires absolute { IsAbsolute base.now }
+    requires limit { pool.old.limit ≡ limits.now.terms }
+    ensures document { IfOk result (λ document.
+        States (setting text.now limits.now pool.old.terms) scope base.now document pool.new) }
+    ensures fault { IfErr result
+        (FaultStands (setting text.now limits.now pool.old.terms) scope base.now) }
+{
+    match str::from_utf8(text) {
+        Ok(text) => read_text(alloc, text, base, scope, limits, pool),
+        Err(error) => Err(TtlFault::At {
+            code: 1,
+            at: error.valid_up_to() as u64,
+        }),
+    }
+}
+
+// The same of a text in UTF-8.
+fn read_text(
+    alloc: Global,
+    text: &str,
+    base: &IriText,
+    scope: Scope,
+    limits: &Limits,
+    pool: &mut Pool,
+) -> Result<Document, TtlFault>
+    requires absolute { IsAbsolute base.now }
+    requires limit { pool.old.limit ≡ limits.now.terms }
+    ensures document { IfOk result (λ document.
+        States (setting text.now limits.now pool.old.terms) scope base.now document pool.new) }
+    ensures fault { IfErr result
+        (FaultStands (setting text.now limits.now pool.old.terms) scope base.now) }
+{
+    // A pool never holds more terms than its limit.
+    let _ = pool.len();
+    let tokens = Tokens::at(text, first_byte(text));
+    let reading = Reading::new(alloc, scope, base, limits.triples, pool)?;
+    let mut reader = Reader { tokens, reading };
+    statements(text, limits, &mut reader, pool)?;
+    let Reader { reading, .. } = reader;
+    Ok(reading.finish()?)
+}
+
+// The first byte behind a byte order mark.
+fn first_byte(text: &str) -> usize
+    ensures place { result ≡ first_byte text.now }
+    ensures within { result ≤ length text.now }
+    ensures boundary { IsCharBoundary text.now result }
+{
+    if text.starts_with('\u{feff}') { 3 } else { 0 }
+}

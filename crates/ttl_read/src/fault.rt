@@ -1,0 +1,30 @@
+use std::alloc::AllocError;
+
+/// Why a text is no document, or a token no term.
+#[derive(Clone, Copy, Debug, PartialEq, Eq)]
+pub enum TtlFault {
+    /// The code of the fault, and the byte at which it stands:
+    ///
+    /// | code | the fault, and its byte |
+    /// |---|---|
+    /// | 1 | `NotUtf8`, where the first sequence that is ill formed begins |
+    /// | 2 | `Syntax`, at the start of a statement without derivation |
+    /// | 3 | `UnknownPrefix`, at the prefixed name |
+    /// | 4 | `BadIri`, at the reference |
+    /// | 5, 6 | `FloatLiteral` and `WideValue`, where the literal begins |
+    /// | 7 | `TooDeep`, at the bracket that opens one too many |
+    /// | 8, 9 | `TooManyTriples` and `TooManyTerms`, at the start of the statement |
+    At { code: u32, at: u64 },
+    Memory,
+}
+
+impl From<AllocError> for TtlFault {
+    ghost use Rattle.std.specs.Prelude.{◌≡◌};
+    ghost use Rattle.ttl_read.specs.declared.fault.TtlFault.{TtlFault};
+
+    ghost from_gives = { λ _ fault. fault ≡ TtlFault.Memory };
+
+    fn from(_: AllocError) -> Self {
+        TtlFault::Memory
+    }
+}

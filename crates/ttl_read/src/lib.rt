@@ -1,0 +1,34 @@
+//! Turtle documents (Turtle 1.1): what a text states, or the one fault that it has.
+//!
+//! | file | what it holds |
+//! |---|---|
+//! | `document.rt` | `read_document`, and what it gives |
+//! | `fault.rt` | `TtlFault`: why a text is no document |
+//! | `statements.rt` | the statements of a text, one after the other, and their faults |
+//! | `depth.rt` | the first pass over a statement: how deep its brackets go |
+//! | `statement.rt`, `directive.rt` | the second pass: one statement |
+//! | `triples.rt`, `object.rt`, `collection.rt`, `literal.rt`, `node.rt` | its parts, one function a production |
+//! | `marks.rt` | which tokens are which |
+//! | `reader.rt` | `Reader`: the next token, and what was read before it |
+//!
+//! It stands on `ttl_tokens` for the tokens and on `ttl_meaning` for what they mean. Start with
+//! `document.rt`; `specs/Documents.antt` says what a document is, and `specs/Grammar.antt` what a statement.
+#![tactic(auto)]
+
+mod collection;
+mod depth;
+mod directive;
+mod document;
+mod fault;
+mod literal;
+mod marks;
+mod node;
+mod object;
+mod reader;
+mod statement;
+mod statements;
+mod triples;
+
+pub use document::read_document;
+pub use fault::TtlFault;
+pub use ttl_meaning::{Document, Prefix};

@@ -1,0 +1,16 @@
+//! Documents of Turtle at work, as tests alone: whole texts, and what they state or which fault they have.
+//!
+//! | file | what it holds |
+//! |---|---|
+//! | `tests/seen.rt` | what is seen of a text, as lines |
+//! | `tests/accepted.rt` | texts and what they state, by the tables beside it |
+//! | `tests/refused.rt` | texts and their fault, by the tables beside it |
+//! | `tests/limits.rt` | texts that meet or pass a limit |
+//! | `tests/pools.rt` | texts that are read into one pool |
+//!
+//! It stands on `ttl_read`. A table is a text of rows, and a test asks for the first row that is met
+//! otherwise.
+#![tactic(auto)]
+
+#[cfg(test)]
+mod tests;

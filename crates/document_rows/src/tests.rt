@@ -1,0 +1,5 @@
+mod accepted;
+mod limits;
+mod pools;
+mod refused;
+mod seen;

@@ -1,6 +1,8 @@
 ghost use Rattle.std.specs.Prelude.{◌<◌};
 
-use report_write::{Answer, WriteFault, Writer, add_answer, add_number, write_answer, write_term};
+use report_write::{
+    Answer, TEXT_TOO_LONG, WriteFault, Writer, add_answer, add_number, write_answer, write_term,
+};
 use shx_outside::{MemorySink, Role};
 use shx_term::{
     BlankName, IriText, Label, Literal, LocalName, Memory, NOT_BUILT, Pieces, Scope, Term, Text,
@@ -21,10 +23,10 @@ const ANSWERS: &str = "\
 changed=ok changed=
 unchanged=ok unchanged=
 refused=refused line 18446744073709551615: 59 NotBuilt=
-unknown=refused line 18446744073709551615: 7 =
+unknown=refused line 18446744073709551615: 11 =
 shapes=fault shapes: 59 NotBuilt=
-data=fault data: 59 NotBuilt=
-script=fault script: 59 NotBuilt=
+data=fault data: 10 TextTooLong at 0=
+script=fault script: 4294967295  at 18446744073709551615=
 usage=usage: shacl_keep [--format lines|turtle] [--base IRI] SHAPES DATA [SCRIPT]=
 ";
 
@@ -33,10 +35,10 @@ fn answer_of(word: &str) -> Answer {
         "changed" => Answer::Changed,
         "unchanged" => Answer::Unchanged,
         "refused" => refusal(NOT_BUILT),
-        "unknown" => refusal(7),
-        "shapes" => Answer::NotBuilt { role: Role::Shapes },
-        "data" => Answer::NotBuilt { role: Role::Data },
-        "script" => Answer::NotBuilt { role: Role::Script },
+        "unknown" => refusal(11),
+        "shapes" => fault(Role::Shapes, NOT_BUILT, None),
+        "data" => fault(Role::Data, TEXT_TOO_LONG, Some(0)),
+        "script" => fault(Role::Script, u32::MAX, Some(u64::MAX)),
         _ => Answer::Usage,
     }
 }
@@ -48,6 +50,19 @@ fn refusal(code: u32) -> Answer {
     }
 }
 
+fn fault(role: Role, code: u32, at: Option<u64>) -> Answer {
+    Answer::Fault { role, code, at }
+}
+
+// Whether an answer is put as this text, in pieces of this size.
+fn puts_text(alloc: Global, answer: &Answer, text: &str, piece: usize) -> bool
+    requires { 0 < piece }
+{
+    let mut sink = MemorySink::new(alloc, piece, Vec::new(alloc));
+    let written = write_answer(answer, &mut sink);
+    written.is_ok() && sink.bytes() == text.as_bytes()
+}
+
 // Whether the answer of a row is put as its line, in pieces of this size.
 fn puts_answer(alloc: Global, row: &str, piece: usize) -> Result<bool, Memory>
     requires { 0 < piece }
@@ -56,9 +71,7 @@ fn puts_answer(alloc: Global, row: &str, piece: usize) -> Result<bool, Memory>
         return Ok(false);
     };
     let text = format!(in alloc; "{}\n", line.trim_end_matches('='))?;
-    let mut sink = MemorySink::new(alloc, piece, Vec::new(alloc));
-    let written = write_answer(&answer_of(word), &mut sink);
-    Ok(written.is_ok() && sink.bytes() == text.as_bytes())
+    Ok(puts_text(alloc, &answer_of(word), &text, piece))
 }
 
 // The first row whose answer is put otherwise.
@@ -78,6 +91,53 @@ fn answers_are_put_whole(rt: HostRuntime) -> Result<(), Fail> {
     assert_eq!(rt; first_other_answer(rt.alloc(), 1)?, "");
     assert_eq!(rt; first_other_answer(rt.alloc(), 3)?, "");
     assert_eq!(rt; first_other_answer(rt.alloc(), 4096)?, "");
+    Ok(())
+}
+
+// Each code with its name.
+const NAMES: &str = "\
+1 NotUtf8
+2 Syntax
+3 UnknownPrefix
+4 BadIri
+5 FloatLiteral
+6 WideValue
+7 TooDeep
+8 TooManyTriples
+9 TooManyTerms
+10 TextTooLong
+59 NotBuilt
+";
+
+// Whether a fault with the code of a row is put with its name, without a place and with one.
+fn puts_name(alloc: Global, row: &str) -> Result<bool, Memory> {
+    let Some((code, _)) = row.split_once(' ') else {
+        return Ok(false);
+    };
+    let Ok(code) = code.parse::<u32>() else {
+        return Ok(false);
+    };
+    let unplaced = format!(in alloc; "fault data: {row}\n")?;
+    let placed = format!(in alloc; "fault data: {row} at 120\n")?;
+    Ok(
+        puts_text(alloc, &fault(Role::Data, code, None), &unplaced, 4096)
+            && puts_text(alloc, &fault(Role::Data, code, Some(120)), &placed, 4096),
+    )
+}
+
+// The first row whose name is put otherwise.
+fn first_other_name(alloc: Global) -> Result<&'static str, Memory> {
+    for row in NAMES.lines() {
+        if !puts_name(alloc, row)? {
+            return Ok(row);
+        }
+    }
+    Ok("")
+}
+
+#[test]
+fn codes_are_put_with_their_names(rt: HostRuntime) -> Result<(), Fail> {
+    assert_eq!(rt; first_other_name(rt.alloc())?, "");
     Ok(())
 }
 

@@ -1,5 +1,7 @@
 -- Collections and property lists: members in turn, until a `)`.
-use Rattle.std.proofs.Common.{◌≡◌, ℕ, Bool, true, false, not, ◌&&◌, ◌||◌, List, refl, ap}
+use Rattle.std.proofs.Common.{◌≡◌, ℕ, Bool, true, false, not, ◌&&◌, ◌||◌, List, refl, ap, None}
+use Rattle.std.specs.Str.{IsUtf8}
+use Rattle.std.proofs.lemmas.Bool.{and_left, not-true, or_from, or_left, or_right}
 use Rattle.shx_term.specs.Pool.{Pooled}
 use Rattle.ttl_tokens.specs.declared.token.Token.{Token}
 use Rattle.ttl_tokens.specs.declared.token.TokenKind.{TokenKind}
@@ -10,13 +12,13 @@ use Rattle.ttl_meaning.specs.State.{State}
 use Rattle.ttl_read.specs.declared.reader.Reader.{Reader}
 use Rattle.ttl_read.specs.Follows.{Avoids, takes_no_token, may_begin}
 use Rattle.ttl_read.specs.Grammar.{Rule, is_close_round, is_close_square, member, members, sign, do_}
-use Rattle.ttl_read.specs.Reads.{Reads, Refuses, Passes}
+use Rattle.ttl_read.specs.Reads.{Stands, Reads, Refuses, Passes, next_if}
 use Rattle.ttl_read.specs.Stops.{goes_on, stops_nowhere, predicates_go_on}
-use Rattle.ttl_read.proofs.KindLemmas.{IsObject, at_kind, apart, neither, not_both, denied, left_holds}
-use Rattle.ttl_read.proofs.KindLemmas.{right_holds}
+use Rattle.ttl_read.proofs.HereLemmas.{IsHere, here_refuses, no_follower_unless}
+use Rattle.ttl_read.proofs.KindLemmas.{IsObject, at_kind, apart}
 use Rattle.ttl_read.proofs.PassLemmas.{passes_reads}
 use Rattle.ttl_read.proofs.ReadLemmas.{NoFollower, Goes, goes_to_end, goes_wrong, then_reads, then_refuses}
-use Rattle.ttl_read.proofs.SequenceLemmas.{IsHere, here_refuses, regroup_reads, regroup_refuses}
+use Rattle.ttl_read.proofs.ReadLemmas.{regroup_reads, regroup_refuses}
 
 -- anything but a `)` goes on with members
 abbrev pub goes_without_close : Token → Bool
@@ -45,10 +47,10 @@ tags_no_close k = refl
 -- a member begins as its object does, and takes a token
 member_begins : (cell : State → State) (o : Rule) → IsObject o → (t : Token) → may_begin o t ≡ false
     → may_begin (member cell o) t ≡ false
-member_begins cell o is t e = neither _ _ e (not_both _ _ is.some)
+member_begins cell o is t e = or_from _ _ e (and_left _ _ is.some)
 
 member_some : (cell : State → State) (o : Rule) → IsObject o → takes_no_token (member cell o) ≡ false
-member_some cell o is = not_both _ _ is.some
+member_some cell o is = and_left _ _ is.some
 
 -- behind a member stands another, or a `)`
 pub members_avoid : (o : Rule) → IsObject o → (h : Rule) → Avoids goes_without_close h
@@ -56,32 +58,38 @@ pub members_avoid : (o : Rule) → IsObject o → (h : Rule) → Avoids goes_wit
 members_avoid o is h free = record {
   some = free.some;
   other = λ t e.
-      neither _ _ (member_begins next_cell o is t (is.other t (left_holds _ _ e)))
+      or_from _ _ (member_begins next_cell o is t (is.other t (or_left _ _ e)))
       (free.other t (ap not (apart _ _ (tags_no_close t.kind) e)));
 }
 
 close_only : (a : Bool) → not a ≡ true → a || false ≡ false
-close_only a e = neither _ _ (denied a e) refl
+close_only a e = or_from _ _ (not-true a e) refl
 
 -- ... and behind all of them a `)`
 pub close_avoids : (h : Rule) → Avoids stops_nowhere h
     → Avoids goes_without_close (Then (sign is_close_round end_list) h)
 close_avoids h free = record { some = refl; other = λ t e. close_only (is_close_round t.kind) e }
 
+-- no `)` is here, so nothing that may follow members
+pub no_close : (text : List ℕ) (r : Reader) → IsUtf8 text → Stands text r.tokens
+    → next_if is_close_round r.tokens.next ≡ None → NoFollower text goes_without_close r
+no_close text r utf8 stands none =
+    no_follower_unless text is_close_round goes_without_close r utf8 stands (λ t e. ap not e) none
+
 -- no member begins with a `)`
 pub no_next_member : {text : List ℕ} {r : Reader} {t : Token} (o : Rule) (p : Pooled) (stop : Token → Bool)
     → IsObject o → IsHere text r t → is_close_round t.kind ≡ true → Refuses text (next_member o) stop r p
 no_next_member {t = t} o p stop is here close =
     here_refuses (next_member o) p stop here (member_some next_cell o is)
-    (member_begins next_cell o is t (is.other t (right_holds _ _ close)))
+    (member_begins next_cell o is t (is.other t (or_right _ _ close)))
 
 -- ... nor do all of them
 pub no_members : {text : List ℕ} {r : Reader} {t : Token} (o : Rule) (p : Pooled) (stop : Token → Bool)
     → IsObject o → IsHere text r t → is_close_round t.kind ≡ true → Refuses text (members o) stop r p
 no_members {t = t} o p stop is here close =
-    here_refuses (members o) p stop here (not_both _ _ (member_some first_cell o is))
-    (neither _ _ (member_begins first_cell o is t (is.other t (right_holds _ _ close)))
-    (not_both _ _ (member_some first_cell o is)))
+    here_refuses (members o) p stop here (and_left _ _ (member_some first_cell o is))
+    (or_from _ _ (member_begins first_cell o is t (is.other t (or_right _ _ close)))
+    (and_left _ _ (member_some first_cell o is)))
 
 -- ---- members
 

@@ -78,9 +78,11 @@ none_behind text limit at n t utf8 here fits none place one = go one.tokens one.
 none_is_none : (place : ℕ) → None ≡ Some place → ⊥
 none_is_none place e = absurd (cc)
 
-too_deep_from : (limit place : ℕ) (b : Bool) (o : Option ℕ) → (if b then None else o) ≡ Some place → o ≡ Some place
-too_deep_from limit place true o e = absurd (cc)
-too_deep_from limit place false o e = e
+-- what is found where brackets are counted
+pub too_deep_from : (place : ℕ) (b : Bool) (o : Option ℕ) → (if b then None else o) ≡ Some place
+    → o ≡ Some place
+too_deep_from place true o e = absurd (cc)
+too_deep_from place false o e = e
 
 pub not_too_deep : (text : List ℕ) (limit at : ℕ) → NoneTooMany text limit at 0 → IsNotTooDeep text limit at
 not_too_deep text limit at none place deep = go deep.tokens deep.run deep.first
@@ -90,7 +92,7 @@ not_too_deep text limit at none place deep = go deep.tokens deep.run deep.first
     go (u ∷ us) run e = none place (record {
       tokens = u ∷ us;
       run = run;
-      first = too_deep_from limit place _ _ e;
+      first = too_deep_from place _ _ e;
     })
 
 -- of a statement that begins so no brackets are counted
@@ -111,7 +113,8 @@ pub counted : (text : List ℕ) (limit at place : ℕ) (t : Token) → IsUtf8 te
     → IsTooDeep text limit at place
 counted text limit at place t utf8 here counts one = go one.tokens one.run one.first
   where
-    go : (ts : List Token) → IsRun text at ts → first_too_many limit 0 ts ≡ Some place → IsTooDeep text limit at place
+    go : (ts : List Token) → IsRun text at ts → first_too_many limit 0 ts ≡ Some place
+        → IsTooDeep text limit at place
     go [] run e = absurd (cc)
     go (u ∷ us) run e =
         let same : u ≡ t = one_token text at u t utf8 run.0 here in
@@ -122,21 +125,25 @@ counted text limit at place t utf8 here counts one = go one.tokens one.run one.f
 -- ---- the loop
 
 -- a token that is neither a dot nor the end is behind a place
-pub further : (text : List ℕ) (at : ℕ) (t : Token) → IsTokenAt text at t → is_dot_or_end t.kind ≡ false → at < t.end
+pub further : (text : List ℕ) (at : ℕ) (t : Token) → IsTokenAt text at t → is_dot_or_end t.kind ≡ false
+    → at < t.end
 further text at t here on =
     let some : t.start < t.end =
     some_token text at t here (λ e. true≢false (sym (ap is_dot_or_end e) ∙ on)) in
     omega (arith, here.from, some)
 
 -- a bracket that opens has room, and any other token counts none
-pub fits_where : (b : Bool) (limit n : ℕ) → ((b ≡ true) × (n < limit)) ⊎ (b ≡ false) → (b && nat_le limit n) ≡ false
+pub fits_where : (b : Bool) (limit n : ℕ) → ((b ≡ true) × (n < limit)) ⊎ (b ≡ false)
+    → (b && nat_le limit n) ≡ false
 fits_where true limit n (inl room) = let less : n < limit = room.1 in grind (arith, nat_tests, less)
 fits_where true limit n (inr e) = absurd (cc)
 fits_where false limit n e = refl
 
-pub too_deep_where : (text : List ℕ) (limit at : ℕ) (t : Token) (result : Option ℕ) → IsUtf8 text → IsTokenAt text at t
+pub too_deep_where : (text : List ℕ) (limit at : ℕ) (t : Token) (result : Option ℕ) → IsUtf8 text
+    → IsTokenAt text at t
     → (is_word_prefix t.kind || is_word_base t.kind) ≡ false
     → MatchOption result (NoneTooMany text limit at 0) (IsOneTooMany text limit at 0)
     → MatchOption result (IsNotTooDeep text limit at) (IsTooDeep text limit at)
 too_deep_where text limit at t None utf8 here counts none = not_too_deep text limit at none
-too_deep_where text limit at t (Some place) utf8 here counts one = counted text limit at place t utf8 here counts one
+too_deep_where text limit at t (Some place) utf8 here counts one =
+    counted text limit at place t utf8 here counts one

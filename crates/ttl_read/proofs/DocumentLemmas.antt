@@ -1,14 +1,13 @@
 -- The statements of a text, one after the other.
 use Rattle.std.proofs.Common.{◌≡◌, ℕ, zero, suc, ◌≤◌, true, false, List, length, refl, sym, ap}
-use Rattle.std.proofs.Common.{◌∙◌, ◌⊎◌, subst, inl, inr, true≢false, arith, Option, Some, None, Result, Ok, Err}
+use Rattle.std.proofs.Common.{◌∙◌, ◌⊎◌, subst, inl, inr, true≢false, arith, Option, Some, None, Result, Ok}
+use Rattle.std.proofs.Common.{Err}
 use Rattle.std.specs.Prelude.{IfErr, IsErrAnd}
 use Rattle.std.specs.Str.{IsUtf8, IsValidUpTo}
 use Rattle.std.proofs.lemmas.Str.{utf8_valid_len-IsValidUpTo}
 use Rattle.shx_term.specs.declared.term.Scope.{Scope}
 use Rattle.shx_term.specs.Pool.{Pooled}
 use Rattle.ttl_tokens.specs.declared.token.Token.{Token}
-use Rattle.ttl_tokens.specs.declared.token.TokenKind.{TokenKind}
-use Rattle.ttl_tokens.specs.declared.token.TokenKind.TheVariants.{End}
 use Rattle.ttl_tokens.specs.declared.token.NoToken.{NoToken}
 use Rattle.ttl_tokens.specs.Form.{Times}
 use Rattle.ttl_tokens.proofs.OneTokenLemmas.{one_token, token_or_none, same_place}
@@ -23,18 +22,21 @@ use Rattle.ttl_meaning.specs.State.{State, first_state}
 use Rattle.ttl_read.specs.declared.fault.TtlFault.{TtlFault}
 use Rattle.ttl_read.specs.declared.fault.TtlFault.TheVariants.{At, Memory}
 use Rattle.ttl_read.specs.declared.reader.Reader.{Reader}
-use Rattle.ttl_read.specs.Documents.{Setting, IsStatement, HasCause, IsAtEnd, BeginsAt, HasBadStatement, HasFault}
+use Rattle.ttl_read.specs.Documents.{Setting, IsStatement, HasCause, IsAtEnd, BeginsAt, HasBadStatement}
+use Rattle.ttl_read.specs.Documents.{HasFault}
 use Rattle.ttl_read.specs.Documents.{first_byte, code_of, place_of}
 use Rattle.ttl_read.specs.Grammar.{Place}
 use Rattle.ttl_read.specs.Reads.{Stands, IsNext, place, start_of_next}
 use Rattle.ttl_read.specs.Sound.{IsSound, Led, LedWrong, Concludes, is_end, is_end_next}
 use Rattle.ttl_read.specs.Stated.{States, FaultStands}
 use Rattle.ttl_read.specs.Unique.{One, IsOneFault}
+use Rattle.ttl_read.proofs.KindLemmas.{only_end}
 use Rattle.ttl_read.proofs.UniqueLemmas.{chain, end_never}
 
 -- ---- one statement more
 
-times_more : (R : Place → Place → Type 0) (n : ℕ) (x y z : Place) → Times R n x y → R y z → Times R (suc n) x z
+times_more : (R : Place → Place → Type 0) (n : ℕ) (x y z : Place) → Times R n x y → R y z
+    → Times R (suc n) x z
 times_more R zero x y z e r = (z, subst (λ (u : Place). R u z) (sym e) r, refl)
 times_more R (suc n) x y z s r = (s.0, s.1, times_more R n s.0 y z s.2 r)
 
@@ -54,7 +56,8 @@ leading_on t r p m q r' p' u leading sound s reads =
       reads = next.1;
       count = suc here.count;
       statements =
-          times_more (One t) here.count (place r s) (place m here.state) (place r' next.0) here.statements next.2;
+          times_more (One t) here.count (place r s) (place m here.state) (place r' next.0) here.statements
+          next.2;
     }
 
 -- ---- the end, and a statement with a fault
@@ -71,13 +74,9 @@ not_at_end text at (Ok token) utf8 here more end =
     true≢false (sym (ap is_end (ap (λ (t : Token). t.kind) same ∙ end.2)) ∙ more)
 not_at_end text at (Err none) utf8 here more end = token_or_none text at none.at end.0 utf8 end.1 here
 
-is_end_only : (k : TokenKind) → is_end k ≡ true → k ≡ End
-is_end_only End e = refl
-is_end_only k e = absurd (true≢false (sym e))
-
 pub at_end : (text : List ℕ) (at : ℕ) (n : Result Token NoToken) → IsNext text at n → is_end_next n ≡ true
     → IsAtEnd text at
-at_end text at (Ok token) here end = (token, here, is_end_only token.kind end)
+at_end text at (Ok token) here end = (token, here, only_end token.kind end)
 at_end text at (Err none) here end = absurd (cc)
 
 pub concludes_well : (t : Setting) (r : Reader) (p : Pooled) (r' : Reader) (p' : Pooled) (u : Unit {0})
@@ -86,7 +85,8 @@ pub concludes_well : (t : Setting) (r : Reader) (p : Pooled) (r' : Reader) (p' :
 concludes_well t r p r' p' u leading stands end s reads =
     (leading s reads, at_end t.text r'.tokens.place r'.tokens.next stands.next end)
 
-pub concludes_wrong : (t : Setting) (r : Reader) (p : Pooled) (m : Reader) (q : Pooled) (n : Reader) (o : Pooled)
+pub concludes_wrong : (t : Setting) (r : Reader) (p : Pooled) (m : Reader) (q : Pooled) (n : Reader)
+    (o : Pooled)
     (r' : Reader) (p' : Pooled) (e : TtlFault) (result : Result (Unit {0}) TtlFault)
     → IsUtf8 t.text → IsErrAnd result (λ z. z ≡ e) → Leading t r p m q → Stands t.text m.tokens
     → is_end_next m.tokens.next ≡ false → IsSound t m q n o (Err e) → Concludes t r p r' p' result
@@ -191,7 +191,8 @@ fault_only t x code at c a utf8 wrong bad =
 
 fault_endless : (t : Setting) (x z : Place) (m code at : ℕ) → IsUtf8 t.text → LedWrong t x code at
     → Times (IsStatement t) m x z → IsAtEnd t.text z.at → ⊥
-fault_endless t x z m code at utf8 wrong s end = go (chain t wrong.count m x wrong.reached z wrong.statements s)
+fault_endless t x z m code at utf8 wrong s end =
+    go (chain t wrong.count m x wrong.reached z wrong.statements s)
   where
     go : ((k : ℕ) × Times (IsStatement t) k wrong.reached z) ⊎ ((w : Place) × One t z w) → ⊥
     go (inl (zero, e)) = wrong.more (subst (λ (v : Place). IsAtEnd t.text v.at) (sym e) end)
@@ -213,7 +214,11 @@ states_where t scope base r p r' p' u document utf8 start reads room concludes m
     let end = place r' s in
     let x = start_place t scope base in
     let statements = subst (λ (n : ℕ).
-    Times (One t) led.0.count (record { at = n; state = first_state scope base }) end) start led.0.statements in
+    Times (One t) led.0.count (record {
+      at = n;
+      state =
+          first_state scope base;
+    }) end) start led.0.statements in
     let good = good_behind t led.0.count x end (sound_chain t led.0.count x end statements)
     (record { terms = refl; triples = omega arith; room = room }) in
     let none = no_excess r'.reading.stated.excess t.bounds s r'.reading.stated p' good
@@ -225,7 +230,8 @@ states_where t scope base r p r' p' u document utf8 start reads room concludes m
             ap (λ (v : Place). v.state)
             (end_only t led.0.count is.1.1.0 x end is.1.0 utf8 statements led.1 is.1.1.1 is.1.2)
             ∙ is.1.3;
-        sound = λ code at fault. not_faulty code at fault utf8 (end_sound t led.0.count x end code at utf8 statements led.1);
+        sound = λ code at fault. not_faulty code at fault utf8
+            (end_sound t led.0.count x end code at utf8 statements led.1);
       },
       made s good.terms none led.0.reads,
     )
@@ -236,7 +242,8 @@ states_where t scope base r p r' p' u document utf8 start reads room concludes m
     not_faulty code at (inr bad) utf8 none = none bad.1
 
 -- what is answered otherwise is its fault
-pub fault_where : (t : Setting) (scope : Scope) (base : List ℕ) (r : Reader) (p : Pooled) (r' : Reader) (p' : Pooled)
+pub fault_where : (t : Setting) (scope : Scope) (base : List ℕ) (r : Reader) (p : Pooled) (r' : Reader)
+    (p' : Pooled)
     (e : TtlFault) (result : Result Document TtlFault)
     → IsErrAnd result (λ z. z ≡ e) → IsUtf8 t.text → r.tokens.place ≡ first_byte t.text
     → IsReading t.bounds (first_state scope base) r.reading p → Concludes t r p r' p' (Err e)
@@ -244,7 +251,8 @@ pub fault_where : (t : Setting) (scope : Scope) (base : List ℕ) (r : Reader) (
 fault_where t scope base r p r' p' e (Ok document) is utf8 start reads concludes = tt
 fault_where t scope base r p r' p' e (Err (At code at)) is utf8 start reads concludes =
     one_fault (subst (λ (n : ℕ). LedWrong t (record { at = n; state = first_state scope base }) code at) start
-    ((subst (λ (f : TtlFault). Concludes t r p r' p' (Err f)) (sym is) concludes) (first_state scope base) reads))
+    ((subst (λ (f : TtlFault). Concludes t r p r' p' (Err f)) (sym is) concludes) (first_state scope base)
+    reads))
   where
     bad_of : (x : Place) → LedWrong t x code at → HasBadStatement t x code at
     bad_of x wrong = record {
@@ -265,7 +273,8 @@ fault_where t scope base r p r' p' e (Err (At code at)) is utf8 start reads conc
     one_fault wrong = record {
       is = inr (utf8, bad_of (start_place t scope base) wrong);
       only = other wrong;
-      none = λ s is. fault_endless t (start_place t scope base) is.1.0 is.1.1.0 code at utf8 wrong is.1.1.1 is.1.2;
+      none = λ s is. fault_endless t (start_place t scope base) is.1.0 is.1.1.0 code at utf8 wrong is.1.1.1
+          is.1.2;
     }
 fault_where t scope base r p r' p' e (Err Memory) is utf8 start reads concludes = tt
 

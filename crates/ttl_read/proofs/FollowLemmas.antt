@@ -26,7 +26,8 @@ then_leads {g = g} avoids l k = record {
 }
 
 pub then_fails : {text : List ℕ} {f g : Rule} {stop next : Token → Bool} {x : Place}
-    → ((h : Rule) → Avoids stop h → Avoids next (Then g h)) → Fails text f next x → Fails text (Then f g) stop x
+    → ((h : Rule) → Avoids stop h → Avoids next (Then g h)) → Fails text f next x
+    → Fails text (Then f g) stop x
 then_fails {g = g} avoids n = record { none = λ h a. same_never then_assoc (n.none (Then g h) (avoids h a)) }
 
 pub behind_fails : {text : List ℕ} {f g : Rule} {stop next : Token → Bool} {x m : Place}
@@ -73,7 +74,11 @@ or_fails n m = record { none = λ h a. same_never or_then (or_never (n.none h a)
 
 maybe_then : {text : List ℕ} {f h : Rule} {x : Place}
     → Same (StepsTo text) (Then (Maybe f) h) x (Or h (Then f h)) x
-maybe_then {text = text} {f = f} {h = h} {x = x} = record { to = λ z t. to z t.0 t.1 t.2; back = λ z t. back z t }
+maybe_then {text = text} {f = f} {h = h} {x = x} = record {
+  to = λ z t. to z t.0 t.1 t.2;
+  back =
+      λ z t. back z t;
+}
   where
     to : (z m : Place) → (x ≡ m) ⊎ Takes (StepsTo text) f x m → Takes (StepsTo text) h m z
         → Takes (StepsTo text) h x z ⊎ Takes (StepsTo text) (Then f h) x z
@@ -126,7 +131,8 @@ many_then {text = text} {f = f} {h = h} {x = x} = record {
 pub many_more : {text : List ℕ} {f h : Rule} {stop : Token → Bool} {x m : Place} → Never (StepsTo text) h x
     → Avoids stop (Then (Many f) h) → Leads text f stop x m
     → Same (StepsTo text) (Then (Many f) h) x (Then (Many f) h) m
-many_more {f = f} {h = h} none a l = same_trans many_then (same_trans (right_same none) (l.on (Then (Many f) h) a))
+many_more {f = f} {h = h} none a l =
+    same_trans many_then (same_trans (right_same none) (l.on (Then (Many f) h) a))
 
 -- no more of them
 pub many_end : {text : List ℕ} {f h : Rule} {stop : Token → Bool} {x : Place} → Avoids stop (Then (Many f) h)

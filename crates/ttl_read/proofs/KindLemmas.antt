@@ -1,11 +1,15 @@
 -- With which tokens a form begins: the kind of the next one decides.
-use Rattle.std.proofs.Common.{◌≡◌, ℕ, ◌-◌, ◌<◌, zero, suc, Bool, true, false, not, ◌&&◌, ◌||◌, List, refl}
-use Rattle.std.proofs.Common.{sym, ap, true≢false, arith}
+use Rattle.std.proofs.Common.{◌≡◌, ℕ, ◌-◌, ◌<◌, zero, suc, Bool, true, false, ◌&&◌, ◌||◌, List, refl}
+use Rattle.std.proofs.Common.{sym, true≢false, arith}
 use Rattle.ttl_tokens.specs.declared.token.Token.{Token}
 use Rattle.ttl_tokens.specs.declared.token.TokenKind.{TokenKind}
-use Rattle.ttl_tokens.specs.declared.token.TokenKind.TheVariants.{End}
+use Rattle.ttl_tokens.specs.declared.token.TokenKind.TheVariants.{End, BlankLabel, Anon, WordA, LangTag}
+use Rattle.ttl_tokens.specs.declared.token.TokenKind.TheVariants.{Carets, WordPrefix, WordBase, OpenRound}
+use Rattle.ttl_tokens.specs.declared.token.TokenKind.TheVariants.{OpenSquare}
 use Rattle.ttl_tokens.specs.Form.{Or}
+use Rattle.ttl_read.specs.Sound.{is_end}
 use Rattle.ttl_read.specs.Follows.{takes_no_token, may_begin}
+use Rattle.ttl_read.specs.Grammar.{is_iri, is_blank_label, is_anon, is_word_a, is_word_prefix, is_word_base}
 use Rattle.ttl_read.specs.Grammar.{Rule, is_string, is_bare_literal, is_lang_tag, is_carets, is_open_round}
 use Rattle.ttl_read.specs.Grammar.{is_close_round, is_open_square, node, literal, plain_object, object}
 use Rattle.ttl_read.specs.Grammar.{collection, property_list}
@@ -19,27 +23,57 @@ pub apart : (p q : Bool) → p && q ≡ false → p ≡ true → q ≡ false
 apart true q none holds = none
 apart false q none holds = absurd (true≢false (sym holds))
 
--- ---- tests
+-- ---- tests that hold of one kind alone
 
-pub neither : (a b : Bool) → a ≡ false → b ≡ false → a || b ≡ false
-neither true b e f = e
-neither false b e f = f
+pub only_label : (k : TokenKind) → is_blank_label k ≡ true → k ≡ BlankLabel
+only_label BlankLabel h = refl
+only_label k h = absurd (true≢false (sym h))
 
-pub left_holds : (a b : Bool) → a ≡ true → a || b ≡ true
-left_holds true b e = refl
-left_holds false b e = absurd (true≢false (sym e))
+pub only_anon : (k : TokenKind) → is_anon k ≡ true → k ≡ Anon
+only_anon Anon h = refl
+only_anon k h = absurd (true≢false (sym h))
 
-pub right_holds : (a b : Bool) → b ≡ true → a || b ≡ true
-right_holds true b e = refl
-right_holds false b e = e
+pub only_word_a : (k : TokenKind) → is_word_a k ≡ true → k ≡ WordA
+only_word_a WordA h = refl
+only_word_a k h = absurd (true≢false (sym h))
 
-pub not_both : (a b : Bool) → a ≡ false → a && b ≡ false
-not_both true b e = absurd (true≢false e)
-not_both false b e = refl
+pub only_tag : (k : TokenKind) → is_lang_tag k ≡ true → k ≡ LangTag
+only_tag LangTag h = refl
+only_tag k h = absurd (true≢false (sym h))
 
-pub denied : (a : Bool) → not a ≡ true → a ≡ false
-denied true e = absurd (true≢false (sym e))
-denied false e = refl
+pub only_carets : (k : TokenKind) → is_carets k ≡ true → k ≡ Carets
+only_carets Carets h = refl
+only_carets k h = absurd (true≢false (sym h))
+
+pub only_prefix : (k : TokenKind) → is_word_prefix k ≡ true → k ≡ WordPrefix
+only_prefix WordPrefix h = refl
+only_prefix k h = absurd (true≢false (sym h))
+
+pub only_base : (k : TokenKind) → is_word_base k ≡ true → k ≡ WordBase
+only_base WordBase h = refl
+only_base k h = absurd (true≢false (sym h))
+
+pub only_open_round : (k : TokenKind) → is_open_round k ≡ true → k ≡ OpenRound
+only_open_round OpenRound h = refl
+only_open_round k h = absurd (true≢false (sym h))
+
+pub only_open_square : (k : TokenKind) → is_open_square k ≡ true → k ≡ OpenSquare
+only_open_square OpenSquare h = refl
+only_open_square k h = absurd (true≢false (sym h))
+
+pub only_end : (k : TokenKind) → is_end k ≡ true → k ≡ End
+only_end End h = refl
+only_end k h = absurd (true≢false (sym h))
+
+-- ---- tests of which one holds at most
+
+pub iri_or_blank_node : (k : TokenKind) → is_iri k && (is_blank_label k || is_anon k) ≡ false
+iri_or_blank_node End = refl
+iri_or_blank_node k = refl
+
+pub string_or_bare : (k : TokenKind) → is_string k && is_bare_literal k ≡ false
+string_or_bare End = refl
+string_or_bare k = refl
 
 -- ---- objects without brackets
 
@@ -91,35 +125,6 @@ IsObject-object text (suc depth) = record {
   other = λ t e. apart _ _ (bracketed_other text (object text depth) t.kind) e;
 }
 
--- what an object is, with no bracket or one around
-pub object_none : (text : List ℕ) (depth : ℕ) → depth ≡ 0 → object text depth ≡ plain_object text
-unfolding object
-object_none text depth e = ap (object text) e
-
-pub object_some : (text : List ℕ) (depth : ℕ) → 0 < depth
-    → object text depth ≡ bracketed text (object text (depth - 1))
-unfolding object
-object_some text zero h = absurd (omega arith)
-object_some text (suc depth) h =
-    let less : depth ≡ suc depth - 1 = omega arith in
-    ap (λ n. bracketed text (object text n)) less
-
-abbrev pub is_open : TokenKind → Bool
-is_open k = is_open_round k || is_open_square k
-
--- an opening bracket begins no object without brackets
-pub open_other : (text : List ℕ) (k : TokenKind)
-    → is_open k && may_begin (plain_object text) (at_kind k) ≡ false
-open_other text End = refl
-open_other text k = refl
-
--- ... and each its own form
-pub round_other : (text : List ℕ) (o : Rule) (k : TokenKind)
-    → is_open_round k && may_begin (property_list text o) (at_kind k) ≡ false
-round_other text o End = refl
-round_other text o k = refl
-
-pub square_other : (text : List ℕ) (o : Rule) (k : TokenKind)
-    → is_open_square k && may_begin (collection o) (at_kind k) ≡ false
-square_other text o End = refl
-square_other text o k = refl
+-- a number of brackets that is not 0
+pub one_more : (depth : ℕ) → 0 < depth → depth ≡ suc (depth - 1)
+one_more depth some = omega (arith, some)

@@ -1,23 +1,28 @@
 -- Objects, by the token that comes next, and lists of them.
 use Rattle.std.proofs.Common.{◌≡◌, ℕ, ◌-◌, ◌<◌, zero, suc, Bool, true, false, ◌&&◌, List, refl, sym, subst}
-use Rattle.std.proofs.Common.{true≢false}
+use Rattle.std.proofs.Common.{true≢false, Result}
+use Rattle.std.proofs.lemmas.Bool.{or_from, or_left, or_right}
 use Rattle.shx_term.specs.Pool.{Pooled}
 use Rattle.ttl_tokens.specs.declared.token.Token.{Token}
 use Rattle.ttl_tokens.specs.declared.token.TokenKind.{TokenKind}
 use Rattle.ttl_tokens.specs.declared.token.TokenKind.TheVariants.{End}
 use Rattle.ttl_tokens.specs.Form.{Then, Or, Many}
 use Rattle.ttl_read.specs.declared.reader.Reader.{Reader}
+use Rattle.ttl_read.specs.declared.reader.Refused.{Refused}
+use Rattle.ttl_read.specs.Depth.{is_open}
 use Rattle.ttl_read.specs.Follows.{Avoids, may_begin}
 use Rattle.ttl_read.specs.Grammar.{Rule, is_open_round, is_open_square, is_comma, mark, object, plain_object}
 use Rattle.ttl_read.specs.Grammar.{collection, property_list}
-use Rattle.ttl_read.specs.Reads.{Reads, Refuses}
+use Rattle.ttl_read.specs.Reads.{Reads, Refuses, Parses}
 use Rattle.ttl_read.specs.Stops.{goes_on, stops_nowhere, list_goes_on}
-use Rattle.ttl_read.proofs.KindLemmas.{at_kind, apart, neither, left_holds, right_holds, object_some}
-use Rattle.ttl_read.proofs.KindLemmas.{object_none, is_open, open_other, round_other, square_other}
-use Rattle.ttl_read.proofs.ReadLemmas.{left_reads, right_reads, or_refuses}
-use Rattle.ttl_read.proofs.SequenceLemmas.{IsHere, here_refuses, reads_before, refuses_before}
+use Rattle.ttl_read.proofs.AnswerLemmas.{handed_on, left_parses, right_parses}
+use Rattle.ttl_read.proofs.HereLemmas.{IsHere, here_refuses, here_stops, mark_passes}
+use Rattle.ttl_read.proofs.KindLemmas.{at_kind, apart, one_more}
+use Rattle.ttl_read.proofs.KindLemmas.{only_open_round, only_open_square}
+use Rattle.ttl_read.proofs.ReadLemmas.{Goes, goes_on_with, goes_wrong, passes_then_reads, passes_then_refuses}
+use Rattle.ttl_read.proofs.ReadLemmas.{reads_before, refuses_before}
 
--- what is given of a form that nothing goes on with holds whatever goes on
+-- what nothing goes on with, whatever would go on
 never_stops : (stop : Token → Bool) (t : Token) → stops_nowhere t ≡ true → stop t ≡ true
 never_stops stop t e = absurd (true≢false (sym e))
 
@@ -25,64 +30,43 @@ never_stops stop t e = absurd (true≢false (sym e))
 
 -- a bracket where none may open
 pub no_bracket : {text : List ℕ} {r : Reader} {t : Token} (depth : ℕ) (p : Pooled) → IsHere text r t
-    → is_open t.kind ≡ true → depth ≡ 0 → Refuses text (object text depth) goes_on r p
-no_bracket {text = text} {r = r} {t = t} depth p here bracket none =
-    subst (λ f. Refuses text f goes_on r p) (sym (object_none text depth none))
-    (here_refuses (plain_object text) p goes_on here refl (apart _ _ (open_other text t.kind) bracket))
+    → may_begin (plain_object text) t ≡ false → depth ≡ 0 → Refuses text (object text depth) goes_on r p
+unfolding object
+no_bracket {text = text} {r = r} depth p here other none =
+    subst (λ d. Refuses text (object text d) goes_on r p) (sym none)
+    (here_refuses (plain_object text) p goes_on here refl other)
 
 -- a collection
-pub collection_read : {text : List ℕ} {r r' : Reader} {p p' : Pooled} {t : Token} (depth : ℕ) → 0 < depth
-    → IsHere text r t → is_open_round t.kind ≡ true
-    → Reads text (collection (object text (depth - 1))) stops_nowhere r p r' p'
-    → Reads text (object text depth) goes_on r p r' p'
-collection_read {text = text} {r = r} {r' = r'} {p = p} {p' = p'} {t = t} depth some here bracket a =
+pub collection_object : {text : List ℕ} {r : Reader} {t : Token} (depth : ℕ) → 0 < depth
+    → IsHere text r t → is_open_round t.kind ≡ true → (p : Pooled) (r' : Reader) (p' : Pooled)
+    (result : Result (Unit {0}) Refused)
+    → Parses text (collection (object text (depth - 1))) stops_nowhere r p r' p' result
+    → Parses text (object text depth) goes_on r p r' p' result
+unfolding object
+collection_object {text = text} {r = r} {t = t} depth some here bracket p r' p' result a =
     let o = object text (depth - 1) in
-    let plain = here_refuses (plain_object text) p goes_on here refl
-    (apart _ _ (open_other text t.kind) (left_holds _ _ bracket)) in
-    let other = here_refuses (property_list text o) p goes_on here refl
-    (apart _ _ (round_other text o t.kind) bracket) in
-    subst (λ f. Reads text f goes_on r p r' p') (sym (object_some text depth some))
-    (right_reads plain (left_reads (reads_before (never_stops goes_on) a) other))
-
-pub collection_refused : {text : List ℕ} {r : Reader} {p : Pooled} {t : Token} (depth : ℕ) → 0 < depth
-    → IsHere text r t → is_open_round t.kind ≡ true
-    → Refuses text (collection (object text (depth - 1))) stops_nowhere r p
-    → Refuses text (object text depth) goes_on r p
-collection_refused {text = text} {r = r} {p = p} {t = t} depth some here bracket n =
-    let o = object text (depth - 1) in
-    let plain = here_refuses (plain_object text) p goes_on here refl
-    (apart _ _ (open_other text t.kind) (left_holds _ _ bracket)) in
-    let other = here_refuses (property_list text o) p goes_on here refl
-    (apart _ _ (round_other text o t.kind) bracket) in
-    subst (λ f. Refuses text f goes_on r p) (sym (object_some text depth some))
-    (or_refuses plain (or_refuses (refuses_before (never_stops goes_on) n) other))
+    let round = only_open_round t.kind bracket in
+    subst (λ d. Parses text (object text d) goes_on r p r' p' result) (sym (one_more depth some))
+    (right_parses (here_refuses (plain_object text) p goes_on here refl (rw round refl)) _ r' p' result
+    (left_parses (here_refuses (property_list text o) p goes_on here refl (rw round refl)) _ r' p' result
+    (handed_on result a (λ a. reads_before (never_stops goes_on) a)
+    (λ n. refuses_before (never_stops goes_on) n))))
 
 -- a list of properties
-pub property_list_read : {text : List ℕ} {r r' : Reader} {p p' : Pooled} {t : Token} (depth : ℕ) → 0 < depth
-    → IsHere text r t → is_open_square t.kind ≡ true
-    → Reads text (property_list text (object text (depth - 1))) stops_nowhere r p r' p'
-    → Reads text (object text depth) goes_on r p r' p'
-property_list_read {text = text} {r = r} {r' = r'} {p = p} {p' = p'} {t = t} depth some here bracket a =
+pub property_list_object : {text : List ℕ} {r : Reader} {t : Token} (depth : ℕ) → 0 < depth
+    → IsHere text r t → is_open_square t.kind ≡ true → (p : Pooled) (r' : Reader) (p' : Pooled)
+    (result : Result (Unit {0}) Refused)
+    → Parses text (property_list text (object text (depth - 1))) stops_nowhere r p r' p' result
+    → Parses text (object text depth) goes_on r p r' p' result
+unfolding object
+property_list_object {text = text} {r = r} {t = t} depth some here bracket p r' p' result a =
     let o = object text (depth - 1) in
-    let plain = here_refuses (plain_object text) p goes_on here refl
-    (apart _ _ (open_other text t.kind) (right_holds _ _ bracket)) in
-    let other = here_refuses (collection o) p goes_on here refl
-    (apart _ _ (square_other text o t.kind) bracket) in
-    subst (λ f. Reads text f goes_on r p r' p') (sym (object_some text depth some))
-    (right_reads plain (right_reads other (reads_before (never_stops goes_on) a)))
-
-pub property_list_refused : {text : List ℕ} {r : Reader} {p : Pooled} {t : Token} (depth : ℕ) → 0 < depth
-    → IsHere text r t → is_open_square t.kind ≡ true
-    → Refuses text (property_list text (object text (depth - 1))) stops_nowhere r p
-    → Refuses text (object text depth) goes_on r p
-property_list_refused {text = text} {r = r} {p = p} {t = t} depth some here bracket n =
-    let o = object text (depth - 1) in
-    let plain = here_refuses (plain_object text) p goes_on here refl
-    (apart _ _ (open_other text t.kind) (right_holds _ _ bracket)) in
-    let other = here_refuses (collection o) p goes_on here refl
-    (apart _ _ (square_other text o t.kind) bracket) in
-    subst (λ f. Refuses text f goes_on r p) (sym (object_some text depth some))
-    (or_refuses plain (or_refuses other (refuses_before (never_stops goes_on) n)))
+    let square = only_open_square t.kind bracket in
+    subst (λ d. Parses text (object text d) goes_on r p r' p' result) (sym (one_more depth some))
+    (right_parses (here_refuses (plain_object text) p goes_on here refl (rw square refl)) _ r' p' result
+    (right_parses (here_refuses (collection o) p goes_on here refl (rw square refl)) _ r' p' result
+    (handed_on result a (λ a. reads_before (never_stops goes_on) a)
+    (λ n. refuses_before (never_stops goes_on) n))))
 
 -- none of both
 closed_other : (text : List ℕ) (o : Rule) (k : TokenKind) → is_open k ≡ false
@@ -90,25 +74,17 @@ closed_other : (text : List ℕ) (o : Rule) (k : TokenKind) → is_open k ≡ fa
 closed_other text o End e = refl
 closed_other text o k e = e
 
-pub plain_read : {text : List ℕ} {r r' : Reader} {p p' : Pooled} {t : Token} (depth : ℕ) → IsHere text r t
-    → is_open t.kind ≡ false → Reads text (plain_object text) goes_on r p r' p'
-    → Reads text (object text depth) goes_on r p r' p'
+pub other_object : {text : List ℕ} {r : Reader} {t : Token} (depth : ℕ) → IsHere text r t
+    → is_open t.kind ≡ false → (p : Pooled) (r' : Reader) (p' : Pooled)
+    (result : Result (Unit {0}) Refused)
+    → Parses text (plain_object text) goes_on r p r' p' result
+    → Parses text (object text depth) goes_on r p r' p' result
 unfolding object
-plain_read zero here closed a = a
-plain_read {text = text} {p = p} {t = t} (suc depth) here closed a =
+other_object zero here closed p r' p' result a = a
+other_object {text = text} {t = t} (suc depth) here closed p r' p' result a =
     let o = object text depth in
-    left_reads a (here_refuses (Or (collection o) (property_list text o)) p goes_on here refl
-    (closed_other text o t.kind closed))
-
-pub plain_refused : {text : List ℕ} {r : Reader} {p : Pooled} {t : Token} (depth : ℕ) → IsHere text r t
-    → is_open t.kind ≡ false → Refuses text (plain_object text) goes_on r p
-    → Refuses text (object text depth) goes_on r p
-unfolding object
-plain_refused zero here closed n = n
-plain_refused {text = text} {p = p} {t = t} (suc depth) here closed n =
-    let o = object text depth in
-    or_refuses n (here_refuses (Or (collection o) (property_list text o)) p goes_on here refl
-    (closed_other text o t.kind closed))
+    left_parses (here_refuses (Or (collection o) (property_list text o)) p goes_on here refl
+    (closed_other text o t.kind closed)) _ r' p' result a
 
 -- ---- lists of objects
 
@@ -122,9 +98,28 @@ pub commas_avoid : (o h : Rule) → Avoids list_goes_on h
     → Avoids goes_on (Then (Many (Then (mark is_comma) o)) h)
 commas_avoid o h free = record {
   some = free.some;
-  other = λ t e. neither _ _ (apart _ _ (comma_other o t.kind) e) (free.other t (left_holds _ _ e));
+  other = λ t e. or_from _ _ (apart _ _ (comma_other o t.kind) e) (free.other t (or_left _ _ e));
 }
 
 -- another object stands behind a comma
 pub no_comma : (o : Rule) (t : Token) → is_comma t.kind ≡ false → may_begin (Then (mark is_comma) o) t ≡ false
-no_comma o t e = neither _ _ e refl
+no_comma o t e = or_from _ _ e refl
+
+-- a comma is here, and an object behind it
+pub another_object : {text : List ℕ} {f o : Rule} {r m r' : Reader} {p q p' : Pooled} {t : Token} (n : Reader)
+    → IsHere text m t → is_comma t.kind ≡ true → n.reading ≡ m.reading → n.tokens.place ≡ t.end
+    → Goes text f (Then (mark is_comma) o) list_goes_on r p m q → Reads text o goes_on n q r' p'
+    → Goes text f (Then (mark is_comma) o) list_goes_on r p r' p'
+another_object {o = o} {q = q} {t = t} n here comma same behind goes a =
+    goes_on_with (commas_avoid o)
+    (here_stops list_goes_on here (or_right (goes_on t) (is_comma t.kind) comma)) goes
+    (passes_then_reads (mark_passes is_comma n q here comma same behind) a)
+
+-- ... or none
+pub no_other_object : {text : List ℕ} {f o : Rule} {r m : Reader} {p q : Pooled} {t : Token} (n : Reader)
+    → IsHere text m t → is_comma t.kind ≡ true → n.reading ≡ m.reading → n.tokens.place ≡ t.end
+    → Goes text f (Then (mark is_comma) o) list_goes_on r p m q → Refuses text o goes_on n q
+    → Refuses text f list_goes_on r p
+no_other_object {o = o} {q = q} {t = t} n here comma same behind goes none =
+    goes_wrong (commas_avoid o) (here_stops list_goes_on here (or_right (goes_on t) (is_comma t.kind) comma))
+    goes (passes_then_refuses (mark_passes is_comma n q here comma same behind) none)

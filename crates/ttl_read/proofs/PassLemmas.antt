@@ -1,47 +1,20 @@
 -- Laws of what leads past a form that nothing follows, and of what is nowhere.
-use Rattle.std.proofs.Common.{◌≡◌, ℕ, Bool, true, false, List, sym, ap, ◌∙◌, subst, Result, Ok, Err}
-use Rattle.std.proofs.Common.{◌<◌, arith, true≢false}
-use Rattle.std.specs.Str.{IsUtf8}
+use Rattle.std.proofs.Common.{◌≡◌, ℕ, Bool, List, sym, ap, subst}
 use Rattle.shx_term.specs.Pool.{Pooled}
 use Rattle.ttl_tokens.specs.declared.token.Token.{Token}
-use Rattle.ttl_tokens.specs.declared.token.NoToken.{NoToken}
-use Rattle.ttl_tokens.specs.declared.token.TokenKind.{TokenKind}
-use Rattle.ttl_tokens.specs.declared.token.TokenKind.TheVariants.{End}
 use Rattle.ttl_tokens.specs.Form.{Item, Then, Or}
-use Rattle.ttl_tokens.specs.Tokens.{IsTokenAt}
 use Rattle.ttl_tokens.specs.Walks.{Only}
 use Rattle.ttl_tokens.proofs.FormLemmas.{same_only, same_never, then_same, then_never, left_same, right_same}
 use Rattle.ttl_tokens.proofs.FormLemmas.{or_never}
-use Rattle.ttl_tokens.proofs.OneTokenLemmas.{some_token}
 use Rattle.ttl_meaning.specs.IsReading.{Does}
 use Rattle.ttl_meaning.specs.State.{State}
 use Rattle.ttl_read.specs.declared.reader.Reader.{Reader}
 use Rattle.ttl_read.specs.declared.reader.Tokens.{Tokens}
-use Rattle.ttl_read.specs.Follows.{Avoids, takes_no_token, may_begin}
-use Rattle.ttl_read.specs.Grammar.{Rule, StepsTo, One, Do}
-use Rattle.ttl_read.specs.Reads.{Stands, Advances, IsNext, Passes, IsNowhere, Reads, Refuses, place}
-use Rattle.ttl_read.proofs.StepLemmas.{one_only, do_only, never_here, never_at_none}
+use Rattle.ttl_read.specs.Follows.{Avoids}
+use Rattle.ttl_read.specs.Grammar.{Rule, StepsTo, Do}
+use Rattle.ttl_read.specs.Reads.{Passes, IsNowhere, Reads, Refuses, place}
+use Rattle.ttl_read.proofs.StepLemmas.{do_only}
 use Rattle.ttl_read.proofs.FollowLemmas.{only_leads, never_fails}
-
--- ---- items
-
--- the next token, of which the test holds, is passed, and the item is done
-pub one_passes : (text : List ℕ) (test : Token → Bool) (act : Token → State → State) (t : Token)
-    (r : Reader) (p : Pooled) (r' : Reader) (p' : Pooled)
-    → IsUtf8 text → Stands text r.tokens → r.tokens.next ≡ Ok t → test t ≡ true
-    → Does (act t) r.reading p r'.reading p' → r'.tokens.place ≡ t.end
-    → Passes text (Item (One test act)) r p r' p'
-one_passes text test act t r p r' p' utf8 stands next holds does behind = record {
-  on = λ bounds s reads.
-      let here : IsTokenAt text r.tokens.place t =
-      subst (λ (n : Result Token NoToken). IsNext text r.tokens.place n) next stands.next in (
-        act t s,
-        does bounds s reads,
-        subst (λ (n : ℕ). Only (StepsTo text) (Item (One test act)) (place r s)
-            (record { at = n; state = act t s })) (sym behind)
-            (one_only text test act (place r s) t utf8 here holds),
-      );
-}
 
 -- something is done between tokens
 pub do_passes : (text : List ℕ) (act : State → State) (r : Reader) (p : Pooled) (r' : Reader) (p' : Pooled)
@@ -53,26 +26,6 @@ do_passes text act r p r' p' does same = record {
     subst (λ (n : ℕ). Only (StepsTo text) (Item (Do act)) (place r s) (record { at = n; state = act s }))
         (sym (ap (λ (t : Tokens). t.place) same)) (do_only text act (place r s)),
   );
-}
-
--- the next token is none that the form begins with
-pub here_nowhere : (text : List ℕ) (f : Rule) (t : Token) (r : Reader) (p : Pooled)
-    → IsUtf8 text → Stands text r.tokens → r.tokens.next ≡ Ok t → takes_no_token f ≡ false
-    → may_begin f t ≡ false → IsNowhere text f r p
-here_nowhere text f t r p utf8 stands next some other = record {
-  none = λ bounds s reads.
-      never_here text f (place r s) t utf8 some other
-      (subst (λ (n : Result Token NoToken). IsNext text r.tokens.place n) next stands.next);
-}
-
--- no token begins here
-pub none_nowhere : (text : List ℕ) (f : Rule) (n : NoToken) (r : Reader) (p : Pooled)
-    → IsUtf8 text → Stands text r.tokens → r.tokens.next ≡ Err n → takes_no_token f ≡ false
-    → IsNowhere text f r p
-none_nowhere text f n r p utf8 stands next some = record {
-  none = λ bounds s reads.
-      never_at_none text f (place r s) n.at utf8 some
-      (subst (λ (n : Result Token NoToken). IsNext text r.tokens.place n) next stands.next);
 }
 
 -- ---- sequences
@@ -153,16 +106,3 @@ reads_then_nowhere {g = g} avoids a n = record {
 pub refuses_then : {text : List ℕ} {f g : Rule} {stop : Token → Bool} {r : Reader} {p : Pooled}
     → Avoids stop g → Refuses text f stop r p → IsNowhere text (Then f g) r p
 refuses_then {g = g} avoids n = record { none = λ bounds s reads. (n.none bounds s reads).none g avoids }
-
--- ---- further on
-
--- past a token that is not the end
-pub one_advances : (text : List ℕ) (test : TokenKind → Bool) (t : Token) (old new : Tokens)
-    → test End ≡ false → test t.kind ≡ true → Stands text old → old.next ≡ Ok t → Stands text new
-    → new.place ≡ t.end → Advances text old new
-one_advances text test t old new apart holds stands next behind place =
-    let here : IsTokenAt text old.place t =
-    subst (λ (n : Result Token NoToken). IsNext text old.place n) next stands.next in
-    let some : t.start < t.end =
-    some_token text old.place t here (λ e. true≢false (sym holds ∙ ap test e ∙ apart)) in
-    record { stands = behind; further = omega (arith, here.from, some, place) }

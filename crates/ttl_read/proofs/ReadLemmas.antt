@@ -1,9 +1,8 @@
 -- Laws of what a reader finds of a form, whatever may follow it.
-use Rattle.std.proofs.Common.{◌≡◌, ℕ, Bool, true, List, subst, Result, Ok, Err}
-use Rattle.std.specs.Str.{IsUtf8}
+use Rattle.std.proofs.Common.{◌≡◌, ℕ, Bool, true, List, sym, true≢false}
+use Rattle.std.proofs.lemmas.Bool.{and_right}
 use Rattle.shx_term.specs.Pool.{Pooled}
 use Rattle.ttl_tokens.specs.declared.token.Token.{Token}
-use Rattle.ttl_tokens.specs.declared.token.NoToken.{NoToken}
 use Rattle.ttl_tokens.specs.Form.{Then, Or, Maybe, Many, Item}
 use Rattle.ttl_tokens.specs.Walks.{Same}
 use Rattle.ttl_tokens.proofs.FormLemmas.{same_trans, same_never, then_same, then_assoc}
@@ -11,12 +10,16 @@ use Rattle.ttl_meaning.specs.IsReading.{IsReading}
 use Rattle.ttl_meaning.specs.IsStated.{Bounds}
 use Rattle.ttl_meaning.specs.State.{State}
 use Rattle.ttl_read.specs.declared.reader.Reader.{Reader}
-use Rattle.ttl_read.specs.Follows.{Avoids}
-use Rattle.ttl_read.specs.Grammar.{Rule, StepsTo, Do}
-use Rattle.ttl_read.specs.Reads.{Stands, IsNext, Reads, Refuses, place}
-use Rattle.ttl_read.proofs.StepLemmas.{do_only, never_here, never_at_none}
-use Rattle.ttl_read.proofs.FollowLemmas.{then_leads, then_fails, behind_fails, left_leads, right_leads, or_fails}
-use Rattle.ttl_read.proofs.FollowLemmas.{NoneFollows, maybe_there, maybe_absent, maybe_fails, many_more, many_end}
+use Rattle.ttl_read.specs.Follows.{Avoids, takes_no_token}
+use Rattle.ttl_read.specs.Grammar.{Place, Rule, StepsTo, Do}
+use Rattle.ttl_read.specs.Reads.{Passes, Reads, Refuses, place}
+use Rattle.ttl_read.specs.Stops.{stops_nowhere}
+use Rattle.ttl_read.proofs.PassLemmas.{passes_reads}
+use Rattle.ttl_read.proofs.StepLemmas.{do_only}
+use Rattle.ttl_read.proofs.FollowLemmas.{then_leads, then_fails, behind_fails, left_leads, right_leads}
+use Rattle.ttl_read.proofs.FollowLemmas.{or_fails}
+use Rattle.ttl_read.proofs.FollowLemmas.{NoneFollows, maybe_there, maybe_absent, maybe_fails, many_more}
+use Rattle.ttl_read.proofs.FollowLemmas.{many_end}
 use Rattle.ttl_read.proofs.FollowLemmas.{many_fails}
 
 -- ---- sequences: what follows f is g with whatever follows it
@@ -45,6 +48,72 @@ behind_refuses avoids a n = record {
       behind_fails avoids first.2 (n.none bounds first.0 first.1);
 }
 
+-- ---- what nothing goes on with, and then whatever may follow
+
+-- any form may stand behind
+pub nothing_goes_on : {stop : Token → Bool} (g h : Rule) → Avoids stop h → Avoids stops_nowhere (Then g h)
+nothing_goes_on g h free = record {
+  some = and_right (takes_no_token g) _ free.some;
+  other = λ t e. absurd (true≢false (sym e));
+}
+
+pub passes_then_reads : {text : List ℕ} {f g : Rule} {stop : Token → Bool} {r m r' : Reader} {p q p' : Pooled}
+    → Passes text f r p m q → Reads text g stop m q r' p' → Reads text (Then f g) stop r p r' p'
+passes_then_reads {g = g} a b = then_reads (nothing_goes_on g) (passes_reads a) b
+
+pub passes_then_refuses : {text : List ℕ} {f g : Rule} {stop : Token → Bool} {r m : Reader} {p q : Pooled}
+    → Passes text f r p m q → Refuses text g stop m q → Refuses text (Then f g) stop r p
+passes_then_refuses {g = g} a n = behind_refuses (nothing_goes_on g) (passes_reads a) n
+
+-- ---- a sequence of three, however it is grouped
+
+then_regroup : {text : List ℕ} {a b c g : Rule} {x : Place}
+    → Same (StepsTo text) (Then (Then a (Then b c)) g) x (Then (Then (Then a b) c) g) x
+then_regroup = record {
+  to = λ z t. (t.0, (t.1.2.0, (t.1.0, t.1.1, t.1.2.1), t.1.2.2), t.2);
+  back = λ z t. (t.0, (t.1.1.0, t.1.1.1, (t.1.0, t.1.1.2, t.1.2)), t.2);
+}
+
+pub regroup_reads : {text : List ℕ} {a b c : Rule} {stop : Token → Bool} {r r' : Reader} {p p' : Pooled}
+    → Reads text (Then (Then a b) c) stop r p r' p' → Reads text (Then a (Then b c)) stop r p r' p'
+regroup_reads f = record {
+  on = λ bounds s reads.
+      let first = f.on bounds s reads in
+      (first.0, first.1, record { on = λ h free. same_trans then_regroup (first.2.on h free) });
+}
+
+pub regroup_refuses : {text : List ℕ} {a b c : Rule} {stop : Token → Bool} {r : Reader} {p : Pooled}
+    → Refuses text (Then (Then a b) c) stop r p → Refuses text (Then a (Then b c)) stop r p
+regroup_refuses n = record {
+  none = λ bounds s reads. record {
+    none = λ h free. same_never then_regroup ((n.none bounds s reads).none h free);
+  };
+}
+
+-- ---- fewer followers
+
+pub avoids_fewer : {stop more : Token → Bool} {h : Rule} → ((t : Token) → stop t ≡ true → more t ≡ true)
+    → Avoids more h → Avoids stop h
+avoids_fewer within free = record { some = free.some; other = λ t e. free.other t (within t e) }
+
+-- where more tokens would go on, fewer forms may follow
+pub reads_before : {text : List ℕ} {f : Rule} {stop more : Token → Bool} {r r' : Reader} {p p' : Pooled}
+    → ((t : Token) → stop t ≡ true → more t ≡ true) → Reads text f stop r p r' p'
+    → Reads text f more r p r' p'
+reads_before within a = record {
+  on = λ bounds s reads.
+      let first = a.on bounds s reads in
+      (first.0, first.1, record { on = λ h free. first.2.on h (avoids_fewer within free) });
+}
+
+pub refuses_before : {text : List ℕ} {f : Rule} {stop more : Token → Bool} {r : Reader} {p : Pooled}
+    → ((t : Token) → stop t ≡ true → more t ≡ true) → Refuses text f stop r p → Refuses text f more r p
+refuses_before within n = record {
+  none = λ bounds s reads. record {
+    none = λ h free. (n.none bounds s reads).none h (avoids_fewer within free);
+  };
+}
+
 -- ---- choices
 
 pub left_reads : {text : List ℕ} {f g : Rule} {stop : Token → Bool} {r r' : Reader} {p p' : Pooled}
@@ -71,24 +140,6 @@ or_refuses n m = record { none = λ bounds s reads. or_fails (n.none bounds s re
 
 pub record NoFollower (text : List ℕ) (stop : Token → Bool) (r : Reader) : Type 0 where
   pub none : (s : State) → NoneFollows text stop (place r s)
-
--- the next token would go on
-pub stop_here : (text : List ℕ) (stop : Token → Bool) (t : Token) (r : Reader) → IsUtf8 text
-    → Stands text r.tokens → r.tokens.next ≡ Ok t → stop t ≡ true → NoFollower text stop r
-stop_here text stop t r utf8 stands next on = record {
-  none = λ s h avoids.
-      never_here text h (place r s) t utf8 avoids.some (avoids.other t on)
-      (subst (λ (n : Result Token NoToken). IsNext text r.tokens.place n) next stands.next);
-}
-
--- no token begins here
-pub stop_at_none : (text : List ℕ) (stop : Token → Bool) (n : NoToken) (r : Reader) → IsUtf8 text
-    → Stands text r.tokens → r.tokens.next ≡ Err n → NoFollower text stop r
-stop_at_none text stop n r utf8 stands next = record {
-  none = λ s h avoids.
-      never_at_none text h (place r s) n.at utf8 avoids.some
-      (subst (λ (n : Result Token NoToken). IsNext text r.tokens.place n) next stands.next);
-}
 
 -- what is done between tokens leads nowhere, where no follower is here
 pub do_refuses : {text : List ℕ} {act : State → State} {stop : Token → Bool} {r : Reader} {p : Pooled}
@@ -135,7 +186,8 @@ goes_first {unit = unit} avoids a = record {
       (first.0, first.1, λ h free. same_trans then_assoc (first.2.on (Then (Many unit) h) (avoids h free)));
 }
 
-pub goes_on_with : {text : List ℕ} {f unit : Rule} {stop next : Token → Bool} {r m r' : Reader} {p q p' : Pooled}
+pub goes_on_with : {text : List ℕ} {f unit : Rule} {stop next : Token
+    → Bool} {r m r' : Reader} {p q p' : Pooled}
     → ((h : Rule) → Avoids stop h → Avoids next (Then (Many unit) h)) → NoFollower text stop m
     → Goes text f unit stop r p m q → Reads text unit next m q r' p' → Goes text f unit stop r p r' p'
 goes_on_with avoids none a b = record {
@@ -158,7 +210,8 @@ goes_to_end avoids a n = record {
         first.0,
         first.1,
         record {
-          on = λ h free. same_trans (first.2 h free) (many_end (avoids h free) (n.none bounds first.0 first.1));
+          on = λ h free. same_trans (first.2 h free)
+              (many_end (avoids h free) (n.none bounds first.0 first.1));
         },
       );
 }

@@ -1,5 +1,6 @@
 -- The fault of a statement, or that it has none.
-use Rattle.std.proofs.Common.{◌≡◌, ℕ, ◌≤◌, length, arith, refl, sym, ap, ◌∙◌, subst, Option, Some, None, Result, Ok, Err}
+use Rattle.std.proofs.Common.{◌≡◌, ℕ, ◌≤◌, length, arith, refl, sym, ap, ◌∙◌, subst, Option, Some, None}
+use Rattle.std.proofs.Common.{Result, Ok, Err}
 use Rattle.std.specs.Str.{IsUtf8}
 use Rattle.shx_term.specs.Pool.{Pooled}
 use Rattle.ttl_tokens.specs.Walks.{Only}
@@ -27,8 +28,17 @@ use Rattle.ttl_read.specs.Sound.{IsJudged, IsSound}
 pub term_judged : (t : Setting) (x y : Place) (r : Reading) (p : Pooled) (start code : ℕ) (fault : TermFault)
     → IsReading t.bounds y.state r p → Settled t x y → r.fault ≡ Some fault
     → code ≡ code_of_term fault.kind → HasOneCauseAt t x start code fault.at
-term_judged t x y r p start code fault reads settled is number =
-    (BadTerm fault, one_cause t x y (BadTerm fault) settled (y, settled.derived, sym reads.fault ∙ is), sym number, refl)
+term_judged t x y r p start code fault reads settled is number = (
+  BadTerm fault,
+  one_cause t x y (BadTerm fault) settled (
+    y,
+    settled.derived,
+    sym reads.fault
+        ∙ is,
+  ),
+  sym number,
+  refl,
+)
 
 pub triples_judged : (t : Setting) (x y : Place) (r : Reading) (p : Pooled) (start : ℕ)
     → IsReading t.bounds y.state r p → Settled t x y → r.fault ≡ None → r.stated.excess ≡ Some Triples
@@ -45,8 +55,12 @@ pub terms_judged : (t : Setting) (x y : Place) (r : Reading) (p : Pooled) (start
 terms_judged t x y r p start reads settled none many =
     let free : y.state.fault ≡ None = sym reads.fault ∙ none in
     let within = subst (λ (e : Option Excess). IsWithin e t.bounds y.state.triples r.stated p) many
-    (reads.keeps free).stated.within in
-    (TooManyTerms, one_cause t x y TooManyTerms settled (y, settled.derived, free, within.1, within.2), refl, refl)
+    (reads.keeps free).stated.within in (
+      TooManyTerms,
+      one_cause t x y TooManyTerms settled (y, settled.derived, free, within.1, within.2),
+      refl,
+      refl,
+    )
 
 -- no fault and no limit passed
 pub sound_judged : (t : Setting) (x y : Place) (r : Reading) (p : Pooled) → IsReading t.bounds y.state r p
@@ -54,7 +68,8 @@ pub sound_judged : (t : Setting) (x y : Place) (r : Reading) (p : Pooled) → Is
 sound_judged t x y r p reads settled none fits within =
     let free : y.state.fault ≡ None = sym reads.fault ∙ none in
     let stated = (reads.keeps free).stated in
-    let all = subst (λ (e : Option Excess). IsWithin e t.bounds y.state.triples r.stated p) fits stated.within in
+    let all = subst (λ (e : Option Excess). IsWithin e t.bounds y.state.triples r.stated p) fits
+    stated.within in
     one_statement t x y settled (record {
       derived = settled.derived;
       terms = free;
@@ -78,12 +93,14 @@ sound_where_judged t r p r' p' start (Ok u) passes shallow begins judged = λ s 
     let behind = passes.on t.bounds s reads in (
       behind.0,
       behind.1,
-      judged t (place r s) (place r' behind.0) behind.1 (settled_where t r p r' p' s behind.0 behind.2 shallow),
+      judged t (place r s) (place r' behind.0) behind.1
+          (settled_where t r p r' p' s behind.0 behind.2 shallow),
     )
 sound_where_judged t r p r' p' start (Err (At code at)) passes shallow begins judged = λ s reads.
     let behind = passes.on t.bounds s reads in
     subst (λ (n : ℕ). HasOneCauseAt t (place r s) n code at) begins
-    (judged t (place r s) (place r' behind.0) behind.1 (settled_where t r p r' p' s behind.0 behind.2 shallow))
+    (judged t (place r s) (place r' behind.0) behind.1
+    (settled_where t r p r' p' s behind.0 behind.2 shallow))
 sound_where_judged t r p r' p' start (Err Memory) passes shallow begins judged = tt
 
 pub deep_where : (t : Setting) (r : Reader) (s : State) (start at : ℕ) → IsUtf8 t.text

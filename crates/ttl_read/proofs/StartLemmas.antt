@@ -16,11 +16,13 @@ pub mark_passed : (text rest : List ℕ) → text ≡ byte_order_mark ++ rest �
 mark_passed text rest e = rw (e, mark_bytes) refl
 
 -- a text that does not begin with the mark
-pub no_mark : (text : List ℕ) → ((rest : List ℕ) → text ≡ byte_order_mark ++ rest → ⊥) → zero ≡ first_byte text
+pub no_mark : (text : List ℕ) → ((rest : List ℕ) → text ≡ byte_order_mark ++ rest → ⊥)
+    → zero ≡ first_byte text
 no_mark text none = go (pointwise nat_eq (take 3 text) byte_order_mark) refl
   where
     go : (b : Bool) → pointwise nat_eq (take 3 text) byte_order_mark ≡ b → zero ≡ (if b then 3 else zero)
     go true e = absurd (none (drop 3 text)
         (sym (take-append-drop 3 text)
-        ∙ ap (λ (front : List ℕ). front ++ drop 3 text) ((bytes_eq-Decides (take 3 text) byte_order_mark).0 e)))
+        ∙ ap (λ (front : List ℕ). front ++ drop 3 text)
+        ((bytes_eq-Decides (take 3 text) byte_order_mark).0 e)))
     go false e = refl

@@ -1,10 +1,9 @@
 -- Statements: a directive, or triples and a dot.
-use Rattle.std.proofs.Common.{◌≡◌, ℕ, zero, suc, true, false, List, refl, sym, true≢false, Result, Ok}
-use Rattle.std.specs.Str.{IsUtf8}
+use Rattle.std.proofs.Common.{◌≡◌, ℕ, zero, suc, Bool, true, false, ◌&&◌, ◌||◌, List, refl, Result}
 use Rattle.shx_term.specs.Pool.{Pooled}
 use Rattle.ttl_tokens.specs.declared.token.Token.{Token}
 use Rattle.ttl_tokens.specs.declared.token.TokenKind.{TokenKind}
-use Rattle.ttl_tokens.specs.declared.token.TokenKind.TheVariants.{LangTag, WordPrefix, WordBase, Dot}
+use Rattle.ttl_tokens.specs.declared.token.TokenKind.TheVariants.{End}
 use Rattle.ttl_tokens.specs.Form.{Then, Or}
 use Rattle.ttl_meaning.specs.Items.{begin_statement}
 use Rattle.ttl_meaning.specs.IsReading.{Does}
@@ -13,14 +12,15 @@ use Rattle.ttl_read.specs.declared.reader.Refused.{Refused}
 use Rattle.ttl_read.specs.Grammar.{Rule, is_lang_tag, is_word_prefix, is_word_base, is_dot, mark, directive}
 use Rattle.ttl_read.specs.Grammar.{triples, statement}
 use Rattle.ttl_read.specs.Follows.{Avoids, takes_no_token, may_begin}
-use Rattle.ttl_read.specs.Reads.{Stands, ParsesAlone}
+use Rattle.ttl_read.specs.Reads.{ParsesAlone}
 use Rattle.ttl_read.specs.Stops.{predicates_go_on}
 use Rattle.ttl_read.proofs.AnswerLemmas.{then_alone, left_alone, right_alone}
-use Rattle.ttl_read.proofs.DirectiveLemmas.{directive_nowhere}
-use Rattle.ttl_read.proofs.MarkLemmas.{begins_directive}
-use Rattle.ttl_read.proofs.PassLemmas.{do_passes, here_nowhere, then_nowhere}
+use Rattle.ttl_read.proofs.HereLemmas.{IsHere, here_nowhere}
+use Rattle.ttl_read.proofs.KindLemmas.{at_kind, apart}
+use Rattle.ttl_read.proofs.PassLemmas.{do_passes, then_nowhere}
+use Rattle.ttl_read.proofs.TriplesLemmas.{triples_take}
 
-abbrev pub triples_and_dot : List ℕ → ℕ → Rule
+abbrev triples_and_dot : List ℕ → ℕ → Rule
 triples_and_dot text depth = Then (triples text depth) (mark is_dot)
 
 -- a statement behind its beginning
@@ -29,65 +29,59 @@ statement_body text depth = Or (directive text) (triples_and_dot text depth)
 
 -- ---- with which tokens they begin
 
--- each takes a token
-pub body_takes_some : (text : List ℕ) (depth : ℕ) → takes_no_token (statement_body text depth) ≡ false
-body_takes_some text zero = refl
-body_takes_some text (suc depth) = refl
+-- a statement takes a token
+pub body_takes : (text : List ℕ) (depth : ℕ) → takes_no_token (statement_body text depth) ≡ false
+body_takes text zero = refl
+body_takes text (suc depth) = refl
 
-triples_take_some : (text : List ℕ) (depth : ℕ) → takes_no_token (triples text depth) ≡ false
-triples_take_some text zero = refl
-triples_take_some text (suc depth) = refl
+-- what begins a directive
+abbrev pub begins_directive : TokenKind → Bool
+begins_directive k = is_lang_tag k || is_word_prefix k || is_word_base k
 
--- triples begin with no token that begins a directive
-triples_begin_apart : (text : List ℕ) (depth start stop : ℕ) (k : TokenKind) → begins_directive k ≡ true
-    → may_begin (triples text depth) (record { kind = k; start = start; end = stop }) ≡ false
-triples_begin_apart text zero start stop LangTag h = refl
-triples_begin_apart text zero start stop WordPrefix h = refl
-triples_begin_apart text zero start stop WordBase h = refl
-triples_begin_apart text (suc depth) start stop LangTag h = refl
-triples_begin_apart text (suc depth) start stop WordPrefix h = refl
-triples_begin_apart text (suc depth) start stop WordBase h = refl
-triples_begin_apart text depth start stop k h = absurd (true≢false (sym h))
+-- triples begin with no such token
+directive_or_triples : (text : List ℕ) (depth start stop : ℕ) (k : TokenKind)
+    → begins_directive k && may_begin (triples text depth) (record { kind = k; start = start; end = stop })
+    ≡ false
+directive_or_triples text zero start stop End = refl
+directive_or_triples text zero start stop k = refl
+directive_or_triples text (suc depth) start stop End = refl
+directive_or_triples text (suc depth) start stop k = refl
 
--- no dot is among the tokens that predicates go on with
-dot_apart : (start stop : ℕ) (k : TokenKind)
-    → predicates_go_on (record { kind = k; start = start; end = stop }) ≡ true → is_dot k ≡ false
-dot_apart start stop Dot h = absurd (true≢false (sym h))
-dot_apart start stop k h = refl
+dot_other : (k : TokenKind) → predicates_go_on (at_kind k) && is_dot k ≡ false
+dot_other End = refl
+dot_other k = refl
 
--- ... so what follows triples may be a dot
+-- what follows triples may be a dot
 pub dot_avoids : Avoids predicates_go_on (mark is_dot)
-dot_avoids = record { some = refl; other = λ t h. dot_apart t.start t.end t.kind h }
+dot_avoids = record { some = refl; other = λ t e. apart _ _ (dot_other t.kind) e }
 
 -- ---- statements
 
 -- the statement began, and the answer is on the rest of it
-pub begun_alone : (text : List ℕ) (depth : ℕ) (r m : Reader) (p : Pooled) (r' : Reader) (p' : Pooled)
-    (result : Result (Unit {0}) Refused) → Does begin_statement r.reading p m.reading p → m.tokens ≡ r.tokens
+pub begun_alone : (text : List ℕ) (depth : ℕ) (r m : Reader) (p : Pooled)
+    → Does begin_statement r.reading p m.reading p → m.tokens ≡ r.tokens → (r' : Reader)
+    (p' : Pooled) (result : Result (Unit {0}) Refused)
     → ParsesAlone text (statement_body text depth) m p r' p' result
     → ParsesAlone text (statement text depth) r p r' p' result
-begun_alone text depth r m p r' p' result begins same a =
-    then_alone (do_passes text begin_statement r p m p begins same) (statement_body text depth) r' p' result a
+begun_alone text depth r m p begins same r' p' result a =
+    then_alone (do_passes text begin_statement r p m p begins same) _ r' p' result a
 
 -- a directive begins here, and the answer is on it
-pub directive_alone : (text : List ℕ) (depth : ℕ) (t : Token) (r : Reader) (p : Pooled) (r' : Reader)
-    (p' : Pooled) (result : Result (Unit {0}) Refused) → IsUtf8 text → Stands text r.tokens
-    → r.tokens.next ≡ Ok t → begins_directive t.kind ≡ true
+pub directive_alone : {text : List ℕ} {r : Reader} {t : Token} (depth : ℕ) → IsHere text r t
+    → begins_directive t.kind ≡ true → (p : Pooled) (r' : Reader) (p' : Pooled)
+    (result : Result (Unit {0}) Refused)
     → ParsesAlone text (directive text) r p r' p' result
     → ParsesAlone text (statement_body text depth) r p r' p' result
-directive_alone text depth t r p r' p' result utf8 stands next begins a =
-    let some = triples_take_some text depth in
-    let other = triples_begin_apart text depth t.start t.end t.kind begins in
-    left_alone (then_nowhere (here_nowhere text (triples text depth) t r p utf8 stands next some other))
-    (directive text) r' p' result a
+directive_alone {text = text} {t = t} depth here begins p r' p' result a =
+    let other = apart _ _ (directive_or_triples text depth t.start t.end t.kind) begins in
+    left_alone (then_nowhere (here_nowhere (triples text depth) p here (triples_take text depth) other))
+    _ r' p' result a
 
 -- no directive begins here, and the answer is on triples and their dot
-pub triples_alone : (text : List ℕ) (depth : ℕ) (t : Token) (r : Reader) (p : Pooled) (r' : Reader)
-    (p' : Pooled) (result : Result (Unit {0}) Refused) → IsUtf8 text → Stands text r.tokens
-    → r.tokens.next ≡ Ok t → is_lang_tag t.kind ≡ false → is_word_prefix t.kind ≡ false
-    → is_word_base t.kind ≡ false
+pub triples_alone : {text : List ℕ} {r : Reader} {t : Token} (depth : ℕ) → IsHere text r t
+    → is_lang_tag t.kind ≡ false → is_word_prefix t.kind ≡ false → is_word_base t.kind ≡ false
+    → (p : Pooled) (r' : Reader) (p' : Pooled) (result : Result (Unit {0}) Refused)
     → ParsesAlone text (triples_and_dot text depth) r p r' p' result
     → ParsesAlone text (statement_body text depth) r p r' p' result
-triples_alone text depth t r p r' p' result utf8 stands next tag prefix base a =
-    let none = directive_nowhere text t r p utf8 stands next tag prefix base in
-    right_alone none (triples_and_dot text depth) r' p' result a
+triples_alone {text = text} depth here tag prefix base p r' p' result a =
+    right_alone (here_nowhere (directive text) p here refl (rw (tag, prefix, base) refl)) _ r' p' result a

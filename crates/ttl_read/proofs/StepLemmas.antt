@@ -68,5 +68,6 @@ pub never_at_none : (text : List ℕ) (f : Rule) (x : Place) (fault : ℕ) → I
     → takes_no_token f ≡ false
     → IsNoTokenAt text x.at fault → Never (StepsTo text) f x
 never_at_none text f x fault utf8 some here =
-    never_where_none (StepsTo text) is_done (λ z. IsNoTokenAt text z.at fault) (none_item text fault utf8) f x some
+    never_where_none (StepsTo text) is_done (λ z. IsNoTokenAt text z.at fault) (none_item text fault utf8)
+    f x some
     here

@@ -1,10 +1,12 @@
 -- A statement has one meaning or one fault, and so has a text.
-use Rattle.std.proofs.Common.{◌≡◌, ℕ, zero, suc, ◌≤◌, ◌<◌, ◌⊎◌, Bool, true, false, ◌&&◌, List, [], ◌∷◌, length}
+use Rattle.std.proofs.Common.{◌≡◌, ℕ, zero, suc, ◌≤◌, ◌<◌, ◌⊎◌, Bool, true, false, ◌&&◌, List, [], ◌∷◌}
+use Rattle.std.proofs.Common.{length}
 use Rattle.std.proofs.Common.{if◌then◌else◌, refl, sym, ap, ◌∙◌, subst, inl, inr, arith}
 use Rattle.std.proofs.Common.{Option, Some, None}
 use Rattle.std.specs.Prelude.{nat_le, nat_lt}
 use Rattle.std.specs.Str.{IsUtf8}
 use Rattle.std.proofs.lemmas.Bool.Decides.{nat_tests}
+use Rattle.std.proofs.lemmas.Option.{same_Some}
 use Rattle.ttl_tokens.specs.declared.token.Token.{Token}
 use Rattle.ttl_tokens.specs.declared.token.TokenKind.TheVariants.{End}
 use Rattle.ttl_tokens.specs.Form.{Times}
@@ -18,14 +20,13 @@ use Rattle.ttl_read.specs.Documents.{TooManyTriples, TooManyTerms, IsAtEnd}
 use Rattle.ttl_read.specs.Follows.{takes_no_token, may_begin}
 use Rattle.ttl_read.specs.Grammar.{Place, statement}
 use Rattle.ttl_read.specs.Unique.{Settled, One, OneCause}
+use Rattle.ttl_read.proofs.DepthLemmas.{too_deep_from}
 use Rattle.ttl_read.proofs.StepLemmas.{never_here}
 
 -- ---- one bracket is the first
 
-some_same : {X : Type 0} (x y : X) → Some x ≡ Some y → x ≡ y
-some_same x y e = cc
-
-first_same : (text : List ℕ) (limit p q : ℕ) → IsUtf8 text → (at n : ℕ) (ts us : List Token) → IsRun text at ts
+first_same : (text : List ℕ) (limit p q : ℕ) → IsUtf8 text → (at n : ℕ) (ts us : List Token)
+    → IsRun text at ts
     → IsRun text at us → first_too_many limit n ts ≡ Some p → first_too_many limit n us ≡ Some q → p ≡ q
 first_same text limit p q utf8 at n [] us r s e f = absurd (cc)
 first_same text limit p q utf8 at n (t ∷ ts) [] r s e f = absurd (cc)
@@ -46,23 +47,20 @@ first_same text limit p q utf8 at n (t ∷ ts) (u ∷ us) r s e f =
         → (IsRun text t.end us → first_too_many limit (open_behind t.kind n) ts ≡ Some p
         → first_too_many limit (open_behind t.kind n) us ≡ Some q → p ≡ q)
         → p ≡ q
-    go true h rest = some_same p q (sym (rw h at e) ∙ (rw h at g))
+    go true h rest = same_Some p q (sym (rw h at e) ∙ (rw h at g))
     go false h rest = rest run (rw h at e) (rw h at g)
 
 pub one_too_deep : (text : List ℕ) (limit at p q : ℕ) → IsUtf8 text → IsTooDeep text limit at p
     → IsTooDeep text limit at q → p ≡ q
 one_too_deep text limit at p q utf8 a b = go a.tokens b.tokens a.run b.run a.first b.first
   where
-    counted : (o : Option ℕ) (c : Bool) (r : ℕ) → (if c then None else o) ≡ Some r → o ≡ Some r
-    counted o true r e = absurd (cc)
-    counted o false r e = e
-
     go : (ts us : List Token) → IsRun text at ts → IsRun text at us → first_too_deep limit ts ≡ Some p
         → first_too_deep limit us ≡ Some q → p ≡ q
     go [] us r s e f = absurd (cc)
     go (t ∷ ts) [] r s e f = absurd (cc)
     go (t ∷ ts) (u ∷ us) r s e f =
-        first_same text limit p q utf8 at 0 (t ∷ ts) (u ∷ us) r s (counted _ _ p e) (counted _ _ q f)
+        first_same text limit p q utf8 at 0 (t ∷ ts) (u ∷ us) r s (too_deep_from p _ _ e)
+        (too_deep_from q _ _ f)
 
 -- ---- one place behind a statement
 
@@ -97,15 +95,18 @@ cause_of_settled t x y settled TooManyTriples many =
     let same : y ≡ many.0 = settled.only many.0 many.1.1 in
     let none : y.state.fault ≡ None = ap (λ (z : Place). z.state.fault) same ∙ many.2 in
     let passed : nat_lt t.bounds.triples (length y.state.triples) ≡ true =
-    subst (λ (z : Place). nat_lt t.bounds.triples (length z.state.triples) ≡ true) (sym same) (lt_test many.3) in
+    subst (λ (z : Place). nat_lt t.bounds.triples (length z.state.triples) ≡ true) (sym same)
+    (lt_test many.3) in
     rw (none, passed) refl
 cause_of_settled t x y settled TooManyTerms many =
     let same : y ≡ many.0 = settled.only many.0 many.1.1 in
     let none : y.state.fault ≡ None = ap (λ (z : Place). z.state.fault) same ∙ many.2 in
     let fits : nat_lt t.bounds.triples (length y.state.triples) ≡ false =
-    subst (λ (z : Place). nat_lt t.bounds.triples (length z.state.triples) ≡ false) (sym same) (le_test many.3) in
+    subst (λ (z : Place). nat_lt t.bounds.triples (length z.state.triples) ≡ false) (sym same)
+    (le_test many.3) in
     let passed : nat_lt t.bounds.terms (length (terms_with t.bounds y.state.triples)) ≡ true =
-    subst (λ (z : Place). nat_lt t.bounds.terms (length (terms_with t.bounds z.state.triples)) ≡ true) (sym same)
+    subst (λ (z : Place). nat_lt t.bounds.terms (length (terms_with t.bounds z.state.triples)) ≡ true)
+    (sym same)
     (lt_test many.4) in
     rw (none, fits, passed) refl
 
@@ -115,9 +116,11 @@ sound_by t x y z settled is =
     let same : y ≡ z = settled.only z is.derived.1 in
     let none : y.state.fault ≡ None = ap (λ (v : Place). v.state.fault) same ∙ is.terms in
     let fits : nat_lt t.bounds.triples (length y.state.triples) ≡ false =
-    subst (λ (v : Place). nat_lt t.bounds.triples (length v.state.triples) ≡ false) (sym same) (le_test is.triples) in
+    subst (λ (v : Place). nat_lt t.bounds.triples (length v.state.triples) ≡ false) (sym same)
+    (le_test is.triples) in
     let room : nat_lt t.bounds.terms (length (terms_with t.bounds y.state.triples)) ≡ false =
-    subst (λ (v : Place). nat_lt t.bounds.terms (length (terms_with t.bounds v.state.triples)) ≡ false) (sym same)
+    subst (λ (v : Place). nat_lt t.bounds.terms (length (terms_with t.bounds v.state.triples)) ≡ false)
+    (sym same)
     (le_test is.room) in
     (same, rw (none, fits, room) refl)
 
@@ -138,15 +141,17 @@ pub one_cause : (t : Setting) (x y : Place) (c : Cause) → Settled t x y → Ha
 one_cause t x y c settled cause = record {
   is = cause;
   only = λ d other.
-      some_same c d (sym (cause_of_settled t x y settled c cause) ∙ cause_of_settled t x y settled d other);
+      same_Some c d (sym (cause_of_settled t x y settled c cause) ∙ cause_of_settled t x y settled d other);
   none = λ z is.
       some_is_none c (sym (cause_of_settled t x y settled c cause) ∙ (sound_by t x y z settled is).1);
 }
 
 -- too deep
-deep_only : (t : Setting) (x : Place) (at : ℕ) → IsUtf8 t.text → IsTooDeep t.text t.depth x.at at → (d : Cause)
+deep_only : (t : Setting) (x : Place) (at : ℕ) → IsUtf8 t.text → IsTooDeep t.text t.depth x.at at
+    → (d : Cause)
     → HasCause t x d → TooDeep at ≡ d
-deep_only t x at utf8 deep (TooDeep other) is = ap TooDeep (one_too_deep t.text t.depth x.at at other utf8 deep is)
+deep_only t x at utf8 deep (TooDeep other) is =
+    ap TooDeep (one_too_deep t.text t.depth x.at at other utf8 deep is)
 deep_only t x at utf8 deep NoStatement is = absurd (is.0 at deep)
 deep_only t x at utf8 deep (BadTerm fault) is = absurd (is.1.0 at deep)
 deep_only t x at utf8 deep TooManyTriples is = absurd (is.1.0 at deep)
@@ -161,7 +166,8 @@ one_deep t x at utf8 deep = record {
 }
 
 -- no derivation
-nowhere_only : (t : Setting) (x : Place) → HasCause t x NoStatement → (d : Cause) → HasCause t x d → NoStatement ≡ d
+nowhere_only : (t : Setting) (x : Place) → HasCause t x NoStatement → (d : Cause) → HasCause t x d
+    → NoStatement ≡ d
 nowhere_only t x none (TooDeep at) is = absurd (none.0 at is)
 nowhere_only t x none NoStatement is = refl
 nowhere_only t x none (BadTerm fault) is = absurd (none.1.none is.0 is.1.1)
@@ -177,7 +183,8 @@ one_nowhere t x none = record {
 
 -- ---- no statement at the end
 
-begins_not : (text : List ℕ) (depth : ℕ) (t : Token) → t.kind ≡ End → may_begin (statement text depth) t ≡ false
+begins_not : (text : List ℕ) (depth : ℕ) (t : Token) → t.kind ≡ End
+    → may_begin (statement text depth) t ≡ false
 begins_not text zero t e = rw e refl
 begins_not text (suc depth) t e = rw e refl
 

@@ -1,42 +1,39 @@
 -- In a cycle of calls `c.requires.0.0` is that the text is UTF-8, and `c.requires.1.1` what is required.
-use Rattle.std.proofs.Common.{◌≡◌, ◌<◌, ◌||◌, not, true, false, refl, sym, ap, ◌∙◌, arith}
+use Rattle.std.proofs.Common.{◌≡◌, true, false, refl, sym, ◌∙◌, arith}
+use Rattle.std.proofs.lemmas.Bool.{or_from, or_right}
 use Rattle.ttl_tokens.specs.Form.{Then}
 use Rattle.ttl_meaning.specs.Items.{behind_member, first_cell, next_cell, end_list, empty_list, open_node}
 use Rattle.ttl_read.specs.declared.reader.Reader.{Reader}
+use Rattle.ttl_read.specs.Depth.{is_open}
 use Rattle.ttl_read.specs.Grammar.{is_close_round, is_comma, is_open_round, is_open_square}
-use Rattle.ttl_read.specs.Grammar.{is_semicolon, begins_verb, mark, object}
-use Rattle.ttl_read.specs.Grammar.{sign}
-use Rattle.ttl_read.specs.Grammar.{verb_objects}
+use Rattle.ttl_read.specs.Grammar.{is_semicolon, begins_verb, mark, object, sign, verb_objects}
 use Rattle.ttl_read.specs.Reads.{Passes}
-use Rattle.ttl_read.specs.Stops.{goes_on, list_goes_on, predicates_go_on, stops_nowhere, verbs_go_on}
-use Rattle.ttl_read.proofs.AdvanceLemmas.{pass_advances, advances_then, advances_on}
-use Rattle.ttl_read.proofs.CollectionLemmas.{do_avoids, goes_without_close, members_avoid, members_read}
+use Rattle.ttl_read.specs.Stops.{goes_on, list_goes_on, stops_nowhere, verbs_go_on}
+use Rattle.ttl_read.proofs.AnswerLemmas.{alone_parses, alone_passed_on, handed_on, leads_alone, passed_on}
+use Rattle.ttl_read.proofs.AnswerLemmas.{passes_then_parses, right_parses, then_alone}
+use Rattle.ttl_read.proofs.CollectionLemmas.{do_avoids, members_avoid, members_read, no_close}
 use Rattle.ttl_read.proofs.CollectionLemmas.{no_first_member, no_members, no_next_member, no_other_member}
 use Rattle.ttl_read.proofs.CollectionLemmas.{square_avoids}
-use Rattle.ttl_read.proofs.KindLemmas.{IsObject-object, is_open, left_holds, neither, right_holds}
-use Rattle.ttl_read.proofs.ObjectLemmas.{collection_read, collection_refused, commas_avoid, no_bracket}
-use Rattle.ttl_read.proofs.ObjectLemmas.{no_comma, plain_read, plain_refused, property_list_read}
-use Rattle.ttl_read.proofs.ObjectLemmas.{property_list_refused}
-use Rattle.ttl_read.proofs.PassLemmas.{behind_nowhere, do_passes, none_nowhere, nowhere_refuses, passes_reads}
-use Rattle.ttl_read.proofs.PassLemmas.{reads_then_nowhere, reads_then_passes, refuses_then, then_nowhere}
-use Rattle.ttl_read.proofs.PassLemmas.{then_passes}
-use Rattle.ttl_read.proofs.ReadLemmas.{goes_first, goes_on_with, goes_to_end, goes_wrong, left_reads}
-use Rattle.ttl_read.proofs.ReadLemmas.{maybe_reads, maybe_reads_none, maybe_refuses, or_refuses, right_reads}
-use Rattle.ttl_read.proofs.ReadLemmas.{then_reads, then_refuses}
-use Rattle.ttl_read.proofs.ResultLemmas.{alone_handed_on, alone_passed_on, handed_on, passed_on}
-use Rattle.ttl_read.proofs.SequenceLemmas.{IsHere, found, found_here, here_stops, mark_passes}
-use Rattle.ttl_read.proofs.SequenceLemmas.{no_follower_unless, not_found, passes_then_reads}
-use Rattle.ttl_read.proofs.SequenceLemmas.{passes_then_refuses, reads_before, refuses_before, refuses_unless}
-use Rattle.ttl_read.proofs.SequenceLemmas.{sign_passes}
-use Rattle.ttl_read.proofs.TriplesLemmas.{fewer_verbs, more_verbs, no_semicolon, no_verb, semicolons_avoid}
+use Rattle.ttl_read.proofs.HereLemmas.{advances_on, advances_then, found, found_here, here_stops, is_here}
+use Rattle.ttl_read.proofs.HereLemmas.{mark_passes, none_nowhere, not_found, pass_advances, refuses_unless}
+use Rattle.ttl_read.proofs.HereLemmas.{sign_passes}
+use Rattle.ttl_read.proofs.KindLemmas.{IsObject-object, only_open_round, only_open_square}
+use Rattle.ttl_read.proofs.ObjectLemmas.{another_object, collection_object, commas_avoid, no_bracket}
+use Rattle.ttl_read.proofs.ObjectLemmas.{no_comma, no_other_object, other_object, property_list_object}
+use Rattle.ttl_read.proofs.PassLemmas.{behind_nowhere, do_passes, nowhere_refuses, passes_reads, refuses_then}
+use Rattle.ttl_read.proofs.PassLemmas.{then_nowhere}
+use Rattle.ttl_read.proofs.ReadLemmas.{goes_first, goes_on_with, goes_to_end, left_reads, maybe_reads}
+use Rattle.ttl_read.proofs.ReadLemmas.{maybe_reads_none, maybe_refuses, passes_then_reads}
+use Rattle.ttl_read.proofs.ReadLemmas.{passes_then_refuses, reads_before, refuses_before, then_reads}
+use Rattle.ttl_read.proofs.ReadLemmas.{then_refuses}
+use Rattle.ttl_read.proofs.TriplesLemmas.{fewer_verbs, more_predicates, more_verbs, no_more_predicates}
+use Rattle.ttl_read.proofs.TriplesLemmas.{no_semicolon, no_verb, semicolons_avoid}
 use Rattle.ttl_read.proofs.+objects.Goals as goal
 
 pub collection::collection-returns-in_ok-empty_list-in-Some-clause-advances
     : goal.collection::collection-returns-in_ok-empty_list-in-Some-clause-advances
 collection::collection-returns-in_ok-empty_list-in-Some-clause-advances t c =
-    let text = c.args.text.now in
-    let here : IsHere text c.args.reader.now c.args.bracket =
-    record { utf8 = c.requires.0.0; stands = c.requires.1.1.0; next = c.requires.1.1.1.0 } in
+    let here = is_here c.args.reader.now c.requires.0.0 c.requires.1.1.0 c.requires.1.1.1.0 in
     let m : Reader = record { tokens = c.pass.new.self; reading = c.args.reader.now.reading } in
     let close = found_here m is_close_round c.in-Some.close c.requires.0.0 c.pass.ensures.stands
     (sym c.close_round.ensures ∙ c.in-Some.is) in
@@ -52,8 +49,7 @@ collection::collection-returns-in_ok-empty_list-in-Some-clause-parses t c =
     let text = c.args.text.now in
     let o = object text c.args.depth in
     let is = IsObject-object text c.args.depth in
-    let here : IsHere text c.args.reader.now c.args.bracket =
-    record { utf8 = c.requires.0.0; stands = c.requires.1.1.0; next = c.requires.1.1.1.0 } in
+    let here = is_here c.args.reader.now c.requires.0.0 c.requires.1.1.0 c.requires.1.1.1.0 in
     let m : Reader = record { tokens = c.pass.new.self; reading = c.args.reader.now.reading } in
     let close = found_here m is_close_round c.in-Some.close c.requires.0.0 c.pass.ensures.stands
     (sym c.close_round.ensures ∙ c.in-Some.is) in
@@ -68,16 +64,15 @@ pub collection::collection-returns-in-None-clause-parses
     : goal.collection::collection-returns-in-None-clause-parses
 collection::collection-returns-in-None-clause-parses t c =
     let text = c.args.text.now in
-    let here : IsHere text c.args.reader.now c.args.bracket =
-    record { utf8 = c.requires.0.0; stands = c.requires.1.1.0; next = c.requires.1.1.1.0 } in
+    let here = is_here c.args.reader.now c.requires.0.0 c.requires.1.1.0 c.requires.1.1.1.0 in
     let m : Reader = record { tokens = c.pass.new.self; reading = c.args.reader.now.reading } in
     let first = mark_passes is_open_round m c.args.pool.now here c.requires.1.1.1.1 refl
     c.pass.ensures.place in
     let none = refuses_unless text is_close_round (sign is_close_round empty_list) stops_nowhere m
     c.args.pool.now c.requires.0.0 c.pass.ensures.stands refl (λ t e. e)
     (sym c.close_round.ensures ∙ c.in-None.is) in
-    handed_on c.members.result c.members.ensures.parses (λ a. passes_then_reads first (right_reads none a))
-    (λ n. passes_then_refuses first (or_refuses none n))
+    passes_then_parses first _ _ _ _ c.members.result
+    (right_parses none _ _ _ c.members.result c.members.ensures.parses)
 
 pub collection::member-returns-in_err-object-clause-parses
     : goal.collection::member-returns-in_err-object-clause-parses
@@ -97,7 +92,6 @@ pub collection::members-returns-in_err-member-clause-parses
     : goal.collection::members-returns-in_err-member-clause-parses
 collection::members-returns-in_err-member-clause-parses t c =
     let text = c.args.text.now in
-    let o = object text c.args.depth in
     let is = IsObject-object text c.args.depth in
     let m : Reader = record { tokens = c.args.reader.now.tokens; reading = c.first_cell.new.self } in
     let cell = do_passes text first_cell c.args.reader.now c.args.pool.now m c.first_cell.new.pool
@@ -139,8 +133,8 @@ collection::members-loop-close-preserved t c =
     let is = IsObject-object text c.args.depth in
     let m = c.loop-close.reader in
     let next : Reader = record { tokens = m.tokens; reading = c.next_cell.new.self } in
-    let stop = no_follower_unless text is_close_round goes_without_close m c.requires.0.0
-    c.loop-close.invariant.on.stands (λ t e. ap not e) (sym c.close_round.ensures ∙ c.in_default.is) in
+    let stop = no_close text m c.requires.0.0 c.loop-close.invariant.on.stands
+    (sym c.close_round.ensures ∙ c.in_default.is) in
     let cell = do_passes text next_cell m c.loop-close.pool next c.next_cell.new.pool
     c.in_ok-next_cell.ensures refl in
     record {
@@ -153,12 +147,11 @@ pub collection::members-returns-in_err-member-2-clause-parses
     : goal.collection::members-returns-in_err-member-2-clause-parses
 collection::members-returns-in_err-member-2-clause-parses t c =
     let text = c.args.text.now in
-    let o = object text c.args.depth in
     let is = IsObject-object text c.args.depth in
     let m = c.loop-close.reader in
     let next : Reader = record { tokens = m.tokens; reading = c.next_cell.new.self } in
-    let stop = no_follower_unless text is_close_round goes_without_close m c.requires.0.0
-    c.loop-close.invariant.on.stands (λ t e. ap not e) (sym c.close_round.ensures ∙ c.in_default.is) in
+    let stop = no_close text m c.requires.0.0 c.loop-close.invariant.on.stands
+    (sym c.close_round.ensures ∙ c.in_default.is) in
     let cell = do_passes text next_cell m c.loop-close.pool next c.next_cell.new.pool
     c.in_ok-next_cell.ensures refl in
     passed_on _ _ c.in_err-member-2.field-0.0 c.from_residual-in_err-member-2.result
@@ -169,8 +162,7 @@ pub collection::property_list-returns-in_err-predicate_object_list-clause-parses
     : goal.collection::property_list-returns-in_err-predicate_object_list-clause-parses
 collection::property_list-returns-in_err-predicate_object_list-clause-parses t c =
     let text = c.args.text.now in
-    let here : IsHere text c.args.reader.now c.args.bracket =
-    record { utf8 = c.requires.0.0; stands = c.requires.1.1.0; next = c.requires.1.1.1.0 } in
+    let here = is_here c.args.reader.now c.requires.0.0 c.requires.1.1.0 c.requires.1.1.1.0 in
     let m : Reader = record { tokens = c.pass.new.self; reading = c.open_node.new.self } in
     let first : Passes text (sign is_open_square open_node) c.args.reader.now c.args.pool.now m
     c.open_node.new.pool =
@@ -184,17 +176,17 @@ collection::property_list-returns-in_err-predicate_object_list-clause-parses t c
 pub collection::property_list-returns-clause-parses : goal.collection::property_list-returns-clause-parses
 collection::property_list-returns-clause-parses t c =
     let text = c.args.text.now in
-    let here : IsHere text c.args.reader.now c.args.bracket =
-    record { utf8 = c.requires.0.0; stands = c.requires.1.1.0; next = c.requires.1.1.1.0 } in
+    let here = is_here c.args.reader.now c.requires.0.0 c.requires.1.1.0 c.requires.1.1.1.0 in
     let m : Reader = record { tokens = c.pass.new.self; reading = c.open_node.new.self } in
     let first : Passes text (sign is_open_square open_node) c.args.reader.now c.args.pool.now m
     c.open_node.new.pool =
     sign_passes is_open_square open_node here c.requires.1.1.1.1 c.in_ok-open_node.ensures
     c.pass.ensures.place in
-    let list = c.in_ok-predicate_object_list.ensures.parses in
-    alone_handed_on c.close_square.result (c.close_square.ensures.parses c.predicate_object_list.new.pool)
-    (λ a. passes_reads (then_passes first (reads_then_passes square_avoids list a)))
-    (λ n. nowhere_refuses (behind_nowhere first (reads_then_nowhere square_avoids list n)))
+    let result = c.close_square.result in
+    alone_parses _ _ _ _ _ _ _ result
+    (then_alone first _ _ _ result
+    (leads_alone square_avoids c.in_ok-predicate_object_list.ensures.parses _ _ result
+    (c.close_square.ensures.parses c.predicate_object_list.new.pool)))
 
 pub object::object-returns-in_default-clause-parses : goal.object::object-returns-in_default-clause-parses
 object::object-returns-in_default-clause-parses t c =
@@ -206,62 +198,45 @@ object::object-returns-in_default-clause-parses t c =
 pub object::object-returns-then-depth-eq0-clause-parses
     : goal.object::object-returns-then-depth-eq0-clause-parses
 object::object-returns-then-depth-eq0-clause-parses t c =
-    let text = c.args.text.now in
     let k = c.in-Ok.token.kind in
-    let here : IsHere text c.args.reader.now c.in-Ok.token =
-    record { utf8 = c.requires.0.0; stands = c.requires.1.1; next = c.in-Ok.is } in
+    let here = is_here c.args.reader.now c.requires.0.0 c.requires.1.1 c.in-Ok.is in
     let bracket : is_open_round k ≡ true = sym c.is_open_round.ensures ∙ c.if-is_open_round.true in
-    no_bracket c.args.depth c.args.pool.now here (left_holds (is_open_round k) (is_open_square k) bracket)
-    c.if-depth-eq0.true
+    no_bracket c.args.depth c.args.pool.now here (rw (only_open_round k bracket) refl) c.if-depth-eq0.true
 
 pub object::object-returns-then-is_open_round-clause-parses
     : goal.object::object-returns-then-is_open_round-clause-parses
 object::object-returns-then-is_open_round-clause-parses t c =
-    let text = c.args.text.now in
-    let k = c.in-Ok.token.kind in
-    let here : IsHere text c.args.reader.now c.in-Ok.token =
-    record { utf8 = c.requires.0.0; stands = c.requires.1.1; next = c.in-Ok.is } in
-    let bracket : is_open_round k ≡ true = sym c.is_open_round.ensures ∙ c.if-is_open_round.true in
-    let some : 0 < c.args.depth = omega arith in
-    handed_on c.collection.result c.collection.ensures.parses
-    (λ a. collection_read c.args.depth some here bracket a)
-    (λ n. collection_refused c.args.depth some here bracket n)
+    let here = is_here c.args.reader.now c.requires.0.0 c.requires.1.1 c.in-Ok.is in
+    let bracket : is_open_round c.in-Ok.token.kind ≡ true =
+    sym c.is_open_round.ensures ∙ c.if-is_open_round.true in
+    collection_object c.args.depth (omega arith) here bracket _ _ _ c.collection.result
+    c.collection.ensures.parses
 
 pub object::object-returns-then-depth-eq0-2-clause-parses
     : goal.object::object-returns-then-depth-eq0-2-clause-parses
 object::object-returns-then-depth-eq0-2-clause-parses t c =
-    let text = c.args.text.now in
     let k = c.in-Ok.token.kind in
-    let here : IsHere text c.args.reader.now c.in-Ok.token =
-    record { utf8 = c.requires.0.0; stands = c.requires.1.1; next = c.in-Ok.is } in
+    let here = is_here c.args.reader.now c.requires.0.0 c.requires.1.1 c.in-Ok.is in
     let bracket : is_open_square k ≡ true = sym c.is_open_square.ensures ∙ c.if-is_open_square.true in
-    no_bracket c.args.depth c.args.pool.now here (right_holds (is_open_round k) (is_open_square k) bracket)
-    c.if-depth-eq0-2.true
+    no_bracket c.args.depth c.args.pool.now here (rw (only_open_square k bracket) refl) c.if-depth-eq0-2.true
 
 pub object::object-returns-then-is_open_square-clause-parses
     : goal.object::object-returns-then-is_open_square-clause-parses
 object::object-returns-then-is_open_square-clause-parses t c =
-    let text = c.args.text.now in
-    let k = c.in-Ok.token.kind in
-    let here : IsHere text c.args.reader.now c.in-Ok.token =
-    record { utf8 = c.requires.0.0; stands = c.requires.1.1; next = c.in-Ok.is } in
-    let bracket : is_open_square k ≡ true = sym c.is_open_square.ensures ∙ c.if-is_open_square.true in
-    let some : 0 < c.args.depth = omega arith in
-    handed_on c.property_list.result c.property_list.ensures.parses
-    (λ a. property_list_read c.args.depth some here bracket a)
-    (λ n. property_list_refused c.args.depth some here bracket n)
+    let here = is_here c.args.reader.now c.requires.0.0 c.requires.1.1 c.in-Ok.is in
+    let bracket : is_open_square c.in-Ok.token.kind ≡ true =
+    sym c.is_open_square.ensures ∙ c.if-is_open_square.true in
+    property_list_object c.args.depth (omega arith) here bracket _ _ _ c.property_list.result
+    c.property_list.ensures.parses
 
 pub object::object-returns-clause-parses : goal.object::object-returns-clause-parses
 object::object-returns-clause-parses t c =
-    let text = c.args.text.now in
     let k = c.in-Ok.token.kind in
-    let here : IsHere text c.args.reader.now c.in-Ok.token =
-    record { utf8 = c.requires.0.0; stands = c.requires.1.1; next = c.in-Ok.is } in
+    let here = is_here c.args.reader.now c.requires.0.0 c.requires.1.1 c.in-Ok.is in
     let closed : is_open k ≡ false =
-    neither (is_open_round k) (is_open_square k) (sym c.is_open_round.ensures ∙ c.if-is_open_round.false)
-    (sym c.is_open_square.ensures ∙ c.if-is_open_square.false) in
-    handed_on c.plain_object.result c.plain_object.ensures.parses (λ a. plain_read c.args.depth here closed a)
-    (λ n. plain_refused c.args.depth here closed n)
+    or_from (is_open_square k) (is_open_round k) (sym c.is_open_square.ensures ∙ c.if-is_open_square.false)
+    (sym c.is_open_round.ensures ∙ c.if-is_open_round.false) in
+    other_object c.args.depth here closed _ _ _ c.plain_object.result c.plain_object.ensures.parses
 
 pub object::object_list-returns-in_err-object-clause-parses
     : goal.object::object_list-returns-in_err-object-clause-parses
@@ -282,38 +257,28 @@ object::object_list-loop-comma-init t c =
 
 pub object::object_list-loop-comma-preserved : goal.object::object_list-loop-comma-preserved
 object::object_list-loop-comma-preserved t c =
-    let text = c.args.text.now in
-    let o = object text c.args.depth in
     let m = c.loop-comma.reader in
     let next : Reader = record { tokens = c.pass.new.self; reading = m.reading } in
     let comma = found_here m is_comma c.in-Some.comma c.requires.0.0 c.loop-comma.invariant.on.stands
     (sym c.comma.ensures ∙ c.in-Some.is) in
-    let first = mark_passes is_comma next c.loop-comma.pool comma.0 comma.1 refl c.pass.ensures.place in
-    let stop = here_stops list_goes_on comma.0
-    (right_holds (goes_on c.in-Some.comma) (is_comma c.in-Some.comma.kind) comma.1) in
     let passed = pass_advances is_comma c.pass.new.self comma.0 comma.1 refl c.pass.ensures.stands
     c.pass.ensures.place in
     record {
       on = advances_then (advances_then c.loop-comma.invariant.on passed) c.in_ok-object-2.ensures.advances;
-      goes = goes_on_with (commas_avoid o) stop c.loop-comma.invariant.goes
-          (passes_then_reads first c.in_ok-object-2.ensures.parses);
+      goes = another_object next comma.0 comma.1 refl c.pass.ensures.place c.loop-comma.invariant.goes
+          c.in_ok-object-2.ensures.parses;
     }
 
 pub object::object_list-returns-in_err-object-2-clause-parses
     : goal.object::object_list-returns-in_err-object-2-clause-parses
 object::object_list-returns-in_err-object-2-clause-parses t c =
-    let text = c.args.text.now in
-    let o = object text c.args.depth in
     let m = c.loop-comma.reader in
     let next : Reader = record { tokens = c.pass.new.self; reading = m.reading } in
     let comma = found_here m is_comma c.in-Some.comma c.requires.0.0 c.loop-comma.invariant.on.stands
     (sym c.comma.ensures ∙ c.in-Some.is) in
-    let first = mark_passes is_comma next c.loop-comma.pool comma.0 comma.1 refl c.pass.ensures.place in
-    let stop = here_stops list_goes_on comma.0
-    (right_holds (goes_on c.in-Some.comma) (is_comma c.in-Some.comma.kind) comma.1) in
     passed_on _ _ c.in_err-object-2.field-0.0 c.from_residual-in_err-object-2.result
     c.from_residual-in_err-object-2.ensures.1 c.in_err-object-2.ensures.parses
-    (λ n. goes_wrong (commas_avoid o) stop c.loop-comma.invariant.goes (passes_then_refuses first n))
+    (λ n. no_other_object next comma.0 comma.1 refl c.pass.ensures.place c.loop-comma.invariant.goes n)
 
 pub object::object_list-returns-clause-parses : goal.object::object_list-returns-clause-parses
 object::object_list-returns-clause-parses t c =
@@ -330,7 +295,7 @@ triples::more_objects-returns-then-is_some-clause-parses t c =
     let verb = found_here c.args.reader.now begins_verb token.0 c.requires.0.0 c.requires.1.1
     (sym c.verb.ensures ∙ token.1) in
     let stop = here_stops verbs_go_on verb.0
-    (right_holds (list_goes_on token.0) (begins_verb token.0.kind) verb.1) in
+    (or_right (list_goes_on token.0) (begins_verb token.0.kind) verb.1) in
     handed_on c.verb_objects.result c.verb_objects.ensures.parses
     (λ a. maybe_reads stop (reads_before fewer_verbs a))
     (λ n. maybe_refuses stop (refuses_before fewer_verbs n))
@@ -367,7 +332,6 @@ triples::predicate_object_list-loop-semicolon-init t c =
 pub triples::predicate_object_list-loop-semicolon-smaller
     : goal.triples::predicate_object_list-loop-semicolon-smaller
 triples::predicate_object_list-loop-semicolon-smaller t c =
-    let text = c.args.text.now in
     let m = c.loop-semicolon.reader in
     let semicolon = found_here m is_semicolon c.in-Some.semicolon c.requires.0.0
     c.loop-semicolon.invariant.on.stands (sym c.semicolon.ensures ∙ c.in-Some.is) in
@@ -381,46 +345,30 @@ triples::predicate_object_list-loop-semicolon-smaller t c =
 pub triples::predicate_object_list-loop-semicolon-preserved
     : goal.triples::predicate_object_list-loop-semicolon-preserved
 triples::predicate_object_list-loop-semicolon-preserved t c =
-    let text = c.args.text.now in
-    let o = object text c.args.depth in
     let m = c.loop-semicolon.reader in
     let semicolon = found_here m is_semicolon c.in-Some.semicolon c.requires.0.0
     c.loop-semicolon.invariant.on.stands (sym c.semicolon.ensures ∙ c.in-Some.is) in
     let next : Reader = record { tokens = c.pass.new.self; reading = m.reading } in
-    let first = mark_passes is_semicolon next c.loop-semicolon.pool semicolon.0 semicolon.1 refl
-    c.pass.ensures.place in
-    let k = c.in-Some.semicolon.kind in
-    let stop = here_stops predicates_go_on semicolon.0
-    (right_holds (list_goes_on c.in-Some.semicolon) (is_semicolon k || begins_verb k)
-    (left_holds (is_semicolon k) (begins_verb k) semicolon.1)) in
     let passed = pass_advances is_semicolon c.pass.new.self semicolon.0 semicolon.1 refl c.pass.ensures.stands
     c.pass.ensures.place in
     record {
       on = advances_on c.more_objects.new.reader.tokens (advances_then c.loop-semicolon.invariant.on passed)
           c.in_ok-more_objects.ensures.stands c.in_ok-more_objects.ensures.further;
-      goes = goes_on_with (semicolons_avoid text o) stop c.loop-semicolon.invariant.goes
-          (passes_then_reads first c.in_ok-more_objects.ensures.parses);
+      goes = more_predicates next semicolon.0 semicolon.1 refl c.pass.ensures.place
+          c.loop-semicolon.invariant.goes c.in_ok-more_objects.ensures.parses;
     }
 
 pub triples::predicate_object_list-returns-in_err-more_objects-clause-parses
     : goal.triples::predicate_object_list-returns-in_err-more_objects-clause-parses
 triples::predicate_object_list-returns-in_err-more_objects-clause-parses t c =
-    let text = c.args.text.now in
-    let o = object text c.args.depth in
     let m = c.loop-semicolon.reader in
     let semicolon = found_here m is_semicolon c.in-Some.semicolon c.requires.0.0
     c.loop-semicolon.invariant.on.stands (sym c.semicolon.ensures ∙ c.in-Some.is) in
     let next : Reader = record { tokens = c.pass.new.self; reading = m.reading } in
-    let first = mark_passes is_semicolon next c.loop-semicolon.pool semicolon.0 semicolon.1 refl
-    c.pass.ensures.place in
-    let k = c.in-Some.semicolon.kind in
-    let stop = here_stops predicates_go_on semicolon.0
-    (right_holds (list_goes_on c.in-Some.semicolon) (is_semicolon k || begins_verb k)
-    (left_holds (is_semicolon k) (begins_verb k) semicolon.1)) in
     passed_on _ _ c.in_err-more_objects.field-0.0 c.from_residual-in_err-more_objects.result
     c.from_residual-in_err-more_objects.ensures.1 c.in_err-more_objects.ensures.parses
-    (λ n. goes_wrong (semicolons_avoid text o) stop c.loop-semicolon.invariant.goes
-    (passes_then_refuses first n))
+    (λ n. no_more_predicates next semicolon.0 semicolon.1 refl c.pass.ensures.place
+    c.loop-semicolon.invariant.goes n)
 
 pub triples::predicate_object_list-returns-clause-parses
     : goal.triples::predicate_object_list-returns-clause-parses
@@ -436,11 +384,11 @@ triples::predicate_object_list-returns-clause-parses t c =
 pub triples::verb_objects-returns-in_err-verb-clause-parses
     : goal.triples::verb_objects-returns-in_err-verb-clause-parses
 triples::verb_objects-returns-in_err-verb-clause-parses t c =
-    alone_passed_on _ _ c.in_err-verb.field-0.0 c.from_residual.result c.from_residual.ensures.1
-    c.in_err-verb.ensures.parses (λ n. nowhere_refuses (then_nowhere n))
+    let result = c.from_residual.result in
+    alone_parses _ _ _ _ _ _ _ result
+    (alone_passed_on _ _ c.in_err-verb.field-0.0 result c.from_residual.ensures.1 c.in_err-verb.ensures.parses
+    (λ n. then_nowhere n))
 
 pub triples::verb_objects-returns-clause-parses : goal.triples::verb_objects-returns-clause-parses
 triples::verb_objects-returns-clause-parses t c =
-    let verb = c.in_ok-verb.ensures.parses in
-    handed_on c.object_list.result c.object_list.ensures.parses (λ a. passes_then_reads verb a)
-    (λ n. passes_then_refuses verb n)
+    passes_then_parses c.in_ok-verb.ensures.parses _ _ _ _ c.object_list.result c.object_list.ensures.parses

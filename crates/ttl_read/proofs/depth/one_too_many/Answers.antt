@@ -4,7 +4,8 @@ use Rattle.std.proofs.Common.{subst}
 use Rattle.std.proofs.lemmas.Bool.{le-leb}
 use Rattle.ttl_tokens.specs.Tokens.{IsTokenAt}
 use Rattle.ttl_read.specs.Depth.{IsOneTooMany, NoneTooMany, is_dot_or_end}
-use Rattle.ttl_read.proofs.DepthLemmas.{none_at_end, none_at_none, too_many_here, too_many_behind, none_behind}
+use Rattle.ttl_read.proofs.DepthLemmas.{none_at_end, none_at_none, too_many_here, too_many_behind}
+use Rattle.ttl_read.proofs.DepthLemmas.{none_behind}
 use Rattle.ttl_read.proofs.DepthLemmas.{further, fits_where}
 use Rattle.ttl_read.proofs.depth.one_too_many.Goals as goal
 
@@ -40,7 +41,8 @@ loop-token-smaller c =
 pub loop-token-preserved : goal.loop-token-preserved
 loop-token-preserved c =
     let here : IsTokenAt c.args.text.now c.loop-token.place c.in-Ok.token = c.in-Ok.ensures.found in
-    let on : is_dot_or_end c.in-Ok.token.kind ≡ false = sym c.is_dot_or_end.ensures ∙ c.if-is_dot_or_end.false in
+    let on : is_dot_or_end c.in-Ok.token.kind ≡ false = sym c.is_dot_or_end.ensures
+    ∙ c.if-is_dot_or_end.false in
     let fits = ap (λ (b : Bool). b && nat_le c.args.limit c.loop-token.count) (sym c.is_open.ensures)
     ∙ fits_where _ c.args.limit c.loop-token.count c.else-is_open.either in
     let counted = c.count_behind-count.ensures.counted in
@@ -52,7 +54,8 @@ loop-token-preserved c =
       found = λ place one.
           c.loop-token.invariant.found place
           (too_many_behind _ _ _ _ place c.in-Ok.token here on fits
-          (subst (λ (n : ℕ). IsOneTooMany c.args.text.now c.args.limit c.in-Ok.token.end n place) counted one));
+          (subst (λ (n : ℕ). IsOneTooMany c.args.text.now c.args.limit c.in-Ok.token.end n place) counted
+          one));
       none = λ none.
           c.loop-token.invariant.none
           (none_behind _ _ _ _ c.in-Ok.token c.utf8.text here fits
@@ -61,4 +64,5 @@ loop-token-preserved c =
 
 pub returns : goal.returns
 returns c =
-    c.loop-token.invariant.none (none_at_none _ _ _ _ c.in_default.field-0.at c.utf8.text c.in_default.ensures.none)
+    c.loop-token.invariant.none
+    (none_at_none _ _ _ _ c.in_default.field-0.at c.utf8.text c.in_default.ensures.none)

@@ -1,7 +1,7 @@
 use Rattle.std.proofs.Common.{◌≡◌, true, refl, sym, ◌∙◌, rules}
 use Rattle.ttl_meaning.specs.Items.{on_base}
 use Rattle.ttl_read.specs.Grammar.{is_iri_ref}
-use Rattle.ttl_read.proofs.PassLemmas.{one_advances, one_passes, here_nowhere, none_nowhere}
+use Rattle.ttl_read.proofs.HereLemmas.{is_here, token_passes, pass_advances, here_nowhere, none_nowhere}
 use Rattle.ttl_read.proofs.directive.base_setting.Goals as goal
 
 pub returns-in_default-clause-parses : goal.returns-in_default-clause-parses
@@ -10,17 +10,17 @@ returns-in_default-clause-parses c =
 
 pub returns-then-not-is_iri_ref-clause-parses : goal.returns-then-not-is_iri_ref-clause-parses
 returns-then-not-is_iri_ref-clause-parses c =
-    λ pool. here_nowhere _ _ c.in-Ok.token _ _ c.utf8.text c.requires.stands c.in-Ok.is refl
-    (sym c.is_iri_ref.ensures ∙ c.if-not-is_iri_ref.true)
+    let here = is_here c.args.reader.now c.utf8.text c.requires.stands c.in-Ok.is in
+    λ pool. here_nowhere _ _ here refl (sym c.is_iri_ref.ensures ∙ c.if-not-is_iri_ref.true)
 
 pub returns-clause-advances : goal.returns-clause-advances
 returns-clause-advances c =
+    let here = is_here c.args.reader.now c.utf8.text c.requires.stands c.in-Ok.is in
     let holds : is_iri_ref c.in-Ok.token.kind ≡ true = sym c.is_iri_ref.ensures ∙ c.if-not-is_iri_ref.false in
-    one_advances _ is_iri_ref c.in-Ok.token _ _ refl holds c.requires.stands c.in-Ok.is
-    c.pass.ensures.stands c.pass.ensures.place
+    pass_advances is_iri_ref _ here holds refl c.pass.ensures.stands c.pass.ensures.place
 
 pub returns-clause-parses : goal.returns-clause-parses
 returns-clause-parses c =
+    let here = is_here c.args.reader.now c.utf8.text c.requires.stands c.in-Ok.is in
     let holds : is_iri_ref c.in-Ok.token.kind ≡ true = sym c.is_iri_ref.ensures ∙ c.if-not-is_iri_ref.false in
-    λ pool. one_passes _ (λ t. is_iri_ref t.kind) (on_base c.args.text.now) c.in-Ok.token _ _ _ _
-    c.utf8.text c.requires.stands c.in-Ok.is holds (search rules) c.pass.ensures.place
+    λ pool. token_passes is_iri_ref (on_base c.args.text.now) here holds (search rules) c.pass.ensures.place

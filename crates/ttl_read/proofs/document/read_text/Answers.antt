@@ -17,7 +17,8 @@ returns-in_err-statements-clause-fault c =
     fault_where (setting c.args.text.now c.args.limits.now held) c.args.scope c.args.base.now reader
     c.args.pool.now c.statements.new.reader c.statements.new.pool c.in_err-statements.field-0.0 _
     c.from_residual-in_err-statements.ensures.1 c.utf8.text
-    (c.at-tokens.ensures.place ∙ c.first_byte.ensures.place) reads (c.in_err-statements.ensures.concludes held)
+    (c.at-tokens.ensures.place
+    ∙ c.first_byte.ensures.place) reads (c.in_err-statements.ensures.concludes held)
 
 pub returns-clause-document : goal.returns-clause-document
 returns-clause-document c =
@@ -32,4 +33,5 @@ returns-clause-document c =
     states_where (setting c.args.text.now c.args.limits.now held) c.args.scope c.args.base.now reader
     c.args.pool.now c.statements.new.reader c.statements.new.pool c.in_ok-statements.field-0
     c.in_ok-finish.field-0 c.utf8.text (c.at-tokens.ensures.place ∙ c.first_byte.ensures.place) reads room
-    (c.in_ok-statements.ensures.concludes held) (λ s none fits reads. c.in_ok-finish.ensures _ s _ none fits reads)
+    (c.in_ok-statements.ensures.concludes held)
+    (λ s none fits reads. c.in_ok-finish.ensures _ s _ none fits reads)

@@ -1,8 +1,9 @@
 use Rattle.std.proofs.Common.{◌≡◌, true, false, refl, sym, ◌∙◌, rules}
 use Rattle.ttl_meaning.specs.Items.{on_label, on_anon}
 use Rattle.ttl_read.specs.Grammar.{is_blank_label, is_anon}
-use Rattle.ttl_read.proofs.MarkLemmas.{label_is_not_anon, anon_is_no_label}
-use Rattle.ttl_read.proofs.PassLemmas.{one_advances, one_passes, here_nowhere, none_nowhere}
+use Rattle.ttl_read.proofs.HereLemmas.{is_here, token_passes, sign_passes, pass_advances, here_nowhere}
+use Rattle.ttl_read.proofs.HereLemmas.{none_nowhere}
+use Rattle.ttl_read.proofs.KindLemmas.{only_label, only_anon}
 use Rattle.ttl_read.proofs.PassLemmas.{left_passes, right_passes}
 use Rattle.ttl_read.proofs.node.blank_node.Goals as goal
 
@@ -12,39 +13,36 @@ returns-in_default-clause-parses c =
 
 pub returns-then-is_blank_label-clause-advances : goal.returns-then-is_blank_label-clause-advances
 returns-then-is_blank_label-clause-advances c =
-    let holds : is_blank_label c.in-Ok.token.kind ≡ true =
-    sym c.is_blank_label.ensures ∙ c.if-is_blank_label.true in
-    one_advances _ is_blank_label c.in-Ok.token _ _ refl holds c.requires.stands c.in-Ok.is
+    let here = is_here c.args.reader.now c.utf8.text c.requires.stands c.in-Ok.is in
+    pass_advances is_blank_label _ here (sym c.is_blank_label.ensures ∙ c.if-is_blank_label.true) refl
     c.pass.ensures.stands c.pass.ensures.place
 
 pub returns-then-is_blank_label-clause-parses : goal.returns-then-is_blank_label-clause-parses
 returns-then-is_blank_label-clause-parses c =
+    let here = is_here c.args.reader.now c.utf8.text c.requires.stands c.in-Ok.is in
     let holds : is_blank_label c.in-Ok.token.kind ≡ true =
     sym c.is_blank_label.ensures ∙ c.if-is_blank_label.true in
     left_passes
-    (one_passes _ (λ t. is_blank_label t.kind) (on_label c.args.text.now) c.in-Ok.token _ _ _ _ c.utf8.text
-    c.requires.stands c.in-Ok.is holds (search rules) c.pass.ensures.place)
-    (here_nowhere _ _ c.in-Ok.token _ _ c.utf8.text c.requires.stands c.in-Ok.is refl
-    (label_is_not_anon _ holds))
+    (token_passes is_blank_label (on_label c.args.text.now) here holds (search rules) c.pass.ensures.place)
+    (here_nowhere _ _ here refl (rw (only_label _ holds) refl))
 
 pub returns-then-is_anon-clause-advances : goal.returns-then-is_anon-clause-advances
 returns-then-is_anon-clause-advances c =
-    let holds : is_anon c.in-Ok.token.kind ≡ true = sym c.is_anon.ensures ∙ c.if-is_anon.true in
-    one_advances _ is_anon c.in-Ok.token _ _ refl holds c.requires.stands c.in-Ok.is
+    let here = is_here c.args.reader.now c.utf8.text c.requires.stands c.in-Ok.is in
+    pass_advances is_anon _ here (sym c.is_anon.ensures ∙ c.if-is_anon.true) refl
     c.pass-then-is_anon.ensures.stands c.pass-then-is_anon.ensures.place
 
 pub returns-then-is_anon-clause-parses : goal.returns-then-is_anon-clause-parses
 returns-then-is_anon-clause-parses c =
+    let here = is_here c.args.reader.now c.utf8.text c.requires.stands c.in-Ok.is in
     let holds : is_anon c.in-Ok.token.kind ≡ true = sym c.is_anon.ensures ∙ c.if-is_anon.true in
-    right_passes
-    (here_nowhere _ _ c.in-Ok.token _ _ c.utf8.text c.requires.stands c.in-Ok.is refl
-    (anon_is_no_label _ holds))
-    (one_passes _ (λ t. is_anon t.kind) (λ t. on_anon) c.in-Ok.token _ _ _ _ c.utf8.text
-    c.requires.stands c.in-Ok.is holds (search rules) c.pass-then-is_anon.ensures.place)
+    right_passes (here_nowhere _ _ here refl (rw (only_anon _ holds) refl))
+    (sign_passes is_anon on_anon here holds (search rules) c.pass-then-is_anon.ensures.place)
 
 pub returns-clause-parses : goal.returns-clause-parses
 returns-clause-parses c =
+    let here = is_here c.args.reader.now c.utf8.text c.requires.stands c.in-Ok.is in
     let label : is_blank_label c.in-Ok.token.kind ≡ false =
     sym c.is_blank_label.ensures ∙ c.if-is_blank_label.false in
     let anon : is_anon c.in-Ok.token.kind ≡ false = sym c.is_anon.ensures ∙ c.if-is_anon.false in
-    here_nowhere _ _ c.in-Ok.token _ _ c.utf8.text c.requires.stands c.in-Ok.is refl (rw (label, anon) refl)
+    here_nowhere _ _ here refl (rw (label, anon) refl)

@@ -8,7 +8,8 @@ loop-reader-preserved c = record {
   stands = c.in_ok-sound_statement.ensures.advances.stands;
   leading = λ held.
       leading_on (setting c.args.text.now c.args.limits.now held) c.args.reader.now c.args.pool.now
-      c.loop-reader.reader c.loop-reader.pool c.sound_statement.new.reader c.sound_statement.new.pool c.in_ok-sound_statement.field-0
+      c.loop-reader.reader c.loop-reader.pool c.sound_statement.new.reader c.sound_statement.new.pool
+      c.in_ok-sound_statement.field-0
       (c.loop-reader.invariant.leading held) (c.in_ok-sound_statement.ensures.sound held);
 }
 
@@ -17,7 +18,8 @@ returns-in_err-sound_statement c = record {
   concludes = λ held.
       concludes_wrong (setting c.args.text.now c.args.limits.now held) c.args.reader.now c.args.pool.now
       c.loop-reader.reader c.loop-reader.pool c.sound_statement.new.reader c.sound_statement.new.pool
-      c.sound_statement.new.reader c.sound_statement.new.pool c.in_err-sound_statement.field-0.0 _ c.utf8.text c.from_residual.ensures.1
+      c.sound_statement.new.reader c.sound_statement.new.pool c.in_err-sound_statement.field-0.0 _
+      c.utf8.text c.from_residual.ensures.1
       (c.loop-reader.invariant.leading held) c.loop-reader.invariant.stands
       (sym c.is_at_end.ensures ∙ c.loop-reader-test.true) (c.in_err-sound_statement.ensures.sound held);
 }

@@ -4,7 +4,7 @@ use Rattle.std.specs.Option.{option_map}
 use Rattle.std.proofs.Common.{refl, sym, ap, ◌∙◌, inl, inr}
 use Rattle.std.proofs.lemmas.Option.{none-some, same_Some}
 use Rattle.shx_term.proofs.MemberLemmas.{none_in_empty, Contains-cases}
-use Rattle.shacl_run.specs.Document.{each_some}
+use Rattle.shacl_run.specs.Shapes.{each_some}
 
 module _ {X Y : Type 0} (f : Y → Option X) where
   -- where one has no value, there is no list

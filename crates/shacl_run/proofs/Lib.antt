@@ -1,10 +1,11 @@
-pub mod DocumentLemmas
+pub mod DeclareLemmas
 pub mod EachSomeLemmas
 pub mod EditLemmas
 pub mod EndLemmas
 pub mod EnumerateLemmas
 pub mod LoadLemmas
 pub mod PrepareLemmas
+pub mod ReadingLemmas
 pub mod ReplyLemmas
 pub mod RunLemmas
 pub mod SameReportLemmas

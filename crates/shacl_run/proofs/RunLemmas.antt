@@ -6,16 +6,15 @@ use Rattle.std.specs.Option.{option_and_then}
 use Rattle.shx_outside.specs.Outside.{SinkState}
 use Rattle.shx_outside.specs.Told.{Grew, Fell}
 use Rattle.shx_term.specs.declared.limits.Limits.{Limits}
-use Rattle.graph_view.specs.Graph.{Graph}
 use Rattle.report_write.specs.Writes.{Put}
 use Rattle.shacl_run.specs.declared.plan.Shape.{Shape}
 use Rattle.shacl_run.specs.declared.status.Status.{Status}
 use Rattle.shacl_run.specs.declared.status.Status.TheVariants.{WriteFault}
 use Rattle.shacl_run.specs.Declarations.{Declarations}
-use Rattle.shacl_run.specs.Document.{document_of}
 use Rattle.shacl_run.specs.Ends.{PutsWhole, PutsFront, Ends}
-use Rattle.shacl_run.specs.Run.{Output, Opening, ending, files_opening, with_declarations, with_document}
-use Rattle.shacl_run.specs.Run.{texts_opening}
+use Rattle.shacl_run.specs.Readings.{Readings, TextReading, States, Faulty}
+use Rattle.shacl_run.specs.Run.{Output, Opening, ending, files_opening, with_data, with_declarations}
+use Rattle.shacl_run.specs.Run.{texts_opening, with_shapes}
 use Rattle.shacl_run.specs.Run.{opening_output, run_output}
 use Rattle.shacl_run.specs.Run.Opening.{ends, opens}
 use Rattle.shacl_run.specs.RunClauses.{Ran, WritesWhole, WritesFront, HasCauses}
@@ -87,26 +86,31 @@ abbrev IsPlain : Opening → Type 0
 IsPlain (ends output) = output.pattern_refused ≡ false
 IsPlain (opens s) = Unit {0}
 
-plain_document : (shapes : List Shape) (document : Option Graph) → IsPlain (with_document shapes document)
-plain_document shapes None = refl
-plain_document shapes (Some document) = tt
+plain_data : (shapes : List Shape) (reading : TextReading) → IsPlain (with_data shapes reading)
+plain_data shapes (Faulty code at) = refl
+plain_data shapes (States document) = tt
 
-plain_declarations : (limits : Limits) (declared : Option Declarations) (data_text : Option (List ℕ))
-    → IfSome (with_declarations limits declared data_text) IsPlain
-plain_declarations limits None data_text = refl
-plain_declarations limits (Some declared) None = tt
-plain_declarations limits (Some declared) (Some text) =
-    plain_document declared.shapes (document_of limits declared.terms text)
+plain_declarations : (readings : Readings) (declared : Option Declarations) (data_text : Option (List ℕ))
+    → IfSome (with_declarations readings declared data_text) IsPlain
+plain_declarations readings None data_text = refl
+plain_declarations readings (Some declared) None = tt
+plain_declarations readings (Some declared) (Some text) = plain_data declared.shapes readings.data_text
 
-plain_texts : (limits : Limits) (shapes data_text : Option (List ℕ))
-    → IfSome (texts_opening limits shapes data_text) IsPlain
-plain_texts limits None data_text = tt
-plain_texts limits (Some text) data_text = plain_declarations limits _ data_text
+plain_shapes : (readings : Readings) (reading : TextReading) (data_text : Option (List ℕ))
+    → IfSome (with_shapes readings reading data_text) IsPlain
+plain_shapes readings (Faulty code at) data_text = refl
+plain_shapes readings (States document) data_text = plain_declarations readings _ data_text
 
-plain_files : (limits : Limits) (files : Option Files) (texts : List ℕ → Option (List ℕ))
-    → IfSome (files_opening limits files texts) IsPlain
-plain_files limits None texts = refl
-plain_files limits (Some files) texts = plain_texts limits (texts files.shapes_file) (texts files.data_file)
+plain_texts : (readings : Readings) (shapes data_text : Option (List ℕ))
+    → IfSome (texts_opening readings shapes data_text) IsPlain
+plain_texts readings None data_text = tt
+plain_texts readings (Some text) data_text = plain_shapes readings readings.shapes data_text
+
+plain_files : (readings : Readings) (files : Option Files) (texts : List ℕ → Option (List ℕ))
+    → IfSome (files_opening readings files texts) IsPlain
+plain_files readings None texts = refl
+plain_files readings (Some files) texts =
+    plain_texts readings (texts files.shapes_file) (texts files.data_file)
 
 plain_ending : (past : Bool) (s : ScriptState) → (ending past s).pattern_refused ≡ false
 plain_ending true s = refl
@@ -133,17 +137,17 @@ some_plain None status plain =
 some_plain (Some output) status plain = (output, λ _. refl, plain)
 
 module _ (r : Ran)
-    (run_ends : Ends (run_output r.limits r.words r.before.inputs.text) r.status
+    (run_ends : Ends (run_output r.limits r.readings r.words r.before.inputs.text) r.status
     r.before.inputs.faults r.after.inputs.faults r.before.sink r.after.sink) where
   pub WritesWhole-ends : IsAnswered r.status → WritesWhole r
   WritesWhole-ends answered =
-      let due = run_output r.limits r.words r.before.inputs.text in
+      let due = run_output r.limits r.readings r.words r.before.inputs.text in
       let w = told_whole due r.status r.before.sink r.after.sink (run_ends.whole answered) in
       record { output = w.output; due = λ some. defined (w.is some); status = w.status_is; put = w.put }
 
   pub WritesFront-ends : IsCutShort r.status → WritesFront r
   WritesFront-ends cut =
-      let due = run_output r.limits r.words r.before.inputs.text in
+      let due = run_output r.limits r.readings r.words r.before.inputs.text in
       let f = told_front due r.status r.before.sink r.after.sink (run_ends.front cut) in
       record {
         output = f.output;
@@ -160,8 +164,9 @@ module _ (r : Ran)
       → r.after.steps ≡ r.before.steps → HasCauses r
   HasCauses-ends patterns nested steps =
       let texts = r.before.inputs.text in
-      let plain = plain_output r.limits _ _ (plain_files r.limits (command_words r.words) texts) in
-      let (output, is, unrefused) = some_plain (run_output r.limits r.words texts) r.status plain in
+      let plain = plain_output r.limits _ _ (plain_files r.readings (command_words r.words) texts) in
+      let (output, is, unrefused) =
+      some_plain (run_output r.limits r.readings r.words texts) r.status plain in
       let causes = run_ends.causes in
       record {
         output = output;

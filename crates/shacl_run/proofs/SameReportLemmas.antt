@@ -16,18 +16,20 @@ use Rattle.graph_view.proofs.SameGraphLemmas.{numbers_same, objects_of-same}
 use Rattle.shacl_run.specs.declared.plan.Shape.{Shape}
 use Rattle.shacl_run.specs.declared.result_row.Pair.{Pair}
 use Rattle.shacl_run.specs.Declarations.{Declarations, declared_by}
-use Rattle.shacl_run.specs.Document.{each_some}
+use Rattle.shacl_run.specs.Shapes.{each_some}
 use Rattle.shacl_run.specs.Shapes.{is_built, shape_nodes, shape_at, shape_with_path, target_at, has_value_of}
 use Rattle.shacl_run.specs.Shapes.{shapes_of}
 use Rattle.shacl_run.specs.Evaluation.{value_nodes, shape_results, constraint_results, results}
 use Rattle.shacl_run.specs.Evaluation.{node_of_target, pair_of, pairs_of_shape, pairs, report}
 
-pub built_same : (triples others : List Triple) → HoldsSame triples others
-    → list_all is_built triples ≡ list_all is_built others
-built_same triples others same =
-    both_ways (list_all is_built triples) (list_all is_built others)
-    (λ h. list_all_of is_built others (λ t c. each_passes is_built triples h t ((same.each t).1 c)))
-    (λ h. list_all_of is_built triples (λ t c. each_passes is_built others h t ((same.each t).0 c)))
+pub built_same : (terms : List Term) (triples others : List Triple) → HoldsSame triples others
+    → list_all (is_built terms) triples ≡ list_all (is_built terms) others
+built_same terms triples others same =
+    both_ways (list_all (is_built terms) triples) (list_all (is_built terms) others)
+    (λ h.
+    list_all_of (is_built terms) others (λ t c. each_passes (is_built terms) triples h t ((same.each t).1 c)))
+    (λ h.
+    list_all_of (is_built terms) triples (λ t c. each_passes (is_built terms) others h t ((same.each t).0 c)))
 
 module _ (g h : Graph) (same : SameGraph g h) where
   nodes_same : shape_nodes g ≡ shape_nodes h
@@ -59,8 +61,9 @@ module _ (g h : Graph) (same : SameGraph g h) where
   pub shapes_of_same : shapes_of g ≡ shapes_of h
   shapes_of_same =
       ap (λ (b : Bool). if b then each_some (map (shape_at g) (shape_nodes g)) else None)
-      (built_same g.triples h.triples same.triples)
-      ∙ ap (λ (shapes : Option (List Shape)). if list_all is_built h.triples then shapes else None)
+      (built_same g.terms g.triples h.triples same.triples
+      ∙ ap (λ (terms : List Term). list_all (is_built terms) h.triples) same.terms)
+      ∙ ap (λ (shapes : Option (List Shape)). if list_all (is_built h.terms) h.triples then shapes else None)
       (ap (λ (nodes : List ℕ). each_some (map (shape_at g) nodes)) nodes_same
       ∙ ap each_some (map_shape_same (shape_nodes h)))
 

@@ -130,3 +130,8 @@ pub opened_told : (limits : Limits) (script : Option (List ℕ)) (opening : Opti
 opened_told limits script None s is = tt
 opened_told limits script (Some opening) s is =
     rw is (told_self (option_map (validation_output limits s) script))
+
+pub opening_told : (opening : Option Opening) (s : ScriptState) (P : Opening → Type 0)
+    → IfSome opening (λ o. o ≡ opens s) → P (opens s) → IfSome opening P
+opening_told None s P is holds = tt
+opening_told (Some opening) s P is holds = subst P (sym is) holds

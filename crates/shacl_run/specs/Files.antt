@@ -6,6 +6,7 @@ use Rattle.shx_outside.specs.Outside.{InputState, SinkState}
 use Rattle.shx_term.specs.declared.limits.Limits.{Limits}
 use Rattle.shacl_run.specs.declared.words.Files.{Files as named_files}
 use Rattle.shacl_run.specs.Run.{Output, texts_opening, opening_output, opening_fed, script_text}
+use Rattle.shacl_run.specs.Readings.{Readings}
 use Rattle.shacl_run.specs.RunClauses.{StopsFed}
 use Rattle.shacl_run.specs.Words.{Files}
 
@@ -17,13 +18,13 @@ files_of files = record {
   script_file = option_map (λ name. name.now) files.script_file;
 }
 
-abbrev pub files_output : Limits → Files → (List ℕ → Option (List ℕ)) → Option Output
-files_output limits files texts =
+abbrev pub files_output : Limits → Readings → Files → (List ℕ → Option (List ℕ)) → Option Output
+files_output limits readings files texts =
     option_and_then (opening_output limits (script_text texts files.script_file))
-    (texts_opening limits (texts files.shapes_file) (texts files.data_file))
+    (texts_opening readings (texts files.shapes_file) (texts files.data_file))
 
-abbrev pub FilesStop : Limits → Files → InputState → InputState → SinkState → SinkState → Type 0
-FilesStop limits files inputs inputs' before after =
-    IfSome (texts_opening limits (inputs.text files.shapes_file) (inputs.text files.data_file)) (λ opening.
+abbrev pub FilesStop : Limits → Readings → Files → InputState → InputState → SinkState → SinkState → Type 0
+FilesStop limits readings files inputs inputs' before after =
+    IfSome (texts_opening readings (inputs.text files.shapes_file) (inputs.text files.data_file)) (λ opening.
     StopsFed (opening_fed limits opening) (script_text inputs.text files.script_file)
     (inputs'.rest Script) before after)

@@ -1,11 +1,13 @@
 pub mod Declarations
-pub mod Document
+pub mod Declares
 pub mod Edits
 pub mod Ends
 pub mod Evaluation
 pub mod Files
 pub mod Outside
 pub mod Prepared
+pub mod Readings
+pub mod Refusal
 pub mod Reply
 pub mod Report
 pub mod Run

@@ -6,35 +6,38 @@ use Rattle.shx_outside.specs.Outside.{InputState}
 use Rattle.shx_outside.specs.Told.{IsAtEnd}
 use Rattle.shx_term.specs.declared.limits.Limits.{Limits}
 use Rattle.shacl_run.specs.declared.prepare.Prepared.{Prepared}
-use Rattle.shacl_run.specs.declared.prepare.Prepared.TheVariants.{NotBuilt, Open}
+use Rattle.shacl_run.specs.declared.prepare.Prepared.TheVariants.{Refused, Open}
 use Rattle.shacl_run.specs.declared.validation.Validation.{Validation}
 use Rattle.shacl_run.specs.declared.stop.Stop.{Stop}
 use Rattle.shacl_run.specs.declared.stop.Stop.TheVariants.{Input, Write, Memory}
-use Rattle.shacl_run.specs.Run.{texts_opening, not_built}
+use Rattle.shacl_run.specs.Run.{texts_opening, faulty}
 use Rattle.shacl_run.specs.Run.Opening.{ends, opens}
+use Rattle.shacl_run.specs.Readings.{Readings}
 use Rattle.shacl_run.specs.ScriptState.{ScriptState}
 use Rattle.shacl_run.specs.Validation.{IsNew, IsValidation}
 
 -- the validation is what the two texts open
-pub record Opened (limits : Limits) (shapes data_text : Option (List ℕ)) (validation : Validation)
-    : Type 0 where
+pub record Opened (limits : Limits) (readings : Readings) (shapes data_text : Option (List ℕ))
+    (validation : Validation) : Type 0 where
   pub state : ScriptState
   pub stored : IsValidation limits state validation
-  pub due : IfSome (texts_opening limits shapes data_text) (λ opening. opening ≡ opens state)
+  pub due : IfSome (texts_opening readings shapes data_text) (λ opening. opening ≡ opens state)
 
-abbrev pub Prepares : Limits → Option (List ℕ) → Option (List ℕ) → Prepared → Type 0
-Prepares limits shapes data_text (NotBuilt role) =
-    IfSome (texts_opening limits shapes data_text) (λ opening. opening ≡ ends (not_built role))
-Prepares limits shapes data_text (Open validation) = Opened limits shapes data_text validation
+abbrev pub Prepares : Limits → Readings → Option (List ℕ) → Option (List ℕ) → Prepared → Type 0
+Prepares limits readings shapes data_text (Refused role fault) =
+    IfSome (texts_opening readings shapes data_text)
+    (λ opening. opening ≡ ends (faulty role fault.code fault.at))
+Prepares limits readings shapes data_text (Open validation) =
+    Opened limits readings shapes data_text validation
 
 -- a validation that is opened is new
 abbrev pub IsFresh : Prepared → Type 0
-IsFresh (NotBuilt role) = Unit {0}
+IsFresh (Refused role fault) = Unit {0}
 IsFresh (Open validation) = IsNew validation
 
 -- a validation is opened only where both texts were read to their ends
 abbrev pub IsReadToEnd : InputState → Prepared → Type 0
-IsReadToEnd inputs (NotBuilt role) = Unit {0}
+IsReadToEnd inputs (Refused role fault) = Unit {0}
 IsReadToEnd inputs (Open validation) = IsAtEnd (inputs.rest Shapes) × IsAtEnd (inputs.rest Data)
 
 -- the inputs' count rose where they failed, and in no other case

@@ -1,15 +1,16 @@
--- The whole output of a run: a function of the words and of the texts that are told.
+-- The whole output of a run: a function of the words, of the texts that are told, and of what the two
+-- texts are read as.
 use Rattle.std.specs.Prelude.{ℕ, Bool, true, false, nat_lt, List, [], ◌∷◌, ◌++◌, length}
 use Rattle.std.specs.Prelude.{Option, Some, None, if◌then◌else◌}
 use Rattle.std.specs.Option.{option_map, option_and_then}
 use Rattle.shx_outside.specs.declared.role.Role.{Role}
 use Rattle.shx_outside.specs.declared.role.Role.TheVariants.{Shapes, Data, Script}
 use Rattle.shx_term.specs.declared.limits.Limits.{Limits}
-use Rattle.shx_term.specs.Vocabulary.{vocabulary}
-use Rattle.graph_view.specs.Graph.{Graph, graph_of}
+use Rattle.shx_term.specs.declared.fault_code.TheConstants.{NOT_BUILT}
+use Rattle.graph_view.specs.Graph.{graph_of}
 use Rattle.text_input.specs.Lines.{script_lines, fed_lines}
 use Rattle.report_write.specs.declared.answer.Answer.{Answer}
-use Rattle.report_write.specs.declared.answer.Answer.TheVariants.{NotBuilt, Usage}
+use Rattle.report_write.specs.declared.answer.Answer.TheVariants.{Fault, Usage}
 use Rattle.report_write.specs.Answers.{answer_text}
 use Rattle.shacl_run.specs.declared.plan.Shape.{Shape}
 use Rattle.shacl_run.specs.declared.result_row.ResultRow.{ResultRow}
@@ -18,7 +19,7 @@ use Rattle.shacl_run.specs.declared.status.Status.TheVariants.{Conforms, Violate
 use Rattle.shacl_run.specs.declared.status.Status.TheVariants.{LinesRefused}
 use Rattle.shacl_run.specs.Words.{Files, command_words}
 use Rattle.shacl_run.specs.Declarations.{Declarations, declared_by}
-use Rattle.shacl_run.specs.Document.{document_of}
+use Rattle.shacl_run.specs.Readings.{Readings, TextReading, States, Faulty}
 use Rattle.shacl_run.specs.Evaluation.{report}
 use Rattle.shacl_run.specs.Script.{said_text, answers_text, state_after}
 use Rattle.shacl_run.specs.Script.Said.{reports}
@@ -34,8 +35,12 @@ pub record Output : Type 0 where
 abbrev pub answer_output : Answer → Status → Output
 answer_output answer status = record { text = answer_text answer; status = status; pattern_refused = false }
 
+-- a text has a fault
+abbrev pub faulty : Role → ℕ → Option ℕ → Output
+faulty role code at = answer_output (Fault role code at) Refused
+
 abbrev pub not_built : Role → Output
-not_built role = answer_output (NotBuilt role) Refused
+not_built role = faulty role NOT_BUILT None
 
 -- a text, and then an output
 abbrev pub behind : List ℕ → Output → Output
@@ -79,33 +84,35 @@ pub data Opening : Type 0 where
   ends : Output → Opening
   opens : ScriptState → Opening
 
--- the data text states a document, or it is not built
-abbrev pub with_document : List Shape → Option Graph → Opening
-with_document shapes None = ends (not_built Data)
-with_document shapes (Some document) = opens (start_state (graph_of document.terms document.triples) shapes)
+-- the data text states a document, or has a fault
+abbrev pub with_data : List Shape → TextReading → Opening
+with_data shapes (Faulty code at) = ends (faulty Data code at)
+with_data shapes (States document) = opens (start_state (graph_of document.terms document.triples) shapes)
 
 -- the shapes are declared, or they are not built; the data text is told or not
-abbrev pub with_declarations : Limits → Option Declarations → Option (List ℕ) → Option Opening
-with_declarations limits None data_text = Some (ends (not_built Shapes))
-with_declarations limits (Some declared) data_text =
-    option_map (λ text. with_document declared.shapes (document_of limits declared.terms text)) data_text
+abbrev pub with_declarations : Readings → Option Declarations → Option (List ℕ) → Option Opening
+with_declarations readings None data_text = Some (ends (not_built Shapes))
+with_declarations readings (Some declared) data_text =
+    option_map (λ text. with_data declared.shapes readings.data_text) data_text
+
+-- the shapes text states a document, or has a fault
+abbrev pub with_shapes : Readings → TextReading → Option (List ℕ) → Option Opening
+with_shapes readings (Faulty code at) data_text = Some (ends (faulty Shapes code at))
+with_shapes readings (States document) data_text = with_declarations readings (declared_by document) data_text
 
 -- what the two texts come to, where they are told
-abbrev pub texts_opening : Limits → Option (List ℕ) → Option (List ℕ) → Option Opening
-texts_opening limits shapes data_text =
-    option_and_then
-    (λ text.
-    with_declarations limits (option_and_then declared_by (document_of limits vocabulary text)) data_text)
-    shapes
+abbrev pub texts_opening : Readings → Option (List ℕ) → Option (List ℕ) → Option Opening
+texts_opening readings shapes data_text =
+    option_and_then (λ text. with_shapes readings readings.shapes data_text) shapes
 
 -- the words name files or not
-abbrev pub files_opening : Limits → Option Files → (List ℕ → Option (List ℕ)) → Option Opening
-files_opening limits None texts = Some (ends (answer_output Usage BadWords))
-files_opening limits (Some files) texts =
-    texts_opening limits (texts files.shapes_file) (texts files.data_file)
+abbrev pub files_opening : Readings → Option Files → (List ℕ → Option (List ℕ)) → Option Opening
+files_opening readings None texts = Some (ends (answer_output Usage BadWords))
+files_opening readings (Some files) texts =
+    texts_opening readings (texts files.shapes_file) (texts files.data_file)
 
-abbrev pub opening : Limits → List (List ℕ) → (List ℕ → Option (List ℕ)) → Option Opening
-opening limits words texts = files_opening limits (command_words words) texts
+abbrev pub opening : Readings → List (List ℕ) → (List ℕ → Option (List ℕ)) → Option Opening
+opening readings words texts = files_opening readings (command_words words) texts
 
 -- a script that the words do not name is empty
 abbrev pub script_text : (List ℕ → Option (List ℕ)) → Option (List ℕ) → Option (List ℕ)
@@ -122,10 +129,10 @@ opening_output limits script (ends output) = Some output
 opening_output limits script (opens s) = option_map (validation_output limits s) script
 
 -- the output, where the texts are told that it depends on
-abbrev pub run_output : Limits → List (List ℕ) → (List ℕ → Option (List ℕ)) → Option Output
-run_output limits words texts =
+abbrev pub run_output : Limits → Readings → List (List ℕ) → (List ℕ → Option (List ℕ)) → Option Output
+run_output limits readings words texts =
     option_and_then (opening_output limits (words_script texts (command_words words)))
-    (opening limits words texts)
+    (opening readings words texts)
 
 -- what is written of it up to and with the answers to the lines whose line feed stands in these bytes of
 -- the script

@@ -13,35 +13,54 @@ use Rattle.shacl_run.specs.declared.status.Status.{Status}
 use Rattle.shacl_run.specs.declared.status.Status.TheVariants.{InputFault, WriteFault, Refused}
 use Rattle.shacl_run.specs.Outside.{Outside}
 use Rattle.shacl_run.specs.Run.{Output, run_output, opening, opening_fed, words_script}
+use Rattle.shacl_run.specs.Readings.{Readings, AreRight}
 use Rattle.shacl_run.specs.Words.{Files, command_words}
 
--- what a run was given, what it left behind, and how it ended
+-- what a run was given, what the two texts are read as, what it left behind, and how it ended
 pub record Ran : Type 0 where
   pub limits : Limits
+  pub readings : Readings
   pub words : List (List ℕ)
   pub before : Outside
   pub after : Outside
   pub status : Status
 
-abbrev pub ran : Limits → List (List ℕ) → Outside → Outside → Status → Ran
-ran limits words before after status = record {
+abbrev pub ran : Limits → Readings → List (List ℕ) → Outside → Outside → Status → Ran
+ran limits readings words before after status = record {
   limits = limits;
+  readings = readings;
   words = words;
   before = before;
   after = after;
   status = status;
 }
 
+-- the texts that the words name are read so, where they are told
+abbrev pub AreRightOf : Limits → Readings → Option Files → (List ℕ → Option (List ℕ)) → Type 0
+AreRightOf limits readings None texts = Unit {0}
+AreRightOf limits readings (Some files) texts =
+    AreRight limits readings (texts files.shapes_file) (texts files.data_file)
+
+-- the texts have a reading
+abbrev pub IsRead : Limits → List (List ℕ) → (List ℕ → Option (List ℕ)) → Type 0
+IsRead limits words texts = (readings : Readings) × AreRightOf limits readings (command_words words) texts
+
+-- ... and so it is, as which texts are read
+abbrev pub WhereRead : Limits → List (List ℕ) → (List ℕ → Option (List ℕ)) → (Readings → Type 0) → Type 0
+WhereRead limits words texts P =
+    (readings : Readings) → AreRightOf limits readings (command_words words) texts → P readings
+
 -- the outputs that are due of words and texts: so far the defined one alone
-pub data IsDue (limits : Limits) (words : List (List ℕ)) (texts : List ℕ → Option (List ℕ)) (output : Output)
-    : Type 0 where
-  defined : run_output limits words texts ≡ Some output → IsDue limits words texts output
+pub data IsDue (limits : Limits) (readings : Readings) (words : List (List ℕ)) (texts : List ℕ
+    → Option (List ℕ))
+    (output : Output) : Type 0 where
+  defined : run_output limits readings words texts ≡ Some output → IsDue limits readings words texts output
 
 -- the output is due, where the texts are told that it depends on
 abbrev pub IsDueOf : Ran → Output → Type 0
 IsDueOf r output =
-    IsSome (run_output r.limits r.words r.before.inputs.text)
-    → IsDue r.limits r.words r.before.inputs.text output
+    IsSome (run_output r.limits r.readings r.words r.before.inputs.text)
+    → IsDue r.limits r.readings r.words r.before.inputs.text output
 
 -- the bytes written and the status are those of an output that is due
 pub record WritesWhole (r : Ran) : Type 0 where
@@ -116,8 +135,9 @@ pub record StopsFed (fed : List ℕ → List ℕ) (script left : Option (List �
 
 -- where an input failed after the script was opened, the answers to the lines that were taken whole stand
 -- written
-abbrev pub ScriptStops : Limits → List (List ℕ) → InputState → InputState → SinkState → SinkState → Type 0
-ScriptStops limits words inputs inputs' before after =
-    IfSome (opening limits words inputs.text) (λ opening.
+abbrev pub ScriptStops : Limits → Readings → List (List ℕ) → InputState → InputState → SinkState → SinkState
+    → Type 0
+ScriptStops limits readings words inputs inputs' before after =
+    IfSome (opening readings words inputs.text) (λ opening.
     StopsFed (opening_fed limits opening) (words_script inputs.text (command_words words))
     (inputs'.rest Script) before after)

@@ -1,8 +1,12 @@
 -- The shapes that a shapes graph declares. So far a shape states target nodes, one path that is an IRI, and
 -- values that the path must have; a graph with anything else has no shapes here.
-use Rattle.std.specs.Prelude.{ℕ, Bool, ◌||◌, ◌==◌, List, [], ◌∷◌, map, Option, Some, None, if◌then◌else◌}
+use Rattle.std.specs.Prelude.{ℕ, Bool, true, false, ◌||◌, ◌&&◌, ◌==◌, slice_get, List, [], ◌∷◌, map, Option}
+use Rattle.std.specs.Prelude.{Some, None, if◌then◌else◌}
 use Rattle.std.specs.List.{list_all}
+use Rattle.std.specs.Option.{option_map}
 use Rattle.shx_term.specs.declared.vocabulary.TheConstants.{SH_PATH, SH_TARGET_NODE, SH_HAS_VALUE}
+use Rattle.shx_term.specs.declared.term.Term.{Term}
+use Rattle.shx_term.specs.declared.term.Term.TheVariants.{Iri, Blank}
 use Rattle.shx_term.specs.declared.triple.Triple.{Triple}
 use Rattle.shx_term.specs.IdOrder.{in_term_order}
 use Rattle.graph_view.specs.Graph.{Graph, objects_of}
@@ -11,11 +15,22 @@ use Rattle.shacl_run.specs.declared.plan.Target.{Target}
 use Rattle.shacl_run.specs.declared.plan.Target.TheVariants.{Node}
 use Rattle.shacl_run.specs.declared.plan.Constraint.{Constraint}
 use Rattle.shacl_run.specs.declared.plan.Constraint.TheVariants.{HasValue}
-use Rattle.shacl_run.specs.Document.{each_some}
 
--- the predicates that are built
-abbrev pub is_built : Triple → Bool
-is_built t = (t.p == SH_TARGET_NODE) || ((t.p == SH_PATH) || (t.p == SH_HAS_VALUE))
+abbrev pub is_iri : Option Term → Bool
+is_iri (Some (Iri iri)) = true
+is_iri (Some other) = false
+is_iri None = false
+
+abbrev pub is_no_blank_node : Option Term → Bool
+is_no_blank_node (Some (Blank name)) = false
+is_no_blank_node (Some other) = true
+is_no_blank_node None = false
+
+-- what is built: a path that is an IRI, a target that is no blank node, and any value
+abbrev pub is_built : List Term → Triple → Bool
+is_built terms t =
+    ((t.p == SH_PATH) && is_iri (slice_get terms t.o))
+    || (((t.p == SH_TARGET_NODE) && is_no_blank_node (slice_get terms t.o)) || (t.p == SH_HAS_VALUE))
 
 -- the nodes that are shapes, in term order
 abbrev pub shape_nodes : Graph → List ℕ
@@ -41,6 +56,13 @@ shape_with_path g node (path ∷ (other ∷ paths)) = None
 abbrev pub shape_at : Graph → ℕ → Option Shape
 shape_at g node = shape_with_path g node (objects_of g node SH_PATH)
 
+-- the values of a list, where there is one at every place
+abbrev pub each_some : {X : Type 0} → List (Option X) → Option (List X)
+each_some [] = Some []
+each_some (None ∷ xs) = None
+each_some (Some x ∷ xs) = option_map (λ rest. x ∷ rest) (each_some xs)
+
 -- the shapes in term order of their nodes
 abbrev pub shapes_of : Graph → Option (List Shape)
-shapes_of g = if list_all is_built g.triples then each_some (map (shape_at g) (shape_nodes g)) else None
+shapes_of g = if list_all (is_built g.terms) g.triples then each_some (map (shape_at g) (shape_nodes g))
+    else None

@@ -1,17 +1,17 @@
 //! From the shapes text to the shapes that it declares.
-ghost use Rattle.std.specs.Prelude.{◌≡◌, Some, None, MatchOption, IfSome, IfOk};
-ghost use Rattle.std.specs.Option.{option_and_then};
-ghost use Rattle.shx_term.specs.Vocabulary.{vocabulary};
+ghost use Rattle.std.specs.Prelude.{◌≡◌, ◌≤◌, None, Some, length, MatchOption, IfSome, IfOk, IfErr};
 ghost use Rattle.shx_term.specs.Limits.{AreUsable};
-ghost use Rattle.shacl_run.specs.Document.{IsKnownDocument, document_of};
 ghost use Rattle.shacl_run.specs.Declarations.{declared_by};
+ghost use Rattle.shacl_run.specs.Declares.{Declares, RefusesShapes};
+ghost use Rattle.shacl_run.specs.Readings.{IsKnownDocument};
 
-use crate::document::read_document;
+use crate::document::read_triples;
 use crate::load::load;
 use crate::plan::Shape;
+use crate::refusal::{Refusal, not_built};
 use crate::shapes::read_shapes;
 use graph_view::ListGraph;
-use shx_term::{Limits, Memory, Pool, Triple};
+use shx_term::{Limits, Memory, Pool, Scope, Triple};
 use std::alloc::Global;
 
 /// The shapes of a shapes text, and the terms that are then held.
@@ -21,20 +21,20 @@ pub struct Declared {
     pub shapes: Vec<Shape>,
 }
 
-/// What a shapes text declares; `None` where it is not built.
-pub fn declare(alloc: Global, text: &[u8], limits: &Limits) -> Result<Option<Declared>, Memory>
-    requires { AreUsable limits.now }
-    ensures declared { let due = option_and_then declared_by (document_of limits.now vocabulary text.now) in
-        IfOk result (λ declared. MatchOption declared (due ≡ None)
-        (λ d. due ≡ Some (record { terms = d.pool.terms; shapes = d.shapes.items }))) }
-    ensures limit { IfOk result (λ declared. IfSome declared (λ d. d.pool.limit ≡ limits.now.terms)) }
+/// What a shapes text declares, or why it is refused.
+pub fn declare(alloc: Global, text: &[u8], limits: &Limits) -> Result<Declared, Refusal>
+    requires usable { AreUsable limits.now }
+    requires within { length text.now ≤ limits.now.text }
+    ensures declares { IfOk result (Declares limits.now text.now) }
+    ensures refused { IfErr result (RefusesShapes limits.now text.now) }
+    ensures limit { IfOk result (λ declared. declared.pool.limit ≡ limits.now.terms) }
 {
     let mut pool = Pool::with_vocabulary(alloc, limits.terms)?;
-    let Some(triples) = read_document(alloc, text, limits, &mut pool)? else {
-        return Ok(None);
-    };
-    let declared = declare_document(alloc, pool, &triples, limits.triples)?;
-    Ok(declared)
+    let triples = read_triples(alloc, text, Scope::Shapes, limits, &mut pool)?;
+    match declare_document(alloc, pool, &triples, limits.triples)? {
+        Some(declared) => Ok(declared),
+        None => Err(Refusal::Fault(not_built())),
+    }
 }
 
 // What a document declares.

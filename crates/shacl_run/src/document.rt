@@ -1,91 +1,45 @@
-//! What a text in the line form states.
-ghost use Rattle.std.specs.Prelude.{◌≡◌, ◌<◌, [], ◌∷◌, length, Some, None, MatchOption, IfSome, IfOk, IfErr};
-ghost use Rattle.std.specs.Prelude.{OnOk};
-ghost use Rattle.shx_term.specs.Pool.{with_terms};
-ghost use Rattle.shx_term.specs.TripleTerms.{terms_of, numbered};
-ghost use Rattle.edit_script.specs.Triples.{triple_of_line};
-ghost use Rattle.shacl_run.specs.Document.{document_of};
+//! What a text of Turtle states.
+ghost use Rattle.std.specs.Prelude.{◌≡◌, ◌≤◌, Some, length, IfOk, IfErr, codes};
+ghost use Rattle.iri_resolve.specs.Resolution.{IsAbsolute};
+ghost use Rattle.shacl_run.specs.Readings.{IsKnownDocument, IsReadAs, States, text_base};
+ghost use Rattle.shacl_run.specs.Refusal.{RefusesAs};
 
-use edit_script::{LineFault, read_triple};
-use shx_term::{Limits, Memory, Pool, PoolFault, TermTriple, Triple};
-use std::alloc::{AllocError, Global};
-use text_input::split_line;
+use crate::refusal::{Refusal, TextFault};
+use shx_term::{IriText, Limits, Memory, Pool, Scope, Triple};
+use std::alloc::Global;
+use ttl_read::{TtlFault, read_document};
 
-/// The triples of a text in the line form, over the numbers of their terms, which are entered into the pool.
-/// `None` where the text is not of the form or passes a limit; the pool may then hold more terms. It takes
-/// time linear in the text.
-pub fn read_document(
+/// The triples that a text states, over the numbers of their terms, which are entered into the pool; or why
+/// it is refused. The pool may then hold more terms. It takes time linear in the text, but for looking up
+/// terms by hash and prefixes by name.
+pub fn read_triples(
     alloc: Global,
     text: &[u8],
+    scope: Scope,
     limits: &Limits,
     pool: &mut Pool,
-) -> Result<Option<Vec<Triple>>, Memory>
-    requires { pool.old.limit ≡ limits.now.terms }
-    ensures limit { pool.new.limit ≡ pool.old.limit }
-    ensures document { let document = document_of limits.now pool.old.terms text.now in IfOk result (λ read.
-        MatchOption read (document ≡ None)
-        (λ triples. document ≡ Some (record { terms = pool.new.terms; triples = triples.items }))) }
+) -> Result<Vec<Triple>, Refusal>
+    requires limit { pool.old.limit ≡ limits.now.terms }
+    requires within { length text.now ≤ limits.now.text }
+    ensures limit { IfOk result (λ triples. pool.new.limit ≡ limits.now.terms) }
+    ensures states { IfOk result (λ triples. IsReadAs limits.now scope pool.old.terms text.now
+        (States (record { terms = pool.new.terms; triples = triples.items }))) }
+    ensures known { IfOk result (λ triples. IsKnownDocument limits.now.triples
+        (record { terms = pool.new.terms; triples = triples.items })) }
+    ensures refused { IfErr result (RefusesAs (IsReadAs limits.now scope pool.old.terms text.now)) }
 {
-    if text.len() as u64 > limits.text {
-        return Ok(None);
-    }
-    let mut triples = Vec::new(alloc);
-    let mut rest = text;
-    while !rest.is_empty() {
-        let (line, after) = split_line(rest);
-        rest = after;
-        if triples.len() as u64 >= limits.triples {
-            return Ok(None);
-        }
-        let Some(stated) = read_line(alloc, line)? else {
-            return Ok(None);
-        };
-        let Some(triple) = enter_triple(pool, &stated)? else {
-            return Ok(None);
-        };
-        triples.push(triple)?;
-    }
-    // A pool never holds more terms than its limit.
-    prove!(pool.len() <= limits.terms);
-    Ok(Some(triples))
-}
-
-// The triple of a line.
-fn read_line(alloc: Global, line: &[u8]) -> Result<Option<TermTriple>, Memory>
-    ensures { IfOk result (λ triple. triple ≡ triple_of_line line.now) }
-{
-    match read_triple(alloc, line) {
-        Ok(stated) => Ok(Some(stated)),
-        Err(LineFault::Line { code: _, at: _ }) => Ok(None),
-        Err(LineFault::Memory) => Err(AllocError),
+    let base = text_base(alloc)?;
+    match read_document(alloc, text, &base, scope, limits, pool) {
+        Ok(document) => Ok(document.triples),
+        Err(TtlFault::At { code, at }) => Err(Refusal::Fault(TextFault { code, at: Some(at) })),
+        Err(TtlFault::Memory) => Err(Refusal::Memory),
     }
 }
 
-// The triple over the numbers of its terms, or `None` where the pool is full.
-fn enter_triple(pool: &mut Pool, stated: &TermTriple) -> Result<Option<Triple>, Memory>
-    ensures limit { pool.new.limit ≡ pool.old.limit }
-    ensures entered { let terms = with_terms pool.old.terms (terms_of (stated.now ∷ [])) in
-        IfOk result (λ entered.
-        MatchOption entered (pool.old.limit < length terms) (λ _. pool.new.terms ≡ terms)) }
-    ensures triple { IfOk result (λ entered. IfSome entered (λ triple.
-        numbered pool.new.terms stated.now ≡ Some triple)) }
+// The base of both texts.
+fn text_base(alloc: Global) -> Result<IriText, Memory>
+    ensures base { IfOk result (λ base. base ≡ text_base) }
+    ensures absolute { IfOk result IsAbsolute }
 {
-    match enter_terms(pool, stated) {
-        Ok(triple) => Ok(Some(triple)),
-        Err(PoolFault::Full) => Ok(None),
-        Err(PoolFault::Memory) => Err(AllocError),
-    }
-}
-
-fn enter_terms(pool: &mut Pool, stated: &TermTriple) -> Result<Triple, PoolFault>
-    ensures limit { pool.new.limit ≡ pool.old.limit }
-    ensures entered { OnOk result (pool.new.terms ≡ with_terms pool.old.terms (terms_of (stated.now ∷ []))) }
-    ensures triple { IfOk result (λ triple. numbered pool.new.terms stated.now ≡ Some triple) }
-    ensures full { IfErr result (λ fault. fault ≡ PoolFault.Full
-        → pool.old.limit < length (with_terms pool.old.terms (terms_of (stated.now ∷ [])))) }
-{
-    let s = pool.enter(&stated.s)?;
-    let p = pool.enter(&stated.p)?;
-    let o = pool.enter(&stated.o)?;
-    Ok(Triple { s, p, o })
+    Ok(IriText::new(String::from_str(alloc, "file:///")?))
 }

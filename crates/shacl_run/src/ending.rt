@@ -1,24 +1,27 @@
 //! How a run ends.
 ghost use Rattle.std.specs.Prelude.{◌≡◌, ℕ, Some};
 ghost use Rattle.shacl_run.specs.Ends.{Ends};
-ghost use Rattle.shacl_run.specs.Run.{not_built, status_of_rows};
+ghost use Rattle.shacl_run.specs.Run.{faulty, status_of_rows};
 ghost use Rattle.shacl_run.specs.Status.{IsReported};
 ghost use Rattle.shacl_run.specs.Stops.{end_status};
 
+use crate::refusal::TextFault;
 use crate::result_row::ResultRow;
 use crate::status::Status;
 use crate::stop::Stop;
 use report_write::{Answer, write_answer};
 use shx_outside::{Role, Sink};
 
-/// Writes that a text is not built, with which the run ends.
-pub fn refuse<O: Sink>(role: Role, out: &mut O) -> Result<Status, Stop>
-    ensures ends { (faults : ℕ) → Ends (Some (not_built role)) (end_status result) faults faults
+/// Writes the fault of a text, with which the run ends.
+pub fn refuse<O: Sink>(role: Role, fault: TextFault, out: &mut O) -> Result<Status, Stop>
+    ensures ends { (faults : ℕ)
+        → Ends (Some (faulty role fault.code fault.at)) (end_status result) faults faults
         (O.state out.old) (O.state out.new) }
     ensures unreported { IsReported (end_status result) → ⊥ }
     ensures output { end_status result ≡ Status.InputFault → ⊥ }
 {
-    write_answer(&Answer::NotBuilt { role }, out)?;
+    let TextFault { code, at } = fault;
+    write_answer(&Answer::Fault { role, code, at }, out)?;
     Ok(Status::Refused)
 }
 

@@ -1,23 +1,23 @@
 //! A run of the validator: from the words of the command line and the texts that they name to the report,
-//! and on to the
-//! answers to a script.
+//! and on to the answers to a script.
 //!
 //! | file | what it holds |
 //! |---|---|
 //! | `top.rt` | `run`: the whole run, with its theorem |
 //! | `status.rt`, `stop.rt`, `ending.rt` | how a run ends, and why it is cut short |
 //! | `words.rt` | the words of the command line |
-//! | `prepare.rt` | from the texts to a validation, or to the text that is not built |
+//! | `prepare.rt` | from the texts to a validation, or to the text that is refused |
 //! | `validation.rt` | `Validation`: shapes, their data graph, and how far the script has come |
 //! | `open_validation.rt` | from the data text to a validation |
 //! | `run_validation.rt`, `serve.rt` | the report of a validation, and its script |
 //! | `take_line.rt`, `reply.rt`, `edit.rt` | one line of a script: taken, done, answered |
 //! | `report.rt` | the text of a report |
-//! | `document.rt`, `load.rt` | so far: what a text in the line form states |
+//! | `document.rt`, `refusal.rt`, `load.rt` | what a text of Turtle states, or why it is refused; its graph |
 //! | `plan.rt`, `shapes.rt`, `declare.rt` | so far: the shapes that it declares |
 //! | `result_row.rt`, `evaluation.rt` | so far: the results of shapes in a graph |
 //!
-//! It stands on `shx_term`, `shx_outside`, `graph_view`, `text_input`, `report_write` and `edit_script`.
+//! It stands on `shx_term`, `shx_outside`, `graph_view`, `ttl_read`, `text_input`, `report_write` and
+//! `edit_script`.
 //! Start with `top.rt`, and with `specs/Run.antt`, which says what a run writes.
 #![tactic(auto)]
 
@@ -30,6 +30,7 @@ mod load;
 mod open_validation;
 mod plan;
 mod prepare;
+mod refusal;
 mod reply;
 mod report;
 mod result_row;

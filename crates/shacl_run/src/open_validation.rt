@@ -1,40 +1,38 @@
 //! From the data text to a validation.
-ghost use Rattle.std.specs.Prelude.{◌≡◌, None, false, MatchOption, IfSome, IfOk};
+ghost use Rattle.std.specs.Prelude.{◌≡◌, ◌≤◌, false, length, IfOk, IfErr};
 ghost use Rattle.graph_view.specs.Graph.{graph_of};
 ghost use Rattle.graph_view.specs.SameGraph.{SameGraph};
 ghost use Rattle.graph_view.specs.ListGraph.{plain_graph};
-ghost use Rattle.shacl_run.specs.Document.{IsKnownDocument, document_of};
-ghost use Rattle.shacl_run.specs.Validation.{OpensFor};
+ghost use Rattle.shacl_run.specs.Declares.{Opens, RefusesData};
+ghost use Rattle.shacl_run.specs.Readings.{IsKnownDocument};
 
 use crate::declare::Declared;
-use crate::document::read_document;
+use crate::document::read_triples;
 use crate::load::load;
 use crate::plan::Shape;
+use crate::refusal::Refusal;
 use crate::validation::Validation;
 use graph_view::ListGraph;
-use shx_term::{Limits, Memory, Pool, Triple};
+use shx_term::{Limits, Memory, Pool, Scope, Triple};
 use std::alloc::Global;
 
-/// A validation over the graph of a data text, before the first line of the script; `None` where the text is
-/// not built.
+/// A validation over the graph of a data text, before the first line of the script, or why the text is
+/// refused.
 pub fn open_validation(
     alloc: Global,
     declared: Declared,
     text: &[u8],
     limits: &Limits,
-) -> Result<Option<Validation>, Memory>
-    requires { declared.pool.limit ≡ limits.now.terms }
-    ensures opened { let document = document_of limits.now declared.pool.terms text.now in
-        IfOk result (λ opened.
-        MatchOption opened (document ≡ None) (OpensFor limits.now declared.shapes.items document)) }
-    ensures fresh { IfOk result (λ opened. IfSome opened (λ validation. validation.line ≡ 0)) }
+) -> Result<Validation, Refusal>
+    requires limit { declared.pool.limit ≡ limits.now.terms }
+    requires within { length text.now ≤ limits.now.text }
+    ensures opened { IfOk result (Opens limits.now declared.pool.terms declared.shapes.items text.now) }
+    ensures refused { IfErr result (RefusesData limits.now declared.pool.terms text.now) }
+    ensures fresh { IfOk result (λ validation. validation.line ≡ 0) }
 {
     let Declared { mut pool, shapes } = declared;
-    let Some(triples) = read_document(alloc, text, limits, &mut pool)? else {
-        return Ok(None);
-    };
-    let validation = validation_over(alloc, pool, shapes, &triples, limits.triples)?;
-    Ok(Some(validation))
+    let triples = read_triples(alloc, text, Scope::Data, limits, &mut pool)?;
+    Ok(validation_over(alloc, pool, shapes, &triples, limits.triples)?)
 }
 
 // A validation over the graph of a document.

@@ -1,30 +1,34 @@
 //! Before anything is written: the two texts are read, and a validation is opened.
-ghost use Rattle.std.specs.Prelude.{◌≡◌, true, false, IfOk, MatchOption};
+ghost use Rattle.std.specs.Prelude.{◌≡◌, true, false, None, IfOk, MatchOption};
 ghost use Rattle.shx_outside.specs.declared.role.Role.TheVariants.{Shapes, Data, Script};
 ghost use Rattle.shx_outside.specs.Told.{StaysAdmitted, SameTexts, OthersStay};
 ghost use Rattle.shx_term.specs.Limits.{AreUsable};
 ghost use Rattle.text_input.specs.TextRead.{ReadsWhole, IsTooLong, TakesWithin};
+ghost use Rattle.report_write.specs.declared.names.TheConstants.{TEXT_TOO_LONG};
 ghost use Rattle.shacl_run.specs.Prepared.{Prepares, IsFresh, IsReadToEnd, StopCause};
+ghost use Rattle.shacl_run.specs.Readings.{AreRight, Readings};
 
 use crate::declare::declare;
 use crate::open_validation::open_validation;
+use crate::refusal::{Refusal, TextFault};
 use crate::stop::Stop;
 use crate::validation::Validation;
+use report_write::TEXT_TOO_LONG;
 use shx_outside::{Inputs, Role};
 use shx_term::Limits;
 use std::alloc::Global;
 use text_input::{ReadFault, read_text};
 
-/// A validation, or the text that is not built.
+/// A validation, or the text that is refused, and why.
 pub enum Prepared {
-    NotBuilt(Role),
+    Refused(Role, TextFault),
     Open(Validation),
 }
 
 impl Drop for Prepared {
     fn drop(self) {
         match self {
-            Prepared::NotBuilt(_role) => {}
+            Prepared::Refused(_role, _fault) => {}
             Prepared::Open(_validation) => {}
         }
     }
@@ -42,7 +46,13 @@ pub fn prepare<I: Inputs>(
     requires limits { AreUsable limits.now }
     requires shapes_admitted { I.admits host.old Shapes shapes_file.now }
     requires data_admitted { I.admits host.old Data data_file.now }
-    ensures prepared { IfOk result (Prepares limits.now ((I.state host.old).text shapes_file.now)
+    ensures prepared { (readings : Readings)
+        → AreRight limits.now readings ((I.state host.old).text shapes_file.now)
+        ((I.state host.old).text data_file.now)
+        → IfOk result (Prepares limits.now readings ((I.state host.old).text shapes_file.now)
+        ((I.state host.old).text data_file.now)) }
+    ensures read { IfOk result (λ _. (readings : Readings)
+        × AreRight limits.now readings ((I.state host.old).text shapes_file.now)
         ((I.state host.old).text data_file.now)) }
     ensures fresh { IfOk result IsFresh }
     ensures ends { IfOk result (IsReadToEnd (I.state host.new)) }
@@ -57,18 +67,31 @@ pub fn prepare<I: Inputs>(
     ensures texts { SameTexts (I.state host.old) (I.state host.new) }
 {
     let Some(shapes_text) = read_within(alloc, host, Role::Shapes, shapes_file, limits.text)? else {
-        return Ok(Prepared::NotBuilt(Role::Shapes));
+        return Ok(Prepared::Refused(Role::Shapes, too_long()));
     };
-    let Some(declared) = declare(alloc, &shapes_text, limits)? else {
-        return Ok(Prepared::NotBuilt(Role::Shapes));
+    let declared = match declare(alloc, &shapes_text, limits) {
+        Ok(declared) => declared,
+        Err(Refusal::Fault(fault)) => return Ok(Prepared::Refused(Role::Shapes, fault)),
+        Err(Refusal::Memory) => return Err(Stop::Memory),
     };
     let Some(data_text) = read_within(alloc, host, Role::Data, data_file, limits.text)? else {
-        return Ok(Prepared::NotBuilt(Role::Data));
+        return Ok(Prepared::Refused(Role::Data, too_long()));
     };
-    let Some(validation) = open_validation(alloc, declared, &data_text, limits)? else {
-        return Ok(Prepared::NotBuilt(Role::Data));
-    };
-    Ok(Prepared::Open(validation))
+    match open_validation(alloc, declared, &data_text, limits) {
+        Ok(validation) => Ok(Prepared::Open(validation)),
+        Err(Refusal::Fault(fault)) => Ok(Prepared::Refused(Role::Data, fault)),
+        Err(Refusal::Memory) => Err(Stop::Memory),
+    }
+}
+
+// The fault of a text that is longer than it may be.
+fn too_long() -> TextFault
+    ensures { result ≡ record { code = TEXT_TOO_LONG; at = None } }
+{
+    TextFault {
+        code: TEXT_TOO_LONG,
+        at: None,
+    }
 }
 
 // A text; `None` where it is longer than it may be.

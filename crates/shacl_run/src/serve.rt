@@ -16,6 +16,7 @@ ghost use Rattle.shacl_run.specs.Stops.{end_status};
 
 use crate::ending::{refuse, status_of_rows};
 use crate::evaluation::evaluate;
+use crate::refusal::not_built;
 use crate::reply::write_reply;
 use crate::status::Status;
 use crate::stop::Stop;
@@ -54,7 +55,7 @@ pub fn serve<I: Inputs, O: Sink>(
         match &taken {
             Taken::Replied(reply) => write_reply(reply, validation, out)?,
             Taken::End => return last_status(alloc, validation),
-            Taken::PastLimit => return refuse(Role::Script, out),
+            Taken::PastLimit => return refuse(Role::Script, not_built(), out),
         }
     }
 }

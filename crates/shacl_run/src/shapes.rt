@@ -1,16 +1,16 @@
 //! Reading the shapes that a shapes graph declares.
-ghost use Rattle.std.specs.Prelude.{◌≡◌, map, IfOk};
+ghost use Rattle.std.specs.Prelude.{◌≡◌, map, slice_get, IfOk};
 ghost use Rattle.std.specs.Option.{option_map};
 ghost use Rattle.std.specs.List.{list_all};
-ghost use Rattle.shacl_run.specs.Document.{each_some};
 ghost use Rattle.shx_term.specs.IdOrder.{in_term_order};
-ghost use Rattle.shacl_run.specs.Shapes.{shapes_of, shape_at, is_built, has_value_of, target_at};
+ghost use Rattle.shacl_run.specs.Shapes.{each_some, shapes_of, shape_at, is_built, has_value_of, target_at};
+ghost use Rattle.shacl_run.specs.Shapes.{is_iri, is_no_blank_node};
 ghost use Rattle.graph_view.specs.SameGraph.{HoldsSame};
 
 use crate::plan::{Constraint, Constraints, HasValue, Shape, Target, Targets};
 use graph_view::{GraphView, Reads};
 use shx_term::vocabulary::{SH_HAS_VALUE, SH_PATH, SH_TARGET_NODE};
-use shx_term::{Id, Memory, Triple};
+use shx_term::{Id, Memory, Pool, Term, Triple};
 use std::alloc::Global;
 
 /// The shapes of a graph whose triples are listed too, in term order of their nodes. `None` where the graph
@@ -23,7 +23,7 @@ pub fn read_shapes<V: GraphView>(
     requires { HoldsSame triples.now (V.graph view.now).triples }
     ensures { IfOk result (λ shapes. option_map (λ s. s.items) shapes ≡ shapes_of (V.graph view.now)) }
 {
-    if !all_built(triples) {
+    if !all_built(view.pool(), triples) {
         return Ok(None);
     }
     let nodes = shape_nodes(alloc, view, triples)?;
@@ -31,10 +31,17 @@ pub fn read_shapes<V: GraphView>(
     Ok(shapes)
 }
 
-fn all_built(triples: &[Triple]) -> bool
-    ensures { result ≡ list_all is_built triples.now }
+fn all_built(pool: &Pool, triples: &[Triple]) -> bool
+    ensures { result ≡ list_all (is_built pool.now.terms) triples.now }
 {
-    triples.iter().all(|t| is_built(t))
+    let mut rest = triples;
+    while let [first, behind @ ..] = rest {
+        if !is_built(pool, first) {
+            return false;
+        }
+        rest = behind;
+    }
+    true
 }
 
 // The nodes that are shapes, in term order.
@@ -100,8 +107,39 @@ fn has_values(alloc: Global, values: &[Id]) -> Result<Vec<Constraint>, Memory>
         .collect(alloc)
 }
 
-fn is_built(t: &Triple) -> bool
-    ensures { result ≡ is_built t.now }
+fn is_built(pool: &Pool, t: &Triple) -> bool
+    ensures { result ≡ is_built pool.now.terms t.now }
 {
-    t.p == SH_TARGET_NODE || t.p == SH_PATH || t.p == SH_HAS_VALUE
+    match t.p {
+        SH_PATH => is_iri(pool, t.o),
+        SH_TARGET_NODE => is_no_blank_node(pool, t.o),
+        SH_HAS_VALUE => true,
+        _ => false,
+    }
+}
+
+fn is_iri(pool: &Pool, id: Id) -> bool
+    ensures { result ≡ is_iri (slice_get pool.now.terms id) }
+{
+    if id >= pool.len() {
+        return false;
+    }
+    match pool.term(id) {
+        Term::Iri(_) => true,
+        Term::Blank(_) => false,
+        Term::Lit(_) => false,
+    }
+}
+
+fn is_no_blank_node(pool: &Pool, id: Id) -> bool
+    ensures { result ≡ is_no_blank_node (slice_get pool.now.terms id) }
+{
+    if id >= pool.len() {
+        return false;
+    }
+    match pool.term(id) {
+        Term::Iri(_) => true,
+        Term::Blank(_) => false,
+        Term::Lit(_) => true,
+    }
 }

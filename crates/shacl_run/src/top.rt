@@ -7,7 +7,9 @@ ghost use Rattle.shacl_run.specs.Outside.{outside};
 ghost use Rattle.report_write.specs.declared.answer.Answer.TheVariants.{Usage};
 ghost use Rattle.shacl_run.specs.Files.{files_of, files_output, FilesStop};
 ghost use Rattle.shacl_run.specs.Run.{answer_output, run_output};
-ghost use Rattle.shacl_run.specs.RunClauses.{ran, WritesWhole, WritesFront, HasCauses};
+ghost use Rattle.shacl_run.specs.RunClauses.{ran, AreRightOf, IsRead, WhereRead, WritesWhole, WritesFront};
+ghost use Rattle.shacl_run.specs.RunClauses.{HasCauses};
+ghost use Rattle.shacl_run.specs.Readings.{Readings};
 ghost use Rattle.shacl_run.specs.RunClauses.{ReadsToEnd, StaysWithin, ScriptStops, IsOpenedBy};
 ghost use Rattle.shacl_run.specs.Stops.{end_status};
 ghost use Rattle.shacl_run.specs.Status.{IsAnswered, IsReported, IsCutShort};
@@ -26,14 +28,11 @@ use std::alloc::Global;
 use std::sync::ledger::Ledger;
 
 /// Runs the validator: reads the texts that the words name, writes the report of the data, or the usage, or
-/// the fault of a
-/// text, and then answers a script line by line. `nested` and `steps` are for counting evaluations, and are
-/// not ticked so
-/// far.
+/// the fault of a text, and then answers a script line by line. `nested` and `steps` are for counting
+/// evaluations, and are not ticked so far.
 ///
 /// A text is read in pieces, and past its limit one byte is taken and no more. A report is put in few large
-/// pieces. The
-/// answer to a line is put before the next line is waited for.
+/// pieces. The answer to a line is put before the next line is waited for.
 pub fn run<H: Inputs, O: Sink, P: PatternHost, L: Ledger, M: Ledger>(
     alloc: Global,
     words: &[Text],
@@ -48,26 +47,32 @@ pub fn run<H: Inputs, O: Sink, P: PatternHost, L: Ledger, M: Ledger>(
     requires admitted { AdmitsFiles (H.admits host.old) (command_words words.now) }
 
     // The bytes written and the status are those of an output that is due, and each text was read to its end.
-    ensures exact { IsAnswered result → WritesWhole (ran limits.now words.now
+    // The texts have a reading, of which it is due.
+    ensures exact { IsAnswered result → WhereRead limits.now words.now (H.state host.old).text (λ readings.
+        WritesWhole (ran limits.now readings words.now
         (outside (H.state host.old) (O.state out.old) (P.state patterns.old) nested.old steps.old)
-        (outside (H.state host.new) (O.state out.new) (P.state patterns.new) nested.new steps.new) result) }
+        (outside (H.state host.new) (O.state out.new) (P.state patterns.new) nested.new steps.new) result)) }
+    ensures read { IsAnswered result → IsRead limits.now words.now (H.state host.old).text }
     ensures read_to_end { IsReported result
         → IfSome (command_words words.now) (ReadsToEnd (H.state host.new)) }
 
     // After a failure they are a front of it; where the script could not be read on, up to the last line
     // that was taken.
-    ensures prefix { IsCutShort result → WritesFront (ran limits.now words.now
+    ensures prefix { IsCutShort result → WhereRead limits.now words.now (H.state host.old).text (λ readings.
+        WritesFront (ran limits.now readings words.now
         (outside (H.state host.old) (O.state out.old) (P.state patterns.old) nested.old steps.old)
-        (outside (H.state host.new) (O.state out.new) (P.state patterns.new) nested.new steps.new) result) }
+        (outside (H.state host.new) (O.state out.new) (P.state patterns.new) nested.new steps.new) result)) }
     ensures script_stops { result ≡ InputFault
         → IsOpenedBy (H.state host.old) (H.state host.new) Script
-        → ScriptStops limits.now words.now (H.state host.old) (H.state host.new)
-        (O.state out.old) (O.state out.new) }
+        → WhereRead limits.now words.now (H.state host.old).text (λ readings.
+        ScriptStops limits.now readings words.now (H.state host.old) (H.state host.new)
+        (O.state out.old) (O.state out.new)) }
 
     // A failure has its cause, and no more is taken of a text than is needed to know that it is too long.
-    ensures causes { HasCauses (ran limits.now words.now
+    ensures causes { WhereRead limits.now words.now (H.state host.old).text (λ readings.
+        HasCauses (ran limits.now readings words.now
         (outside (H.state host.old) (O.state out.old) (P.state patterns.old) nested.old steps.old)
-        (outside (H.state host.new) (O.state out.new) (P.state patterns.new) nested.new steps.new) result) }
+        (outside (H.state host.new) (O.state out.new) (P.state patterns.new) nested.new steps.new) result)) }
     ensures within { IfSome (command_words words.now)
         (StaysWithin limits.now (H.state host.old) (H.state host.new)) }
 {
@@ -86,14 +91,17 @@ fn run_words<H: Inputs, O: Sink>(
 ) -> Result<Status, Stop>
     requires limits { AreUsable limits.now }
     requires admitted { AdmitsFiles (H.admits host.old) (command_words words.now) }
-    ensures ends { Ends (run_output limits.now words.now (H.state host.old).text) (end_status result)
-        (H.state host.old).faults (H.state host.new).faults (O.state out.old) (O.state out.new) }
+    ensures ends { WhereRead limits.now words.now (H.state host.old).text (λ readings.
+        Ends (run_output limits.now readings words.now (H.state host.old).text) (end_status result)
+        (H.state host.old).faults (H.state host.new).faults (O.state out.old) (O.state out.new)) }
+    ensures read { IsAnswered (end_status result) → IsRead limits.now words.now (H.state host.old).text }
     ensures read_to_end { IsReported (end_status result)
         → IfSome (command_words words.now) (ReadsToEnd (H.state host.new)) }
     ensures script_stops { end_status result ≡ InputFault
         → IsOpenedBy (H.state host.old) (H.state host.new) Script
-        → ScriptStops limits.now words.now (H.state host.old) (H.state host.new)
-        (O.state out.old) (O.state out.new) }
+        → WhereRead limits.now words.now (H.state host.old).text (λ readings.
+        ScriptStops limits.now readings words.now (H.state host.old) (H.state host.new)
+        (O.state out.old) (O.state out.new)) }
     ensures within { IfSome (command_words words.now)
         (StaysWithin limits.now (H.state host.old) (H.state host.new)) }
 {
@@ -123,20 +131,26 @@ fn run_files<H: Inputs, O: Sink>(
 ) -> Result<Status, Stop>
     requires limits { AreUsable limits.now }
     requires admitted { AdmitsFiles (H.admits host.old) (Some (files_of files.now)) }
-    ensures ends { Ends (files_output limits.now (files_of files.now) (H.state host.old).text)
+    ensures ends { (readings : Readings)
+        → AreRightOf limits.now readings (Some (files_of files.now)) (H.state host.old).text
+        → Ends (files_output limits.now readings (files_of files.now) (H.state host.old).text)
         (end_status result) (H.state host.old).faults (H.state host.new).faults
         (O.state out.old) (O.state out.new) }
+    ensures read { IsAnswered (end_status result) → (readings : Readings)
+        × AreRightOf limits.now readings (Some (files_of files.now)) (H.state host.old).text }
     ensures read_to_end { IsReported (end_status result)
         → ReadsToEnd (H.state host.new) (files_of files.now) }
     ensures script_stops { end_status result ≡ InputFault
         → IsOpenedBy (H.state host.old) (H.state host.new) Script
-        → FilesStop limits.now (files_of files.now) (H.state host.old) (H.state host.new)
+        → (readings : Readings)
+        → AreRightOf limits.now readings (Some (files_of files.now)) (H.state host.old).text
+        → FilesStop limits.now readings (files_of files.now) (H.state host.old) (H.state host.new)
         (O.state out.old) (O.state out.new) }
     ensures within { StaysWithin limits.now (H.state host.old) (H.state host.new) (files_of files.now) }
 {
     let mut prepared = prepare(alloc, files.shapes_file, files.data_file, host, limits)?;
     match &mut prepared {
-        Prepared::NotBuilt(role) => refuse(*role, out),
+        Prepared::Refused(role, fault) => refuse(*role, *fault, out),
         Prepared::Open(validation) => run_validation(
             alloc,
             validation,

@@ -1,9 +1,25 @@
-use Rattle.shacl_run.proofs.DocumentLemmas.{document_known}
+use Rattle.std.proofs.Common.{refl, ◌∙◌}
+use Rattle.graph_view.specs.Graph.{Graph}
+use Rattle.shacl_run.specs.Readings.{States}
 use Rattle.shacl_run.proofs.open_validation.open_validation.Goals as goal
 
-pub validation_over-requires : goal.validation_over-requires
-validation_over-requires c =
-    rw c.deref.ensures.value
-    (document_known c.args.limits.now c.args.declared.pool.terms c.args.text.now
-    (record { terms = c.read_document.new.pool.terms; triples = c.in-Some.triples.items })
-    (rw c.in-Some.is at c.in_ok-triples.ensures.document))
+pub returns-clause-opened : goal.returns-clause-opened
+returns-clause-opened c =
+    let document : Graph =
+    record { terms = c.read_triples.new.pool.terms; triples = c.in_ok-triples.triples.items } in
+    let made = c.in_ok-validation_over.ensures in (
+      States document,
+      c.in_ok-triples.ensures.states,
+      record {
+        document = document;
+        is = refl;
+        stored = record {
+          stores = rw c.deref.ensures.value at made.stores;
+          shapes_are = made.shapes;
+          line_is = made.line;
+          refused_is = made.refused;
+          triple_limit = made.triple_limit;
+          term_limit = made.term_limit ∙ c.in_ok-triples.ensures.limit;
+        };
+      },
+    )

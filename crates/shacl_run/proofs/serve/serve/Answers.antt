@@ -124,12 +124,12 @@ returns-in-PastLimit-clause-ends g c = λ s is.
     let due = due_at c.args.limits.now reached.state at.reader.budget
     (left_of at.reader (inputs.rest Script)) in
     let last = Some (not_built Script) in
+    let refused = rw c.not_built.ensures at c.refuse.ensures.ends inputs.faults in
     let taken = (rw c.in-PastLimit.is at c.in_ok-taken.ensures.taken) reached.state reached.stored in
     reached.onward status after.faults sink'
     (Ends-told due last status inputs.faults after.faults sink sink'
     (IfSome_then due taken.due (λ told same. ap Some (sym same)))
-    (subst (λ n. Ends last status inputs.faults n sink sink') (sym c.in_ok-taken.ensures.cause)
-    (c.refuse.ensures.ends inputs.faults)))
+    (subst (λ n. Ends last status inputs.faults n sink sink') (sym c.in_ok-taken.ensures.cause) refused))
 
 pub returns-in-PastLimit-clause-within : goal.returns-in-PastLimit-clause-within
 returns-in-PastLimit-clause-within g c =

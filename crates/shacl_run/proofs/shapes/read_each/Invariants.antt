@@ -1,5 +1,5 @@
 use Rattle.std.proofs.Common.{◌≡◌, take, map, Some}
-use Rattle.shacl_run.specs.Document.{each_some}
+use Rattle.shacl_run.specs.Shapes.{each_some}
 use Rattle.shacl_run.specs.Shapes.{shape_at}
 use Rattle.shacl_run.proofs.shapes.read_each.Given as goal
 

@@ -1,8 +1,0 @@
-use Rattle.shacl_run.proofs.EditLemmas.{numbered-in_turn}
-use Rattle.shacl_run.proofs.document.enter_terms.Goals as goal
-
-pub returns-clause-triple : goal.returns-clause-triple
-returns-clause-triple c =
-    numbered-in_turn c.enter.new.self.terms c.enter-2.new.self.terms c.enter-3.new.self.terms
-    c.args.stated.now c.in_ok-s.s c.in_ok-p.p c.in_ok-o.o c.in_ok-p.ensures.entered c.in_ok-o.ensures.entered
-    c.in_ok-s.ensures.found c.in_ok-p.ensures.found c.in_ok-o.ensures.found

@@ -8,9 +8,13 @@
 //! | `tests/runs.rt` | a run of a case, and the first of a table that ends in another way |
 //! | `tests/rows.rt` | the worked rows, each by its name |
 //! | `tests/words.rt` | words that have no reading |
-//! | `tests/triples.rt` | lines that are triples, and lines that are not, in each of the three texts |
-//! | `tests/shapes.rt` | what shapes state, and the order of a report |
-//! | `tests/limits.rt` | texts and edits at each limit and one past it |
+//! | `tests/documents.rt` | texts of Turtle: prefixes, bases, white space, and scripts behind them |
+//! | `tests/literals.rt`, `tests/nodes.rt` | literals and blank nodes, as the report spells them |
+//! | `tests/values.rt` | terms of the shapes that the data has, or has not |
+//! | `tests/faults.rt` | texts with a fault and its place, as shapes and as data |
+//! | `tests/triples.rt` | lines of a script that are triples, and lines that are not |
+//! | `tests/shapes.rt` | what shapes state, what is not built, and the order of a report |
+//! | `tests/limits.rt` | texts, statements and edits at each limit and one past it |
 //! | `tests/scripts.rt` | scripts line by line |
 //! | `tests/failures.rt` | each call of the inputs and each put fails in turn |
 //! | `tests/order.rt` | when texts are opened, read and answered, which no contract says |

@@ -1,6 +1,10 @@
 mod case;
+mod documents;
 mod failures;
+mod faults;
 mod limits;
+mod literals;
+mod nodes;
 mod order;
 mod outside;
 mod rows;
@@ -8,4 +12,5 @@ mod runs;
 mod scripts;
 mod shapes;
 mod triples;
+mod values;
 mod words;

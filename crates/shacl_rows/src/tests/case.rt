@@ -7,7 +7,8 @@ use shx_term::Limits;
 /// It is written as a block of text, in parts that begin with marks: `== run NAME`, `== words` (one a line),
 /// `== limits` and `== outside` (a name and a number a line), `== shapes`, `== data`, `== script`,
 /// `== output` and `== status N`. A part that a block leaves out is that of the block that its table shares,
-/// and is else empty. A text that ends in `$` has no line feed at its end.
+/// and is else empty. A text that ends in `$` has no line feed at its end, and U+FFFF in it stands for the
+/// byte 255.
 #[derive(Clone, Copy)]
 pub(super) struct Case {
     pub name: &'static str,
@@ -92,6 +93,7 @@ fn limits_of(lines: &str) -> Limits
     limits.line = number(lines, "line ", limits.line).max(1);
     limits.triples = number(lines, "triples ", limits.triples).max(1);
     limits.terms = number(lines, "terms ", 16_000_000).clamp(62, 16_000_000) as u32;
+    limits.turtle_depth = number(lines, "depth ", 128).clamp(1, 128) as u32;
     limits
 }
 

@@ -23,19 +23,19 @@ terms 66
 == limits
 text 195
 == output
-fault shapes: 59 NotBuilt
+fault shapes: 10 TextTooLong
 == status 3
 == run a triple too many
 == limits
 triples 2
 == output
-fault shapes: 59 NotBuilt
+fault shapes: 8 TooManyTriples at 130
 == status 3
 == run a term too many
 == limits
 terms 65
 == output
-fault shapes: 59 NotBuilt
+fault shapes: 9 TooManyTerms at 130
 == status 3
 == run a repeated triple counts again
 == limits
@@ -46,7 +46,7 @@ triples 3
 <http://e/S> <http://www.w3.org/ns/shacl#path> <http://e/p> .
 <http://e/S> <http://www.w3.org/ns/shacl#path> <http://e/p> .
 == output
-fault shapes: 59 NotBuilt
+fault shapes: 8 TooManyTriples at 186
 == status 3
 ";
 
@@ -61,7 +61,8 @@ report conforms=true results=0
 == status 0
 ";
 
-// A line of these texts has 20 bytes, and a line more of them one term more.
+// A line of these texts has 20 bytes, and a line more of them one term more. Where a line is one too many,
+// the fault stands at its start.
 const DATA_TEXTS: &str = "\
 == run at each limit
 == limits
@@ -80,7 +81,7 @@ text 59
 <e:a> <e:p> <e:c> .
 <e:a> <e:p> <e:d> .
 == output
-fault data: 59 NotBuilt
+fault data: 10 TextTooLong
 == status 3
 == run at its limit, without a line feed
 == limits
@@ -96,7 +97,7 @@ triples 2
 <e:a> <e:p> <e:c> .
 <e:a> <e:p> <e:d> .
 == output
-fault data: 59 NotBuilt
+fault data: 8 TooManyTriples at 40
 == status 3
 == run a repeated triple counts again
 == limits
@@ -106,7 +107,7 @@ triples 2
 <e:a> <e:p> <e:b> .
 <e:a> <e:p> <e:b> .
 == output
-fault data: 59 NotBuilt
+fault data: 8 TooManyTriples at 40
 == status 3
 == run a term too many
 == limits
@@ -116,7 +117,7 @@ terms 66
 <e:a> <e:p> <e:c> .
 <e:a> <e:p> <e:d> .
 == output
-fault data: 59 NotBuilt
+fault data: 9 TooManyTerms at 40
 == status 3
 == run no terms
 == limits
@@ -127,6 +128,89 @@ terms 62
 == data
 <http://www.w3.org/ns/shacl#path> <http://www.w3.org/ns/shacl#path> <http://www.w3.org/ns/shacl#path> .
 ";
+
+// A statement counts whole: a fault stands at its start, whichever of its triples is one too many.
+const STATEMENTS: &str = "\
+== run the triples of one statement
+== limits
+triples 2
+== data
+<e:a> <e:p> <e:b> .
+<e:a> <e:p> <e:c> , <e:d> .
+== output
+fault data: 8 TooManyTriples at 20
+== status 3
+== run the triples of a collection at the limit
+== limits
+triples 5
+== data
+<e:a> <e:p> ( 1 2 ) .
+== run the triples of a collection
+== limits
+triples 4
+== data
+<e:a> <e:p> ( 1 2 ) .
+== output
+fault data: 8 TooManyTriples at 0
+== status 3
+== run the terms of a collection at the limit
+== limits
+terms 68
+== data
+<e:a> <e:p> ( 1 2 ) .
+== run the terms of a collection
+== limits
+terms 67
+== data
+<e:a> <e:p> ( 1 2 ) .
+== output
+fault data: 9 TooManyTerms at 0
+== status 3
+== run prefixes and bases are no triples, and a datatype is no term
+== limits
+triples 1
+terms 64
+== data
+@base <http://e/> .
+PREFIX e: <x/>
+@prefix f: <http://f/> .
+<a> a \"x\"^^e:t .
+== run brackets at the limit
+== limits
+depth 2
+== data
+<e:a> <e:p> ( [ <e:p> [] ] ) , ( ( ) ) .
+== run brackets past the limit
+== limits
+depth 2
+== data
+<e:a> <e:p> ( [ <e:p> [] ] ) , ( ( ( ) ) ) .
+== output
+fault data: 7 TooDeep at 35
+== status 3
+== run brackets past the limit of the program
+== data
+<e:a> <e:p> <e:b> .
+((((((((((((((((((((((((((((((((((((((((((((((((((((((((((((((((
+((((((((((((((((((((((((((((((((((((((((((((((((((((((((((((((((
+(
+== output
+fault data: 7 TooDeep at 150
+== status 3
+== run brackets at the limit of the program
+== data
+<e:a> <e:p> <e:b> .
+((((((((((((((((((((((((((((((((((((((((((((((((((((((((((((((((
+((((((((((((((((((((((((((((((((((((((((((((((((((((((((((((((((
+== output
+fault data: 2 Syntax at 20
+== status 3
+";
+
+#[test]
+fn statements_within_limits(rt: HostRuntime) -> Result<(), Fail> {
+    all_end_as_due(&rt, NO_SHAPES, STATEMENTS)
+}
 
 #[test]
 fn data_within_limits(rt: HostRuntime) -> Result<(), Fail> {
@@ -151,7 +235,7 @@ terms 66
 == data
 <http://e/a> <http://e/p> <http://e/c> .
 == output
-fault data: 59 NotBuilt
+fault data: 9 TooManyTerms at 0
 == status 3
 == run the triples of the shapes do not count
 == limits

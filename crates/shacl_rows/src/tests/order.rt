@@ -88,8 +88,8 @@ report conforms=true results=0
     all_end_as_due(&rt, shared, table)
 }
 
-// It refuses a run that opens the data before it knows that the shapes are built, or a text before the words
-// are read.
+// It refuses a run that opens the data before it knows that the shapes have no fault and are built, or a text
+// before the words are read.
 #[test]
 fn nothing_is_opened_behind_a_refusal(rt: HostRuntime) -> Result<(), Fail> {
     let table = "\
@@ -98,11 +98,39 @@ fn nothing_is_opened_behind_a_refusal(rt: HostRuntime) -> Result<(), Fail> {
 shapes
 other
 == shapes
-count
+<e:S> a <e:T> .
 == output
 fault shapes: 59 NotBuilt
 == status 3
-== run the data is not built, and no script is held
+== run the shapes have a fault, and no data is held
+== words
+shapes
+other
+== shapes
+count
+== output
+fault shapes: 2 Syntax at 0
+== status 3
+== run the shapes are too long, and no data is held
+== words
+shapes
+other
+== limits
+text 4
+== shapes
+# one
+== output
+fault shapes: 10 TextTooLong
+== status 3
+== run both texts have a fault
+== shapes
+e:S a e:T .
+== data
+count
+== output
+fault shapes: 3 UnknownPrefix at 0
+== status 3
+== run the data has a fault, and no script is held
 == words
 shapes
 data
@@ -110,7 +138,7 @@ other
 == data
 count
 == output
-fault data: 59 NotBuilt
+fault data: 2 Syntax at 0
 == status 3
 == run the words have no reading, and each call fails
 == words

@@ -51,8 +51,22 @@ fn files_of(alloc: Global, case: &Case) -> Result<Vec<NamedText>, Memory> {
 fn named(alloc: Global, name: &str, text: &str) -> Result<NamedText, Memory> {
     Ok(NamedText {
         name: Name::new(String::from_str(alloc, name)?),
-        bytes: Bytes::new(text.as_bytes().to_vec(alloc)?),
+        bytes: Bytes::new(bytes_of(alloc, text)?),
     })
+}
+
+// The bytes of a text, in which U+FFFF stands for the byte 255.
+fn bytes_of(alloc: Global, text: &str) -> Result<Vec<u8>, Memory> {
+    let mut bytes = Vec::new(alloc);
+    let mut is_later = false;
+    for piece in text.split("\u{ffff}") {
+        if is_later {
+            bytes.push(255)?;
+        }
+        bytes.extend_from_slice(piece.as_bytes())?;
+        is_later = true;
+    }
+    Ok(bytes)
 }
 
 fn only(alloc: Global, number: u64) -> Result<Vec<u64>, Memory> {

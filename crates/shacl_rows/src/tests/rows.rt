@@ -33,19 +33,22 @@ put bytes 7
 == outside
 read bytes 4096
 put bytes 4096
+== run written with prefixes
+== shapes
+@prefix sh: <http://www.w3.org/ns/shacl#> .
+@prefix e: <http://e/> .
+e:S sh:targetNode e:a ; sh:path e:p ; sh:hasValue e:b .
 ";
     all_end_as_due(&rt, FIRST_RUN, table)
 }
 
+// A literal in the data is read, and the data does not conform until the script is answered.
 #[test]
 fn literal_not_built(rt: HostRuntime) -> Result<(), Fail> {
     let table = "\
 == run a literal
 == data
 <http://e/a> <http://e/p> \"x\" .$
-== output
-fault data: 59 NotBuilt
-== status 3
 ";
     all_end_as_due(&rt, FIRST_RUN, table)
 }
@@ -74,6 +77,68 @@ report conforms=true results=0
 == status 0
 ";
     all_end_as_due(&rt, "", table)
+}
+
+const CONFORMS: &str = "\
+== output
+report conforms=true results=0
+== status 0
+";
+
+#[test]
+fn wide_and_float_literals(rt: HostRuntime) -> Result<(), Fail> {
+    let table = "\
+== run 38 digits
+== data
+<http://e/a> <http://e/p> 99999999999999999999999999999999999999 .
+== run 39 digits
+== data
+<http://e/a> <http://e/p> 999999999999999999999999999999999999999 .
+== output
+fault data: 6 WideValue at 26
+== status 3
+== run a double
+== data
+<http://e/a> <http://e/p> 1.0e0 .
+== output
+fault data: 5 FloatLiteral at 26
+== status 3
+";
+    all_end_as_due(&rt, CONFORMS, table)
+}
+
+#[test]
+fn cut_long_string(rt: HostRuntime) -> Result<(), Fail> {
+    let table = "\
+== run the second statement is cut
+== data
+<http://e/a> <http://e/p> \"x\" .
+<http://e/a> <http://e/q> \"\"\"cut$
+== output
+fault data: 2 Syntax at 32
+== status 3
+";
+    all_end_as_due(&rt, "", table)
+}
+
+#[test]
+fn text_limit(rt: HostRuntime) -> Result<(), Fail> {
+    let table = "\
+== run four spaces
+== limits
+text 4
+== data
+\x20\x20\x20\x20$
+== run five spaces
+== limits
+text 4
+== data
+\x20\x20\x20\x20\x20$
+== output
+fault data: 10 TextTooLong
+== status 3
+";
+    all_end_as_due(&rt, CONFORMS, table)
 }
 
 #[test]

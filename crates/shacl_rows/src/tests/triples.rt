@@ -2,22 +2,10 @@ ghost use Rattle.shx_term.specs.Limits.{AreUsable};
 
 use super::case::Case;
 use super::runs::ends_as_due;
-use shx_outside::{Memory, Role};
+use shx_outside::Memory;
 use std::alloc::Global;
 use std::process::Abort;
 use std::test::Fail;
-
-const SHAPES_REFUSED: &str = "\
-== output
-fault shapes: 59 NotBuilt
-== status 3
-";
-
-const DATA_REFUSED: &str = "\
-== output
-fault data: 59 NotBuilt
-== status 3
-";
 
 const LINE_REFUSED: &str = "\
 == script
@@ -41,31 +29,53 @@ ok changed
 == status 0
 ";
 
-// Insertions of what is no triple of the line form.
-const NO_TRIPLES: &str = "\
-insert <e:a> <e:p> <e:b>
+// Lines that insert a triple of Turtle which is not in the line form: a text takes it, and a script does not.
+const TURTLE: &str = "\
 insert <e:a> <e:p> <e:b>.
 insert <e:a> <e:p> <e:b> .\x20
 insert <e:a> <e:p> <e:b> .\r
-insert <e:a> <e:p> <e:b> . .
 insert  <e:a> <e:p> <e:b> .
 insert <e:a>  <e:p> <e:b> .
 insert <e:a>\t<e:p> <e:b> .
 insert <e:a><e:p> <e:b> .
-insert <e:a> <e:p> .
-insert <e:a> <e:p> <e:b> <e:c> .
 insert <e:a> <e:p> <e:b> , <e:c> .
+insert <e:a> <e:p> <e:b> ; .
+insert <e:a> <e:p> <e:b> . # so
+insert <e:a> <e:p> <e:b> . <e:a> <e:p> <e:c> .
+insert <e:a> a <e:b> .
 insert <e:a> <e:p> \"x\" .
+insert <e:a> <e:p> 'x'@en .
 insert <e:a> <e:p> 1 .
+insert <e:a> <e:p> true .
 insert <e:a> <e:p> _:b .
+insert <e:a> <e:p> [] .
+insert <e:a> <e:p> () .
 insert _:a <e:p> <e:b> .
-insert e:a <e:p> <e:b> .
+insert [ <e:p> <e:b> ] .
 insert <a> <e:p> <e:b> .
 insert <> <e:p> <e:b> .
 insert <:a> <e:p> <e:b> .
 insert <1e:a> <e:p> <e:b> .
 insert <+e:a> <e:p> <e:b> .
 insert <e_f:a> <e:p> <e:b> .
+insert <e:\\u0061> <e:p> <e:b> .
+insert <e:a> <e:p> <e:\x7f> .
+insert <e:a> <e:p> <e:é> .
+insert # nothing
+insert @prefix e: <http://e/> .
+insert PREFIX e: <http://e/>
+";
+
+// Lines that insert what is no triple in any form.
+const NO_TRIPLES: &str = "\
+insert <e:a> <e:p> <e:b>
+insert <e:a> <e:p> <e:b> . .
+insert <e:a> <e:p> .
+insert <e:a> <e:p> <e:b> <e:c> .
+insert <e:a> \"p\" <e:b> .
+insert <e:a> _:p <e:b> .
+insert \"x\" <e:p> <e:b> .
+insert e:a <e:p> <e:b> .
 insert <e:a b> <e:p> <e:b> .
 insert <e:<> <e:p> <e:b> .
 insert <e:>> <e:p> <e:b> .
@@ -76,10 +86,6 @@ insert <e:a> <e:|> <e:b> .
 insert <e:a> <e:p> <e:^> .
 insert <e:a> <e:p> <e:\\> .
 insert <e:a> <e:p> <e:`> .
-insert <e:a> <e:p> <e:\x7f> .
-insert <e:a> <e:p> <e:é> .
-insert # nothing
-insert @prefix e: <http://e/> .
 ";
 
 // Insertions of triples of the line form.
@@ -92,17 +98,15 @@ insert <Az9+-.:a> <a:p> <Z:b> .
 insert <e:!#$%&'()*+,-./> <e:0123456789:;=?@> <e:AZ[]_az~> .
 ";
 
-// A run over the text of a line, which stands behind `insert `, in the place of the shapes or of the data, or
-// over the line as a script.
-fn with_line(block: &'static str, role: Role, line: &'static str) -> Case
+// A run over a line as a script, or over the text behind its `insert ` as the data.
+fn with_line(block: &'static str, is_script: bool, line: &'static str) -> Case
     ensures { AreUsable result.limits }
 {
-    let text = line.strip_prefix("insert ").unwrap_or("");
     let mut case = Case::of("", block);
-    match role {
-        Role::Shapes => case.shapes = text,
-        Role::Data => case.data = text,
-        Role::Script => case.script = line,
+    if is_script {
+        case.script = line;
+    } else {
+        case.data = line.strip_prefix("insert ").unwrap_or("");
     }
     case
 }
@@ -111,37 +115,46 @@ fn with_line(block: &'static str, role: Role, line: &'static str) -> Case
 fn first_other(
     alloc: Global,
     block: &'static str,
-    role: Role,
+    is_script: bool,
     lines: &'static str,
 ) -> Result<&'static str, Memory> {
     for line in lines.split_terminator('\n') {
-        if !ends_as_due(alloc, &with_line(block, role, line))? {
+        if !ends_as_due(alloc, &with_line(block, is_script, line))? {
             return Ok(line);
         }
     }
     Ok("")
 }
 
-fn each_ends_as_due<R: Abort + AllocGlobal>(
+fn each_line_ends_so<R: Abort + AllocGlobal>(
     rt: &R,
     block: &'static str,
-    role: Role,
     lines: &'static str,
 ) -> Result<(), Fail> {
-    let other = first_other(rt.alloc(), block, role, lines)?;
+    let other = first_other(rt.alloc(), block, true, lines)?;
+    assert_eq!(rt; other, "");
+    Ok(())
+}
+
+fn each_text_is_taken<R: Abort + AllocGlobal>(rt: &R, lines: &'static str) -> Result<(), Fail> {
+    let other = first_other(rt.alloc(), DATA_TAKEN, false, lines)?;
     assert_eq!(rt; other, "");
     Ok(())
 }
 
 #[test]
-fn what_is_no_triple_is_refused(rt: HostRuntime) -> Result<(), Fail> {
-    each_ends_as_due(&rt, SHAPES_REFUSED, Role::Shapes, NO_TRIPLES)?;
-    each_ends_as_due(&rt, DATA_REFUSED, Role::Data, NO_TRIPLES)?;
-    each_ends_as_due(&rt, LINE_REFUSED, Role::Script, NO_TRIPLES)
+fn lines_that_are_no_triples_are_refused(rt: HostRuntime) -> Result<(), Fail> {
+    each_line_ends_so(&rt, LINE_REFUSED, TURTLE)?;
+    each_line_ends_so(&rt, LINE_REFUSED, NO_TRIPLES)
 }
 
 #[test]
 fn triples_are_taken(rt: HostRuntime) -> Result<(), Fail> {
-    each_ends_as_due(&rt, DATA_TAKEN, Role::Data, TRIPLES)?;
-    each_ends_as_due(&rt, LINE_TAKEN, Role::Script, TRIPLES)
+    each_line_ends_so(&rt, LINE_TAKEN, TRIPLES)?;
+    each_text_is_taken(&rt, TRIPLES)
+}
+
+#[test]
+fn texts_are_turtle(rt: HostRuntime) -> Result<(), Fail> {
+    each_text_is_taken(&rt, TURTLE)
 }

@@ -1,0 +1,79 @@
+#!/usr/bin/env python3
+"""Measures the load of data texts: processor seconds, seconds and peak memory, beside `serdi -q` where it is
+installed (Debian's package serdi), and hostile texts. Run it at the top of the repository, on a quiet machine.
+
+    bench/load.py [COUNT ..]    texts of so many triples (10000, 100000, 1000000 and 4000000 where none is given)
+    bench/load.py hostile       texts of 100 million bytes that are hard to pass
+"""
+import os
+import shutil
+import subprocess
+import sys
+import tempfile
+import time
+
+HERE = os.path.dirname(os.path.abspath(__file__))
+PROGRAM = os.path.join(HERE, "..", "crates", "shacl_keep", "out", "shacl_keep")
+
+
+def run(words, out):
+    """Runs a command, and gives processor seconds, seconds, peak memory in MB, and what it wrote first."""
+    began = time.time()
+    with open(out, "wb") as written:
+        child = subprocess.Popen(words, stdout=written, stderr=subprocess.DEVNULL)
+        _, _, used = os.wait4(child.pid, 0)
+    took = time.time() - began
+    with open(out, "rb") as written:
+        line = written.readline().decode(errors="replace").strip()
+    return used.ru_utime + used.ru_stime, took, used.ru_maxrss / 1024, line
+
+
+def text(folder, *words):
+    """A text made by texts.py, by its path."""
+    path = os.path.join(folder, "-".join(words) + ".ttl")
+    with open(path, "wb") as out:
+        subprocess.run([sys.executable, os.path.join(HERE, "texts.py"), *words], stdout=out, check=True)
+    return path
+
+
+def loads(folder, empty, out, counts):
+    print("| text | MB | processor s | s | peak MB | serdi processor s | ratio |")
+    print("|---|---|---|---|---|---|---|")
+    kinds = [("triples", count) for count in counts]
+    kinds += [(kind, counts[-1] // 4) for kind in ("collection", "objects", "prefixes")]
+    for kind, count in kinds:
+        path = text(folder, kind, str(count))
+        cpu, took, peak, line = run([PROGRAM, empty, path], out)
+        other = ""
+        if shutil.which("serdi"):
+            theirs = run(["serdi", "-q", path], os.devnull)[0]
+            other = f"{theirs:.2f} | {cpu / theirs:.2f}" if theirs > 0.05 else f"{theirs:.2f} | "
+        size = os.path.getsize(path) / 1e6
+        print(f"| {kind} {count} | {size:.1f} | {cpu:.2f} | {took:.2f} | {peak:.0f} | {other} |", flush=True)
+        if not line.startswith("report"):
+            print(f"  {line}")
+        os.remove(path)
+
+
+def hostile(folder, empty, out):
+    print("| text | processor s | peak MB | answer |")
+    print("|---|---|---|---|")
+    for name in ("rounds", "quotes", "dots", "hashes", "squares"):
+        path = text(folder, "hostile", name, "100000000")
+        cpu, _, peak, line = run([PROGRAM, empty, path], out)
+        print(f"| {name} | {cpu:.2f} | {peak:.0f} | `{line}` |", flush=True)
+        os.remove(path)
+
+
+def main():
+    with tempfile.TemporaryDirectory() as folder:
+        empty = os.path.join(folder, "empty.ttl")
+        open(empty, "wb").close()
+        out = os.path.join(folder, "out")
+        if sys.argv[1:] == ["hostile"]:
+            hostile(folder, empty, out)
+        else:
+            loads(folder, empty, out, [int(word) for word in sys.argv[1:]] or [10000, 100000, 1000000, 4000000])
+
+
+main()

@@ -36,9 +36,9 @@ fn ends_as_said(alloc: Global, row: &str) -> Result<bool, Fail> {
     Ok(has_outcome(alloc, &limits, text, wanted)?)
 }
 
-// The first row whose text has another outcome.
+// The first row whose text has another outcome. An empty line stands between two rows.
 fn first_other(alloc: Global, rows: &'static str) -> Result<&'static str, Fail> {
-    for row in rows.lines() {
+    for row in rows.split("\n\n") {
         if !ends_as_said(alloc, row)? {
             return Ok(row);
         }

@@ -122,6 +122,49 @@ fault data: 2 Syntax at 32
 }
 
 #[test]
+fn brackets_past_the_limit(rt: HostRuntime) -> Result<(), Fail> {
+    let table = "\
+== run 129 brackets
+== data
+<a:s> <a:p> \
+((((((((((((((((((((((((((((((((((((((((((((((((((((((((((((((((\
+((((((((((((((((((((((((((((((((((((((((((((((((((((((((((((((((($
+== output
+fault data: 7 TooDeep at 140
+== status 3
+";
+    all_end_as_due(&rt, "", table)
+}
+
+#[test]
+fn brackets_at_the_limit(rt: HostRuntime) -> Result<(), Fail> {
+    let table = "\
+== run 128 brackets
+== data
+<a:s> <a:p> \
+((((((((((((((((((((((((((((((((((((((((((((((((((((((((((((((((\
+(((((((((((((((((((((((((((((((((((((((((((((((((((((((((((((((($
+== output
+fault data: 2 Syntax at 0
+== status 3
+";
+    all_end_as_due(&rt, "", table)
+}
+
+#[test]
+fn ill_formed_byte(rt: HostRuntime) -> Result<(), Fail> {
+    let table = "\
+== run the byte 255
+== data
+<a:s> \u{ffff}$
+== output
+fault data: 1 NotUtf8 at 6
+== status 3
+";
+    all_end_as_due(&rt, "", table)
+}
+
+#[test]
 fn text_limit(rt: HostRuntime) -> Result<(), Fail> {
     let table = "\
 == run four spaces

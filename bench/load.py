@@ -36,18 +36,23 @@ def text(folder, *words):
     return path
 
 
+def beside_serdi(cpu, path):
+    """The processor seconds of serdi, and how many times as many this is. It is quadratic in prefixes."""
+    if not shutil.which("serdi"):
+        return " | "
+    theirs = run(["serdi", "-q", path], os.devnull)[0]
+    return f"{theirs:.2f} | {cpu / theirs:.2f}" if theirs > 0.05 else f"{theirs:.2f} | "
+
+
 def loads(folder, empty, out, counts):
     print("| text | MB | processor s | s | peak MB | serdi processor s | ratio |")
     print("|---|---|---|---|---|---|---|")
     kinds = [("triples", count) for count in counts]
-    kinds += [(kind, counts[-1] // 4) for kind in ("collection", "objects", "prefixes")]
+    kinds += [(kind, max(1, counts[-1] // 4)) for kind in ("collection", "objects", "prefixes")]
     for kind, count in kinds:
         path = text(folder, kind, str(count))
         cpu, took, peak, line = run([PROGRAM, empty, path], out)
-        other = ""
-        if shutil.which("serdi"):
-            theirs = run(["serdi", "-q", path], os.devnull)[0]
-            other = f"{theirs:.2f} | {cpu / theirs:.2f}" if theirs > 0.05 else f"{theirs:.2f} | "
+        other = beside_serdi(cpu, path) if kind != "prefixes" else " | "
         size = os.path.getsize(path) / 1e6
         print(f"| {kind} {count} | {size:.1f} | {cpu:.2f} | {took:.2f} | {peak:.0f} | {other} |", flush=True)
         if not line.startswith("report"):

@@ -1,5 +1,6 @@
 mod accepted;
 mod limits;
+mod one_term;
 mod pools;
 mod refused;
 mod seen;

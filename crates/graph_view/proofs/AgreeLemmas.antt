@@ -78,7 +78,7 @@ module _ {K : Key → Type 0} where
   }
 
   -- the same triples over the same terms
-  Agree-on_terms : {g h : Graph} → h.terms ≡ g.terms → AgreeOn g.triples h.triples K → Agree g h K
+  pub Agree-on_terms : {g h : Graph} → h.terms ≡ g.terms → AgreeOn g.triples h.triples K → Agree g h K
   Agree-on_terms {g} terms triples = record {
     more = [];
     terms = terms ∙ sym (append-nil g.terms);

@@ -1,6 +1,7 @@
 pub mod AgreeLemmas
 pub mod KeyLemmas
 pub mod LookUpLemmas
+pub mod PatchedLemmas
 pub mod ReadsLemmas
 pub mod SameGraphLemmas
 pub mod SameLookUpLemmas

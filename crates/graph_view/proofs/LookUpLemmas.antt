@@ -30,27 +30,37 @@ numbers_at triples key f whole y made touches back = (
       subst (Contains (map f found)) (sym back) (Contains-map f found (whole y) there),
 )
 
+pub Contains-objects : (triples : List Triple) (s p o : ℕ)
+    → Contains (map (λ t. t.o) (look triples (Out s p))) o
+    ↔ Contains triples (record { s = s; p = p; o = o })
+Contains-objects triples s p o =
+    numbers_at triples (Out s p) (λ t. t.o) (λ y. record { s = s; p = p; o = y }) o
+    (λ t touches e. triple_is t (record { s = s; p = p; o = o }) touches.0 touches.1 (sym e))
+    (refl, refl) refl
+
 pub Contains-objects_of : (g : Graph) (s p o : ℕ)
     → Contains (objects_of g s p) o ↔ Contains g.triples (record { s = s; p = p; o = o })
 Contains-objects_of g s p o =
     let found = (in_term_order_lists g.terms (map (λ t. t.o) (look g.triples (Out s p)))).each o in
-    let held =
-    numbers_at g.triples (Out s p) (λ t. t.o) (λ y. record { s = s; p = p; o = y }) o
-    (λ t touches e. triple_is t (record { s = s; p = p; o = o }) touches.0 touches.1 (sym e))
-    (refl, refl) refl in
+    let held = Contains-objects g.triples s p o in
     (λ c. held.0 (found.0 c), λ c. found.1 (held.1 c))
+
+pub Contains-subjects : (triples : List Triple) (p o s : ℕ)
+    → Contains (map (λ t. t.s) (look triples (In p o))) s
+    ↔ Contains triples (record { s = s; p = p; o = o })
+Contains-subjects triples p o s =
+    numbers_at triples (In p o) (λ t. t.s) (λ y. record { s = y; p = p; o = o }) s
+    (λ t touches e. triple_is t (record { s = s; p = p; o = o }) (sym e) touches.0 touches.1)
+    (refl, refl) refl
 
 pub Contains-subjects_of : (g : Graph) (p o s : ℕ)
     → Contains (subjects_of g p o) s ↔ Contains g.triples (record { s = s; p = p; o = o })
 Contains-subjects_of g p o s =
     let found = (in_term_order_lists g.terms (map (λ t. t.s) (look g.triples (In p o)))).each s in
-    let held =
-    numbers_at g.triples (In p o) (λ t. t.s) (λ y. record { s = y; p = p; o = o }) s
-    (λ t touches e. triple_is t (record { s = s; p = p; o = o }) (sym e) touches.0 touches.1)
-    (refl, refl) refl in
+    let held = Contains-subjects g.triples p o s in
     (λ c. held.0 (found.0 c), λ c. found.1 (held.1 c))
 
-Contains-ordered : (g : Graph) (key : Key) (t : Triple)
+pub Contains-ordered : (g : Graph) (key : Key) (t : Triple)
     → Contains (in_triple_order g.terms (look g.triples key)) t ↔ (Contains g.triples t × Touches t key)
 Contains-ordered g key t =
     let found = (in_order_lists (triple_cmp g.terms) (triple_order g.terms) (look g.triples key)).each t in

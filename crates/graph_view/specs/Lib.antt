@@ -3,6 +3,7 @@ pub mod Graph
 pub mod Key
 pub mod KeyLaws
 pub mod ListGraph
+pub mod Patched
 pub mod Reads
 pub mod SameGraph
 pub mod StoreFault

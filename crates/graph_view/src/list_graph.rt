@@ -1,7 +1,7 @@
-ghost use Rattle.std.specs.Prelude.{◌≡◌, [], map, IfOk};
-ghost use Rattle.graph_view.specs.Key.{look};
+ghost use Rattle.std.specs.Prelude.{◌≡◌, []};
 
-use crate::{GraphEdit, GraphView, Key, Reads, StoreFault, touches};
+use crate::among::{objects_among, subjects_among, triples_among};
+use crate::{GraphEdit, GraphView, Key, Reads, StoreFault};
 use indexmap::IndexSet;
 use shx_term::{Id, Memory, Pool, PoolFault, Term, Triple};
 use std::alloc::Global;
@@ -130,37 +130,4 @@ impl GraphEdit for ListGraph {
     fn remove(&mut self, t: &Triple) -> bool {
         self.triples.swap_remove(t)
     }
-}
-
-// The triples that touch the key, in the order of the list.
-fn triples_among(alloc: Global, triples: &[Triple], key: &Key) -> Result<Vec<Triple>, Memory>
-    ensures { IfOk result (λ found. found.items ≡ look triples.now key.now) }
-{
-    triples
-        .iter()
-        .filter(|t| touches(t, key))
-        .copied()
-        .collect(alloc)
-}
-
-// The objects of those triples, with repeats.
-fn objects_among(alloc: Global, triples: &[Triple], key: &Key) -> Result<Vec<Id>, Memory>
-    ensures { IfOk result (λ found. found.items ≡ map (λ t. t.o) (look triples.now key.now)) }
-{
-    triples
-        .iter()
-        .filter(|t| touches(t, key))
-        .map(|t| t.o)
-        .collect(alloc)
-}
-
-// The subjects of those triples, with repeats.
-fn subjects_among(alloc: Global, triples: &[Triple], key: &Key) -> Result<Vec<Id>, Memory>
-    ensures { IfOk result (λ found. found.items ≡ map (λ t. t.s) (look triples.now key.now)) }
-{
-    triples
-        .iter()
-        .filter(|t| touches(t, key))
-        .map(|t| t.s)
-        .collect(alloc)
 }

@@ -10,7 +10,7 @@ use crate::load::load;
 use crate::plan::Shape;
 use crate::refusal::{Refusal, not_built};
 use crate::shapes::read_shapes;
-use graph_view::ListGraph;
+use crate::stored_graph::empty_graph;
 use shx_term::{Limits, Memory, Pool, Scope, Triple};
 use std::alloc::Global;
 
@@ -50,7 +50,7 @@ fn declare_document(
         (λ d. due ≡ Some (record { terms = d.pool.terms; shapes = d.shapes.items }))) }
     ensures limit { IfOk result (λ declared. IfSome declared (λ d. d.pool.limit ≡ pool.limit)) }
 {
-    let mut graph = ListGraph::new(alloc, pool, limit);
+    let mut graph = empty_graph(alloc, pool, limit)?;
     load(&mut graph, triples)?;
     let found = read_shapes(alloc, &graph, triples)?;
     let pool = graph.into_pool();

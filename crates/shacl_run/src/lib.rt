@@ -13,6 +13,7 @@
 //! | `take_line.rt`, `reply.rt`, `edit.rt` | one line of a script: taken, done, answered |
 //! | `report.rt` | the text of a report |
 //! | `document.rt`, `refusal.rt`, `load.rt` | what a text of Turtle states, or why it is refused; its graph |
+//! | `stored_graph.rt` | the form in which graphs are stored |
 //! | `plan.rt`, `shapes.rt`, `declare.rt` | so far: the shapes that it declares |
 //! | `result_row.rt`, `evaluation.rt` | so far: the results of shapes in a graph |
 //!
@@ -39,6 +40,7 @@ mod serve;
 mod shapes;
 mod status;
 mod stop;
+mod stored_graph;
 mod take_line;
 mod top;
 mod validation;

@@ -11,8 +11,8 @@ use crate::document::read_triples;
 use crate::load::load;
 use crate::plan::Shape;
 use crate::refusal::Refusal;
+use crate::stored_graph::empty_graph;
 use crate::validation::Validation;
-use graph_view::ListGraph;
 use shx_term::{Limits, Memory, Pool, Scope, Triple};
 use std::alloc::Global;
 
@@ -52,7 +52,7 @@ fn validation_over(
     ensures triple_limit { IfOk result (λ validation. validation.graph.limit ≡ limit) }
     ensures term_limit { IfOk result (λ validation. validation.graph.pool.limit ≡ pool.limit) }
 {
-    let mut graph = ListGraph::new(alloc, pool, limit);
+    let mut graph = empty_graph(alloc, pool, limit)?;
     load(&mut graph, triples)?;
     Ok(Validation {
         graph,

@@ -1,10 +1,10 @@
 use crate::plan::Shape;
-use graph_view::ListGraph;
+use crate::stored_graph::StoredGraph;
 
 /// Declared shapes, the data graph that they are asked of, and how far the script has come.
 #[derive(Drop)]
 pub struct Validation {
-    pub graph: ListGraph,
+    pub graph: StoredGraph,
     pub shapes: Vec<Shape>,
     /// How many lines of the script were answered.
     pub line: u64,

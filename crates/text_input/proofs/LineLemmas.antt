@@ -56,29 +56,3 @@ fed_lines-none part plain = ap without_last (slice_split_none is_line_feed part 
 pub lines_of-last : (last : List ℕ) → HasNoFeed last → 0 < length last → lines_of last ≡ last ∷ []
 lines_of-last last plain some =
     ap without_empty_end (slice_split_none is_line_feed last plain.each) ∙ end_kept last some
-
-lines_to_feed : (text : List ℕ) → position_or_len is_line_feed text < length text
-    → lines_of text ≡ before_first is_line_feed text ∷ lines_of (after_first is_line_feed text)
-lines_to_feed text h =
-    let after = after_first is_line_feed text in
-    ap without_empty_end (slice_split_first is_line_feed text 0 h)
-    ∙ first_kept (before_first is_line_feed text) (slice_split is_line_feed after) (some_parts after)
-
-lines_to_end : (text : List ℕ) → 0 < length text → position_or_len is_line_feed text ≡ length text
-    → lines_of text ≡ before_first is_line_feed text ∷ lines_of (after_first is_line_feed text)
-lines_to_end text some at =
-    let none : All (λ b. is_line_feed b ≡ false) text =
-    λ k d below. fails_before_first is_line_feed text k d (omega arith) in
-    let whole : before_first is_line_feed text ≡ text = grind (arith, common_steps) in
-    let nothing : after_first is_line_feed text ≡ [] = grind (arith, common_steps) in
-    rw (whole, nothing) (lines_of-last text (record { each = none }) some)
-
--- a text begins with the line up to its first line feed, or is one line
-pub first_line : (text : List ℕ) → 0 < length text
-    → lines_of text ≡ before_first is_line_feed text ∷ lines_of (after_first is_line_feed text)
-first_line text some =
-    elim (cases_lt (position_or_len is_line_feed text) (length text)) [
-      | inl within ↦ lines_to_feed text within
-      | inr past ↦
-          lines_to_end text some (omega (arith, prefix_len-le-length (λ b. not (is_line_feed b)) text))
-    ]

@@ -4,7 +4,6 @@
 //! |---|---|
 //! | `text.rt` | `read_text`: a text read to its end, if it is no longer than it may be |
 //! | `script_reader.rt` | `ScriptReader`: a script read line by line; `Line`: what stands next in it |
-//! | `line_split.rt` | `split_line`: the first line of a text that is at hand |
 //! | `read_fault.rt` | `ReadFault`: why a text was not read |
 //!
 //! It stands on `shx_outside` alone. Start with `text.rt`; `specs/Lines.antt` says what the lines of a text
@@ -12,12 +11,10 @@
 //! follows from them is proved in `LineLemmas`, `ScriptLineLemmas` and `CountLemmas`, in `proofs/`.
 #![tactic(auto)]
 
-mod line_split;
 mod read_fault;
 mod script_reader;
 mod text;
 
-pub use line_split::split_line;
 pub use read_fault::ReadFault;
 pub use script_reader::{Line, ScriptReader};
 pub use text::read_text;

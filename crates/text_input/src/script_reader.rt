@@ -1,16 +1,16 @@
 //! Reading a script line by line.
 ghost use Rattle.std.specs.Prelude.{◌≡◌, ◌≢◌, ◌+◌, ◌-◌, ◌<◌, ◌≤◌, [], ◌++◌, true, false, length, take, drop};
-ghost use Rattle.std.specs.Prelude.{IsOk, IfOk, IfErr, OnOk, OnErr};
+ghost use Rattle.std.specs.Prelude.{IsOk, IfOk, IfErr, OnOk, OnErr, position};
 ghost use Rattle.shx_outside.specs.declared.role.Role.TheVariants.{Script};
 ghost use Rattle.shx_outside.specs.Counted.{HasCause};
 ghost use Rattle.shx_outside.specs.Told.{Took, StaysAdmitted, SameTexts, OthersStay};
+ghost use Rattle.text_input.specs.Lines.{is_line_feed};
 ghost use Rattle.text_input.specs.LineParts.{TakesPart, IsKept};
 ghost use Rattle.text_input.specs.ScriptReader.{new_reader, left_of, MetEnd, ReadsLine};
 ghost use Rattle.text_input.specs.ScriptReader.{StopsInLine, KeepsCount};
 ghost use Rattle.text_input.specs.TextRead.{HasInputCause};
 
 use crate::ReadFault;
-use crate::line_split::first_feed;
 use shx_outside::{Failed, Inputs, Role};
 use std::alloc::{AllocError, Global};
 use std::marker::Model;
@@ -248,6 +248,13 @@ impl ScriptReader {
         self.start += count;
         self.budget -= count as u64;
     }
+}
+
+// The place of the first line feed.
+fn first_feed(bytes: &[u8]) -> Option<usize>
+    ensures { result ≡ position is_line_feed bytes.now }
+{
+    bytes.iter().position(|b| *b == b'\n')
 }
 
 // Room for what the script may still have and one byte more, or for a whole piece.

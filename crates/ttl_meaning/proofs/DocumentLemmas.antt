@@ -25,7 +25,7 @@ use Rattle.shx_term.specs.Pool.{Pooled}
 use Rattle.shx_term.proofs.MemberLemmas.{Contains-map, Contains-from_map, Contains-test}
 use Rattle.ttl_meaning.specs.declared.document.Document.{Document}
 use Rattle.ttl_meaning.specs.declared.document.Prefix.{Prefix}
-use Rattle.ttl_meaning.specs.declared.reading.Reading.{Reading}
+use Rattle.ttl_meaning.specs.declared.reader_state.ReaderState.{ReaderState}
 use Rattle.ttl_meaning.specs.DocumentOf.{ArePrefixes, AreLabels, IsDocumentOf}
 use Rattle.ttl_meaning.specs.IsReading.{Keeps}
 use Rattle.ttl_meaning.specs.IsStated.{Bounds, IsWithin}
@@ -128,7 +128,7 @@ module _ {A : Type 0} where
       })
 
 -- what is made of a reading that keeps a state, within the limits, is the document of that state
-pub IsDocumentOf-kept : (bounds : Bounds) (s : State) (r : Reading) (pool : Pooled) (document : Document)
+pub IsDocumentOf-kept : (bounds : Bounds) (s : State) (r : ReaderState) (pool : Pooled) (document : Document)
     → Keeps bounds s r pool → r.stated.excess ≡ None
     → document.triples ≡ r.stated.triples → ArePrefixes r.prefixes document.prefixes.items
     → document.base ≡ r.base → IsAbsolute document.base → AreLabels r.labels document.labels.items

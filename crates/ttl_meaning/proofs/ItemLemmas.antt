@@ -5,27 +5,33 @@ use Rattle.std.specs.BTreeMap.{BTreeMap, get_by_text}
 use Rattle.std.specs.Map.{update}
 use Rattle.shx_term.specs.Pool.{Pooled}
 use Rattle.shx_term.specs.declared.term.Literal.{Literal}
+use Rattle.ttl_tokens.specs.declared.token.Token.{Token}
+use Rattle.ttl_tokens.specs.declared.token.TokenKind.{TokenKind}
+use Rattle.ttl_tokens.specs.declared.token.TokenKind.TheVariants.{IriRef}
 use Rattle.ttl_meaning.specs.declared.context.Context.{Context}
+use Rattle.ttl_meaning.specs.declared.fault.NoTerm.{NoTerm}
 use Rattle.ttl_meaning.specs.declared.fault.TermFaultKind.{TermFaultKind}
-use Rattle.ttl_meaning.specs.declared.reading.Reading.{Reading}
+use Rattle.ttl_meaning.specs.declared.reader_state.ReaderState.{ReaderState}
 use Rattle.ttl_meaning.specs.State.{State, unless_fault, enter}
 use Rattle.ttl_meaning.specs.Items.{put_literal, end_string, used_or_blamed, set_base, bind}
 use Rattle.ttl_meaning.specs.IsStated.{Bounds}
 use Rattle.ttl_meaning.specs.IsReading.{Keeps, IsReading, Does, DoesSound, KeepsOn}
+use Rattle.ttl_meaning.specs.Meant.{IsMeant}
+use Rattle.ttl_meaning.specs.Terms.{in_namespace, iri_of_kind, local_of, namespace_of, prefix_of}
 
 none_by_test : {X : Type 0} (o : Option X) → false ≡ is_some o → o ≡ None
 none_by_test None e = refl
 none_by_test (Some x) e = absurd (cc)
 
 -- what keeps on does the same where there is no fault
-pub sound_where_kept : (act : State → State) (r : Reading) (p : Pooled) (r' : Reading) (p' : Pooled)
+pub sound_where_kept : (act : State → State) (r : ReaderState) (p : Pooled) (r' : ReaderState) (p' : Pooled)
     → KeepsOn act r p r' p' → DoesSound act r p r' p'
 sound_where_kept act r p r' p' on bounds s none keeps =
     let after = on bounds s keeps in
     record { fault = after.fault; keeps = λ _. after }
 
 -- where there is no fault, an item does what it does there
-pub item_sound : (act : State → State) (r : Reading) (p : Pooled) (r' : Reading) (p' : Pooled)
+pub item_sound : (act : State → State) (r : ReaderState) (p : Pooled) (r' : ReaderState) (p' : Pooled)
     → false ≡ is_some r.fault → DoesSound act r p r' p' → Does (unless_fault act) r p r' p'
 item_sound act r p r' p' none sound bounds s reads =
     let same : false ≡ is_some s.fault = none ∙ ap is_some reads.fault in
@@ -33,21 +39,21 @@ item_sound act r p r' p' none sound bounds s reads =
     rw (sym same) (sound bounds s empty (reads.keeps empty))
 
 -- where there is no fault, an item keeps on
-pub item_kept : (act : State → State) (r : Reading) (p : Pooled) (r' : Reading) (p' : Pooled)
+pub item_kept : (act : State → State) (r : ReaderState) (p : Pooled) (r' : ReaderState) (p' : Pooled)
     → false ≡ is_some r.fault → KeepsOn act r p r' p' → Does (unless_fault act) r p r' p'
 item_kept act r p r' p' none on = item_sound act r p r' p' none (sound_where_kept act r p r' p' on)
 
 -- ---- calls in turn
 
 -- two calls that keep on
-pub kept_in_turn : (f g : State → State) (r : Reading) (p : Pooled) (r' : Reading) (p' : Pooled)
-    (r'' : Reading) (p'' : Pooled) → KeepsOn f r p r' p' → KeepsOn g r' p' r'' p''
+pub kept_in_turn : (f g : State → State) (r : ReaderState) (p : Pooled) (r' : ReaderState) (p' : Pooled)
+    (r'' : ReaderState) (p'' : Pooled) → KeepsOn f r p r' p' → KeepsOn g r' p' r'' p''
     → KeepsOn (λ s. g (f s)) r p r'' p''
 kept_in_turn f g r p r' p' r'' p'' first then bounds s keeps = then bounds (f s) (first bounds s keeps)
 
 -- a context is entered that was made of what stood before
-pub kept_entered : (f : State → State) (context : State → Context) (inner : Context) (r : Reading)
-    (p : Pooled) (r' : Reading) (p' : Pooled) (r'' : Reading) (p'' : Pooled)
+pub kept_entered : (f : State → State) (context : State → Context) (inner : Context) (r : ReaderState)
+    (p : Pooled) (r' : ReaderState) (p' : Pooled) (r'' : ReaderState) (p'' : Pooled)
     → ((bounds : Bounds) (s : State) → Keeps bounds s r p → inner ≡ context s)
     → KeepsOn f r p r' p' → KeepsOn (enter inner) r' p' r'' p''
     → KeepsOn (λ s. enter (context s) (f s)) r p r'' p''
@@ -58,8 +64,9 @@ kept_entered f context inner r p r' p' r'' p'' same first then bounds s keeps =
 -- ---- strings
 
 -- the string that waited is taken, and its literal is put
-pub string_ends : (literal : List ℕ → Literal) (held : List ℕ) (made : Literal) (at : ℕ) (r : Reading)
-    (p : Pooled) (r' : Reading) (r'' : Reading) (p'' : Pooled) → held ≡ string_bytes r.held → at ≡ r.held_at
+pub string_ends : (literal : List ℕ → Literal) (held : List ℕ) (made : Literal) (at : ℕ) (r : ReaderState)
+    (p : Pooled) (r' : ReaderState) (r'' : ReaderState) (p'' : Pooled) → held ≡ string_bytes r.held
+    → at ≡ r.held_at
     → made ≡ literal held → KeepsOn (λ s. record s { held = [] }) r p r' p
     → DoesSound (put_literal at made) r' p r'' p''
     → DoesSound (λ s. end_string (literal s.held) s) r p r'' p''
@@ -74,9 +81,17 @@ string_ends literal held made at r p r' r'' p'' said begun is_made taken put bou
 
 -- ---- IRIs
 
+-- a token that is no reference stands for what it does by its prefix
+pub prefixed_meant : (k : TokenKind) (text : List ℕ) (token : Token) (s : State)
+    (r : Result (List ℕ) NoTerm) → (k ≡ IriRef → ⊥)
+    → IsMeant (in_namespace (namespace_of (prefix_of text token) s.prefixes) (local_of k text token)) r
+    → IsMeant (iri_of_kind k text token s) r
+prefixed_meant IriRef text token s r other meant = absurd (other refl)
+prefixed_meant k text token s r other meant = meant
+
 -- the IRI that was found is used
 pub kept_where_found : (meant : State → Result (List ℕ) TermFaultKind) (act : List ℕ → State → State) (at : ℕ)
-    (iri : List ℕ) (r : Reading) (p : Pooled) (r' : Reading) (p' : Pooled)
+    (iri : List ℕ) (r : ReaderState) (p : Pooled) (r' : ReaderState) (p' : Pooled)
     → ((bounds : Bounds) (s : State) (p : Pooled) → Keeps bounds s r p → meant s ≡ Ok iri)
     → KeepsOn (act iri) r p r' p' → KeepsOn (λ s. used_or_blamed act at (meant s) s) r p r' p'
 kept_where_found meant act at iri r p r' p' found on bounds s keeps =
@@ -84,7 +99,7 @@ kept_where_found meant act at iri r p r' p' found on bounds s keeps =
     (sym (found bounds s p keeps)) (on bounds s keeps)
 
 -- the base is set
-pub kept_base : (iri base : List ℕ) (r : Reading) (p : Pooled) → base ≡ iri
+pub kept_base : (iri base : List ℕ) (r : ReaderState) (p : Pooled) → base ≡ iri
     → KeepsOn (set_base iri) r p (record r { base = base }) p
 kept_base iri base r p same bounds s keeps = record {
   fault = keeps.fault;
@@ -100,8 +115,8 @@ kept_base iri base r p same bounds s keeps = record {
 }
 
 -- the namespace stands in the map under the name that was held
-pub kept_bound : (iri : List ℕ) (name : String Global) (m : BTreeMap (String Global) (List ℕ)) (r : Reading)
-    (p : Pooled) (r' : Reading) → string_bytes name ≡ string_bytes r.held
+pub kept_bound : (iri : List ℕ) (name : String Global) (m : BTreeMap (String Global) (List ℕ))
+    (r : ReaderState) (p : Pooled) (r' : ReaderState) → string_bytes name ≡ string_bytes r.held
     → ((cs : List ℕ) → get_by_text m cs
     ≡ update bytes_eq (get_by_text r'.prefixes) (string_bytes name) (Some iri) cs)
     → KeepsOn (λ s. record s { held = [] }) r p r' p → KeepsOn (bind iri) r p (record r' { prefixes = m }) p
@@ -124,7 +139,7 @@ kept_bound iri name m r p r' named updated taken bounds s keeps =
 -- ---- statements
 
 -- the contexts are these
-pub kept_contexts : (contexts : List Context) (v : Vec Context Global) (r : Reading) (p : Pooled)
+pub kept_contexts : (contexts : List Context) (v : Vec Context Global) (r : ReaderState) (p : Pooled)
     → reverse v.items ≡ contexts
     → KeepsOn (λ s. record s { contexts = contexts }) r p (record r { contexts = v }) p
 kept_contexts contexts v r p same bounds s keeps = record {

@@ -14,7 +14,7 @@ use Rattle.shx_term.specs.Pool.{Pooled}
 use Rattle.shx_term.proofs.MemberLemmas.{Contains-head, Contains-tail, Contains-cases}
 use Rattle.ttl_meaning.specs.declared.context.Context.{Context}
 use Rattle.ttl_meaning.specs.declared.context.Context.TheVariants.{Open, About, Of}
-use Rattle.ttl_meaning.specs.declared.reading.Reading.{Reading}
+use Rattle.ttl_meaning.specs.declared.reader_state.ReaderState.{ReaderState}
 use Rattle.ttl_meaning.specs.declared.stated.Stated.{Stated}
 use Rattle.ttl_meaning.specs.IsReading.{Keeps, IsReading, DoesSound, KeepsOn}
 use Rattle.ttl_meaning.specs.IsStated.{Bounds, IsStated, triple_of}
@@ -36,22 +36,22 @@ reverse-from_last xs x e =
     ap reverse split ∙ reverse-append (take last xs) (x ∷ [])
 
 -- the other contexts, the innermost of them first
-abbrev pub outer : Reading → List Context
+abbrev pub outer : ReaderState → List Context
 outer r = reverse (take (length r.contexts.items - 1) r.contexts.items)
 
 -- the innermost context is this one
-abbrev pub IsInnermost : Context → Reading → Type 0
+abbrev pub IsInnermost : Context → ReaderState → Type 0
 IsInnermost context r = reverse r.contexts.items ≡ context ∷ outer r
 
 -- what is last in a reading is innermost
-pub IsInnermost-from_last : (r : Reading) (xs : List Context) (context last : Context)
+pub IsInnermost-from_last : (r : ReaderState) (xs : List Context) (context last : Context)
     → xs ≡ r.contexts.items → Some last ≡ slice_get xs (length xs - 1) → last ≡ context
     → IsInnermost context r
 IsInnermost-from_last r xs context last same at is =
     subst (λ ys. reverse ys ≡ context ∷ reverse (take (length ys - 1) ys)) same
     (reverse-from_last xs context (sym at ∙ ap Some is))
 
-module _ (bounds : Bounds) (s : State) (r : Reading) (pool : Pooled) (keeps : Keeps bounds s r pool) where
+module _ (bounds : Bounds) (s : State) (r : ReaderState) (pool : Pooled) (keeps : Keeps bounds s r pool) where
   contexts_are : (context : Context) → IsInnermost context r → context ∷ outer r ≡ s.contexts
   contexts_are context here = sym here ∙ keeps.contexts
 
@@ -82,7 +82,7 @@ module _ (bounds : Bounds) (s : State) (r : Reading) (pool : Pooled) (keeps : Ke
 -- ---- new nodes and labels
 
 -- a node with the number that comes next is put, and the number is counted up
-pub KeepsOn-put_new : (r r' : Reading) (p p' : Pooled) (node : Term) (next : ℕ)
+pub KeepsOn-put_new : (r r' : ReaderState) (p p' : Pooled) (node : Term) (next : ℕ)
     → node ≡ anonymous r.scope r.next → next ≡ r.next + 1
     → KeepsOn (put node) (record r { next = next }) p r' p' → KeepsOn put_new r p r' p'
 KeepsOn-put_new r r' p p' node next is follows puts bounds s keeps =
@@ -129,13 +129,13 @@ has_more old new text texts also same other =
     ] refl (also other)
 
 -- a reading, with a label more
-pub record KnowsLabel (label : List ℕ) (r mid : Reading) : Type 0 where
+pub record KnowsLabel (label : List ℕ) (r mid : ReaderState) : Type 0 where
   pub labels : BTreeSet (String Global)
   pub same : mid ≡ record r { labels = labels }
   pub also : HasAlso r.labels label labels
 
 -- a node with a label is put, once the label is known
-pub KeepsOn-put_label : (r mid r' : Reading) (p p' : Pooled) (node : Term) (label : List ℕ)
+pub KeepsOn-put_label : (r mid r' : ReaderState) (p p' : Pooled) (node : Term) (label : List ℕ)
     → KnowsLabel label r mid → node ≡ labelled mid.scope label
     → KeepsOn (put node) mid p r' p' → KeepsOn (put_label label) r p r' p'
 KeepsOn-put_label r mid r' p p' node label knows is puts bounds s keeps =
@@ -149,7 +149,7 @@ KeepsOn-put_label r mid r' p p' node label knows is puts bounds s keeps =
 -- ---- literals
 
 -- a literal without a fault is put
-pub DoesSound-put_literal : (r r' : Reading) (p p' : Pooled) (at : ℕ) (literal : Literal) (term : Term)
+pub DoesSound-put_literal : (r r' : ReaderState) (p p' : Pooled) (at : ℕ) (literal : Literal) (term : Term)
     → Ok term ≡ judged literal → KeepsOn (put term) r p r' p'
     → DoesSound (put_literal at literal) r p r' p'
 DoesSound-put_literal r r' p p' at literal term good puts bounds s none keeps =

@@ -3,7 +3,6 @@ use Rattle.std.specs.Prelude.{◌≡◌, ℕ, ◌-◌, List, map, Contains, ◌�
 use Rattle.std.specs.BTreeMap.{BTreeMap, get_by_text}
 use Rattle.std.specs.BTreeSet.{BTreeSet, contains_text}
 use Rattle.std.specs.Cmp.Lexicographic.{slice_cmp}
-use Rattle.std.specs.List.Sorted.{IsStrictlySortedBy}
 use Rattle.std.specs.Ordering.{nat_cmp}
 use Rattle.shx_term.specs.InOrder.{Lists}
 use Rattle.shx_term.specs.Pool.{Pooled}
@@ -11,13 +10,14 @@ use Rattle.shx_term.specs.TripleTerms.{numbered_all}
 use Rattle.iri_resolve.specs.Resolution.{IsAbsolute}
 use Rattle.ttl_meaning.specs.declared.document.Document.{Document}
 use Rattle.ttl_meaning.specs.declared.document.Prefix.{Prefix}
+use Rattle.ttl_meaning.specs.Ascending.{AreAscending}
 use Rattle.ttl_meaning.specs.IsStated.{Bounds, terms_with}
 use Rattle.ttl_meaning.specs.State.{State}
 use Rattle.ttl_meaning.specs.Terms.{namespace_of}
 
 -- the names go up, and each has its latest namespace; no other name has one
 pub record IsPrefixTable (s : State) (table : List Prefix) : Type 0 where
-  pub sorted : IsStrictlySortedBy (slice_cmp nat_cmp) (map (λ (p : Prefix). p.name) table)
+  pub sorted : AreAscending (map (λ (p : Prefix). p.name) table)
   pub each : (p : Prefix) → Contains table p ↔ (namespace_of p.name s.prefixes ≡ Some p.iri)
 
 pub record IsDocumentOf (bounds : Bounds) (s : State) (document : Document) (pool : Pooled) : Type 0 where
@@ -35,7 +35,7 @@ pub record IsDocumentOf (bounds : Bounds) (s : State) (document : Document) (poo
 
 -- the names go up, and each has what the map has for it; for no other name has the map anything
 pub record ArePrefixes {A : Type 0} (m : BTreeMap (String A) (List ℕ)) (table : List Prefix) : Type 0 where
-  pub sorted : IsStrictlySortedBy (slice_cmp nat_cmp) (map (λ (p : Prefix). p.name) table)
+  pub sorted : AreAscending (map (λ (p : Prefix). p.name) table)
   pub each : (p : Prefix) → Contains table p ↔ (get_by_text m p.name ≡ Some p.iri)
 
 -- the texts of the set, in order

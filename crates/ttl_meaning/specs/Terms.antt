@@ -48,12 +48,16 @@ abbrev pub in_namespace : Option (List ℕ) → List ℕ → Result (List ℕ) T
 in_namespace None local = Err UnknownPrefix
 in_namespace (Some iri) local = Ok (iri ++ local)
 
+-- what a prefixed name has behind its colon
+abbrev pub local_of : TokenKind → List ℕ → Token → List ℕ
+local_of PnameLn text token = said text token
+local_of kind text token = []
+
 -- the IRI that a token stands for: a reference, a prefixed name, or a prefix alone
 abbrev pub iri_of_kind : TokenKind → List ℕ → Token → State → Result (List ℕ) TermFaultKind
 iri_of_kind IriRef text token s = iri_of_reference s.base (said text token)
-iri_of_kind PnameLn text token s =
-    in_namespace (namespace_of (prefix_of text token) s.prefixes) (said text token)
-iri_of_kind kind text token s = in_namespace (namespace_of (prefix_of text token) s.prefixes) []
+iri_of_kind kind text token s =
+    in_namespace (namespace_of (prefix_of text token) s.prefixes) (local_of kind text token)
 
 abbrev pub iri_of : List ℕ → Token → State → Result (List ℕ) TermFaultKind
 iri_of text token s = iri_of_kind token.kind text token s

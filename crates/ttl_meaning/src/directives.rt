@@ -8,13 +8,13 @@ ghost use Rattle.ttl_meaning.specs.Items.{on_base as base_item, bind as bound};
 
 use crate::base::Base;
 use crate::fault::{NoTerm, TermFault};
-use crate::reading::Reading;
+use crate::reader_state::ReaderState;
 use crate::terms::prefix_text;
 use shx_term::{IriText, Memory};
 use std::alloc::AllocError;
 use ttl_tokens::Token;
 
-impl Reading {
+impl ReaderState {
     /// The name in a directive waits for its IRI.
     pub fn hold_prefix(&mut self, text: &str, token: &Token) -> Result<(), Memory>
         requires { IsGiven text.now token.now }

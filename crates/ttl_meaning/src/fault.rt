@@ -22,8 +22,16 @@ pub struct TermFault {
 
 /// Why there is no term.
 #[derive(Clone, Copy, Debug)]
-pub(crate) enum NoTerm {
+pub enum NoTerm {
     Fault(TermFaultKind),
+    Memory,
+}
+
+/// Why there is no blank node.
+#[derive(Clone, Copy, Debug)]
+pub enum NoNode {
+    /// The text has none that is called so.
+    Unknown,
     Memory,
 }
 
@@ -35,5 +43,27 @@ impl From<AllocError> for NoTerm {
 
     fn from(_: AllocError) -> Self {
         NoTerm::Memory
+    }
+}
+
+impl From<TermFaultKind> for NoTerm {
+    ghost use Rattle.std.specs.Prelude.{◌≡◌};
+    ghost use Rattle.ttl_meaning.specs.declared.fault.NoTerm.{NoTerm};
+
+    ghost from_gives = { λ kind fault. fault ≡ NoTerm.Fault kind };
+
+    fn from(kind: TermFaultKind) -> Self {
+        NoTerm::Fault(kind)
+    }
+}
+
+impl From<AllocError> for NoNode {
+    ghost use Rattle.std.specs.Prelude.{◌≡◌};
+    ghost use Rattle.ttl_meaning.specs.declared.fault.NoNode.{NoNode};
+
+    ghost from_gives = { λ _ fault. fault ≡ NoNode.Memory };
+
+    fn from(_: AllocError) -> Self {
+        NoNode::Memory
     }
 }

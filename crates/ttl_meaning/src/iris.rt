@@ -1,15 +1,17 @@
 //! Which IRI a token stands for, and what it is used for.
-ghost use Rattle.std.specs.Prelude.{◌≡◌, ◌++◌, OnOk, IfOk, []};
+ghost use Rattle.std.specs.Prelude.{◌≡◌, ◌++◌, OnOk, IfOk};
+ghost use Rattle.std.specs.Option.{option_copied};
 ghost use Rattle.ttl_tokens.specs.Unescaped.{IsGiven};
 ghost use Rattle.iri_resolve.specs.Resolution.{IsAbsolute};
 ghost use Rattle.ttl_meaning.specs.IsReading.{DoesSound, Finds};
 ghost use Rattle.ttl_meaning.specs.Items.{used};
-ghost use Rattle.ttl_meaning.specs.Terms.{iri_of as iri_meant, iri_of_reference, in_namespace, namespace_of};
-ghost use Rattle.ttl_meaning.specs.Terms.{prefix_of, said};
+ghost use Rattle.ttl_meaning.specs.Meant.{IsMeant};
+ghost use Rattle.ttl_meaning.specs.Terms.{iri_of as iri_meant, iri_of_reference, in_namespace, local_of};
+ghost use Rattle.ttl_meaning.specs.Terms.{said};
 
 use crate::fault::{NoTerm, TermFaultKind};
-use crate::reading::Reading;
-use crate::terms::{iri_text, prefix_text, typed};
+use crate::reader_state::ReaderState;
+use crate::terms::{prefix_text, typed};
 use iri_resolve::{IriFault, resolve};
 use shx_term::{IriText, Memory, Pool, Term};
 use std::alloc::Global;
@@ -25,7 +27,7 @@ pub enum IriRole {
     Datatype,
 }
 
-impl Reading {
+impl ReaderState {
     // The IRI that a token stands for: an `IRIREF`, a `PNAME_LN` or a `PNAME_NS`.
     pub(crate) fn iri_of(&self, text: &str, token: &Token) -> Result<IriText, NoTerm>
         requires { IsGiven text.now token.now }
@@ -33,8 +35,12 @@ impl Reading {
     {
         match token.kind {
             TokenKind::IriRef => self.reference(text, token),
-            TokenKind::PnameLn => self.prefixed(text, token),
-            _ => self.namespace(text, token),
+            _ => named(
+                self.alloc,
+                self.prefixes.get(prefix_text(text, token)),
+                text,
+                token,
+            ),
         }
     }
 
@@ -44,40 +50,7 @@ impl Reading {
         ensures found { Finds (λ s. iri_of_reference s.base (said text.now token.now)) self.now result }
         ensures absolute { IfOk result IsAbsolute }
     {
-        let reference = unescape(self.alloc, text, token)?;
-        match resolve(self.alloc, self.base.iri(), &reference) {
-            Ok(iri) => Ok(iri),
-            Err(IriFault::NotAllowed) => Err(NoTerm::Fault(TermFaultKind::BadIri)),
-            Err(IriFault::Memory) => Err(NoTerm::Memory),
-        }
-    }
-
-    // A prefixed name with its local part.
-    fn prefixed(&self, text: &str, token: &Token) -> Result<IriText, NoTerm>
-        requires { IsGiven text.now token.now }
-        ensures { Finds (λ s. in_namespace (namespace_of (prefix_of text.now token.now) s.prefixes)
-            (said text.now token.now)) self.now result }
-    {
-        match self.prefixes.get(prefix_text(text, token)) {
-            Some(namespace) => Ok(joined(
-                self.alloc,
-                namespace,
-                &unescape(self.alloc, text, token)?,
-            )?),
-            None => Err(NoTerm::Fault(TermFaultKind::UnknownPrefix)),
-        }
-    }
-
-    // A prefixed name that is a prefix alone.
-    fn namespace(&self, text: &str, token: &Token) -> Result<IriText, NoTerm>
-        requires { IsGiven text.now token.now }
-        ensures { Finds (λ s. in_namespace (namespace_of (prefix_of text.now token.now) s.prefixes) [])
-            self.now result }
-    {
-        match self.prefixes.get(prefix_text(text, token)) {
-            Some(namespace) => Ok(namespace.copy(self.alloc)?),
-            None => Err(NoTerm::Fault(TermFaultKind::UnknownPrefix)),
-        }
+        over_base(self.alloc, self.base.iri(), text, token)
     }
 
     // An IRI is used.
@@ -97,6 +70,46 @@ impl Reading {
                 self.put_literal(pool, self.held_at, typed(lexical, iri))
             }
         }
+    }
+}
+
+// The reference of an `IRIREF`, over a base.
+pub(crate) fn over_base(
+    alloc: Global,
+    base: &IriText,
+    text: &str,
+    token: &Token,
+) -> Result<IriText, NoTerm>
+    requires given { IsGiven text.now token.now }
+    requires base { IsAbsolute base.now }
+    ensures meant { IsMeant (iri_of_reference base.now (said text.now token.now)) result }
+    ensures absolute { IfOk result IsAbsolute }
+{
+    let reference = unescape(alloc, text, token)?;
+    match resolve(alloc, base, &reference) {
+        Ok(iri) => Ok(iri),
+        Err(IriFault::NotAllowed) => Err(NoTerm::Fault(TermFaultKind::BadIri)),
+        Err(IriFault::Memory) => Err(NoTerm::Memory),
+    }
+}
+
+// A prefixed name, where its prefix stands for this.
+pub(crate) fn named(
+    alloc: Global,
+    namespace: Option<&IriText>,
+    text: &str,
+    token: &Token,
+) -> Result<IriText, NoTerm>
+    requires { IsGiven text.now token.now }
+    ensures { IsMeant (in_namespace (option_copied namespace.entry)
+        (local_of token.now.kind text.now token.now)) result }
+{
+    let Some(namespace) = namespace else {
+        return Err(NoTerm::Fault(TermFaultKind::UnknownPrefix));
+    };
+    match token.kind {
+        TokenKind::PnameLn => Ok(joined(alloc, namespace, &unescape(alloc, text, token)?)?),
+        _ => Ok(namespace.copy(alloc)?),
     }
 }
 

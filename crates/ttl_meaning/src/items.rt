@@ -14,16 +14,17 @@ ghost use Rattle.ttl_meaning.specs.Items.{begin_statement};
 use crate::context::Context;
 use crate::fault::{NoTerm, TermFault};
 use crate::iris::IriRole;
-use crate::reading::Reading;
+use crate::literals::bare;
+use crate::reader_state::ReaderState;
 use crate::terms::{
-    FIRST, NIL, REST, TYPE, anonymous, datatype_of, iri, iri_text, string_datatype, tagged,
+    FIRST, NIL, REST, TYPE, anonymous, iri, iri_text, string_datatype, tag_text, tagged,
     token_text, typed,
 };
 use shx_term::{Memory, Pool};
 use std::alloc::AllocError;
 use ttl_tokens::{Token, unescape};
 
-impl Reading {
+impl ReaderState {
     /// A statement begins.
     pub fn begin_statement(&mut self) -> Result<(), Memory>
         ensures { (pool : Pooled) → OnOk result (Does begin_statement self.old pool self.new pool) }
@@ -82,9 +83,8 @@ impl Reading {
         if self.fault.is_some() {
             return Ok(());
         }
-        let lexical = String::from_str(self.alloc, token_text(text, token))?;
-        let datatype = iri_text(self.alloc, datatype_of(token.kind))?;
-        self.put_literal(pool, token.start, typed(lexical, datatype))
+        let literal = bare(self.alloc, text, token)?;
+        self.put_literal(pool, token.start, literal)
     }
 
     /// A string waits for its tag or datatype.
@@ -123,7 +123,7 @@ impl Reading {
             return Ok(());
         }
         let lexical = self.take_held();
-        let literal = tagged(self.alloc, lexical, &token_text(text, token)[1..])?;
+        let literal = tagged(self.alloc, lexical, tag_text(text, token))?;
         self.put_literal(pool, self.held_at, literal)
     }
 

@@ -3,40 +3,45 @@
 //!
 //! | file | what it holds |
 //! |---|---|
-//! | `reading.rt` | `Reading`: what a reader of a text knows at a place, and what it has read |
+//! | `reader_state.rt` | `ReaderState`: what a reader of a text knows at a place, and what it has read |
 //! | `items.rt` | what each item of the grammar does |
 //! | `iris.rt` | which IRI a reference or a prefixed name stands for, and what it is used for |
 //! | `directives.rt` | what directives do |
 //! | `nodes.rt` | where a term belongs: contexts, blank nodes and collections |
-//! | `strings.rt` | literals |
+//! | `strings.rt` | literals in their place |
 //! | `terms.rt` | the terms that are made |
 //! | `stated.rt` | the triples so far, within the limits |
 //! | `base.rt` | `Base`: the IRI against which references are resolved |
-//! | `document.rt` | `Document`: what a text states |
+//! | `document.rt`, `tables.rt` | `Document`: what a text states |
+//! | `document_terms.rt`, `literals.rt` | what tokens stand for behind a document |
 //! | `context.rt` | `Context`: what the next term belongs to |
-//! | `fault.rt` | why a term has no place here |
+//! | `fault.rt` | why a term has no place here, or there is none |
 //!
-//! It stands on `ttl_tokens` for what tokens say, on `iri_resolve`, `value_space` and `shx_term`. Start with
-//! `reading.rt`; `specs/State.antt` and `specs/Items.antt` say what is meant.
+//! It stands on `ttl_tokens` for what tokens say, on `iri_resolve`, `value_space`, `shx_term` and `itoa`.
+//! Start with `reader_state.rt`; `specs/State.antt` and `specs/Items.antt` say what is meant.
 #![tactic(auto)]
 
 mod base;
 mod context;
 mod directives;
 mod document;
+mod document_terms;
 mod fault;
 mod iris;
 mod items;
+mod literals;
 mod nodes;
-mod reading;
+mod reader_state;
 mod stated;
 mod strings;
+mod tables;
 mod terms;
 
 pub use base::Base;
 pub use context::Context;
 pub use document::{Document, Prefix};
-pub use fault::{TermFault, TermFaultKind};
+pub use fault::{NoNode, NoTerm, TermFault, TermFaultKind};
 pub use iris::IriRole;
-pub use reading::Reading;
+pub use literals::{bare_literal, plain_string, tagged_string, typed_string};
+pub use reader_state::ReaderState;
 pub use stated::{Excess, Stated};

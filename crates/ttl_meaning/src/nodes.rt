@@ -6,12 +6,12 @@ ghost use Rattle.ttl_meaning.specs.Items.{put_new, put_label};
 ghost use Rattle.ttl_meaning.specs.State.{put as put_term, begin_verb, enter, leave};
 
 use crate::context::Context;
-use crate::reading::Reading;
+use crate::reader_state::ReaderState;
 use crate::terms::{anonymous, labelled};
 use shx_term::{Memory, Pool, Term};
 use std::alloc::AllocError;
 
-impl Reading {
+impl ReaderState {
     // A term stands in the innermost context.
     pub(crate) fn put(&mut self, pool: &mut Pool, term: Term) -> Result<(), Memory>
         ensures { OnOk result (KeepsOn (put_term term) self.old pool.old self.new pool.new) }

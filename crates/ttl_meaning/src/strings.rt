@@ -5,12 +5,12 @@ ghost use Rattle.ttl_meaning.specs.IsReading.{DoesSound, KeepsOn};
 ghost use Rattle.ttl_meaning.specs.Items.{put_literal, end_string};
 
 use crate::fault::TermFault;
-use crate::reading::Reading;
+use crate::reader_state::ReaderState;
 use crate::terms::judged;
 use shx_term::{Literal, Memory, Pool};
 use std::mem;
 
-impl Reading {
+impl ReaderState {
     // A literal that begins at this byte stands here, or has a fault.
     pub(crate) fn put_literal(
         &mut self,

@@ -1,7 +1,8 @@
 //! The terms that are made.
-ghost use Rattle.std.specs.Prelude.{◌≡◌, string_bytes, IfOk};
+ghost use Rattle.std.specs.Prelude.{◌≡◌, drop, string_bytes, IfOk};
 ghost use Rattle.shx_term.specs.declared.term.Term.TheVariants.{Iri};
 ghost use Rattle.shx_term.specs.Spelling.{xsd_string};
+ghost use Rattle.ttl_tokens.specs.declared.token.TokenKind.TheVariants.{LangTag};
 ghost use Rattle.ttl_tokens.specs.Unescaped.{IsGiven, token_text as text_of};
 ghost use Rattle.ttl_meaning.specs.Terms.{anonymous as anonymous_term, judged as judged_term, prefix_of};
 ghost use Rattle.ttl_meaning.specs.Terms.{labelled as labelled_term, datatype_of as kind_datatype};
@@ -127,6 +128,15 @@ pub(crate) fn token_text<'a>(text: &'a str, token: &Token) -> &'a str
     ensures { result.now ≡ text_of text.now token.now }
 {
     &text[token.start..token.end]
+}
+
+// The text of a language tag, behind its `@`.
+pub(crate) fn tag_text<'a>(text: &'a str, tag: &Token) -> &'a str
+    requires given { IsGiven text.now tag.now }
+    requires kind { tag.now.kind ≡ LangTag }
+    ensures { result.now ≡ drop 1 (text_of text.now tag.now) }
+{
+    &token_text(text, tag)[1..]
 }
 
 // The text before the colon of a prefixed name.

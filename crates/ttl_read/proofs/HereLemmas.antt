@@ -12,7 +12,7 @@ use Rattle.ttl_tokens.specs.Form.{Item}
 use Rattle.ttl_tokens.specs.Tokens.{IsTokenAt}
 use Rattle.ttl_tokens.specs.Walks.{Only}
 use Rattle.ttl_tokens.proofs.OneTokenLemmas.{some_token}
-use Rattle.ttl_meaning.specs.declared.reading.Reading.{Reading}
+use Rattle.ttl_meaning.specs.declared.reader_state.ReaderState.{ReaderState}
 use Rattle.ttl_meaning.specs.IsReading.{IsReading, Does}
 use Rattle.ttl_meaning.specs.State.{State}
 use Rattle.ttl_read.specs.declared.reader.Reader.{Reader}
@@ -73,7 +73,7 @@ sign_passes test act h holds does behind = token_passes test (λ u. act) h holds
 pub keeps_reading : (r m : Reader) (p : Pooled) → m.reading ≡ r.reading
     → Does (λ s. s) r.reading p m.reading p
 keeps_reading r m p same = λ bounds s reads.
-    subst (λ (x : Reading). IsReading bounds s x p) (sym same) reads
+    subst (λ (x : ReaderState). IsReading bounds s x p) (sym same) reads
 
 -- ... where nothing is done
 pub mark_passes : {text : List ℕ} {r : Reader} {t : Token} (test : TokenKind → Bool) (r' : Reader)

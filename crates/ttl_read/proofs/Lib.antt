@@ -4,10 +4,12 @@ pub mod DepthLemmas
 pub mod DirectiveLemmas
 pub mod DocumentLemmas
 pub mod FollowLemmas
+pub mod FoundLemmas
 pub mod HereLemmas
 pub mod KindLemmas
 pub mod LiteralLemmas
 pub mod ObjectLemmas
+pub mod OneFoundLemmas
 pub mod PassLemmas
 pub mod ReadLemmas
 pub mod SoundLemmas

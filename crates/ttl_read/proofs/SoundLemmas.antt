@@ -5,7 +5,7 @@ use Rattle.std.specs.Str.{IsUtf8}
 use Rattle.shx_term.specs.Pool.{Pooled}
 use Rattle.ttl_tokens.specs.Walks.{Only}
 use Rattle.ttl_meaning.specs.declared.fault.TermFault.{TermFault}
-use Rattle.ttl_meaning.specs.declared.reading.Reading.{Reading}
+use Rattle.ttl_meaning.specs.declared.reader_state.ReaderState.{ReaderState}
 use Rattle.ttl_meaning.specs.declared.stated.Excess.{Excess}
 use Rattle.ttl_meaning.specs.declared.stated.Excess.TheVariants.{Triples, Terms}
 use Rattle.ttl_meaning.specs.IsReading.{IsReading}
@@ -25,7 +25,8 @@ use Rattle.ttl_read.specs.Sound.{IsJudged, IsSound}
 
 -- ---- behind a derived statement
 
-pub term_judged : (t : Setting) (x y : Place) (r : Reading) (p : Pooled) (start code : ℕ) (fault : TermFault)
+pub term_judged : (t : Setting) (x y : Place) (r : ReaderState) (p : Pooled) (start code : ℕ)
+    (fault : TermFault)
     → IsReading t.bounds y.state r p → Settled t x y → r.fault ≡ Some fault
     → code ≡ code_of_term fault.kind → HasOneCauseAt t x start code fault.at
 term_judged t x y r p start code fault reads settled is number = (
@@ -40,7 +41,7 @@ term_judged t x y r p start code fault reads settled is number = (
   refl,
 )
 
-pub triples_judged : (t : Setting) (x y : Place) (r : Reading) (p : Pooled) (start : ℕ)
+pub triples_judged : (t : Setting) (x y : Place) (r : ReaderState) (p : Pooled) (start : ℕ)
     → IsReading t.bounds y.state r p → Settled t x y → r.fault ≡ None → r.stated.excess ≡ Some Triples
     → HasOneCauseAt t x start 8 start
 triples_judged t x y r p start reads settled none many =
@@ -49,7 +50,7 @@ triples_judged t x y r p start reads settled none many =
     (reads.keeps free).stated.within in
     (TooManyTriples, one_cause t x y TooManyTriples settled (y, settled.derived, free, within.1), refl, refl)
 
-pub terms_judged : (t : Setting) (x y : Place) (r : Reading) (p : Pooled) (start : ℕ)
+pub terms_judged : (t : Setting) (x y : Place) (r : ReaderState) (p : Pooled) (start : ℕ)
     → IsReading t.bounds y.state r p → Settled t x y → r.fault ≡ None → r.stated.excess ≡ Some Terms
     → HasOneCauseAt t x start 9 start
 terms_judged t x y r p start reads settled none many =
@@ -63,7 +64,7 @@ terms_judged t x y r p start reads settled none many =
     )
 
 -- no fault and no limit passed
-pub sound_judged : (t : Setting) (x y : Place) (r : Reading) (p : Pooled) → IsReading t.bounds y.state r p
+pub sound_judged : (t : Setting) (x y : Place) (r : ReaderState) (p : Pooled) → IsReading t.bounds y.state r p
     → Settled t x y → r.fault ≡ None → r.stated.excess ≡ None → length p.terms ≤ p.limit → One t x y
 sound_judged t x y r p reads settled none fits within =
     let free : y.state.fault ≡ None = sym reads.fault ∙ none in

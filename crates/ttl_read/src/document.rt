@@ -12,7 +12,7 @@ use crate::statements::statements;
 use shx_term::{IriText, Limits, Pool, Scope};
 use std::alloc::Global;
 use std::str;
-use ttl_meaning::{Document, Reading};
+use ttl_meaning::{Document, ReaderState};
 
 /// What a text of Turtle states (Turtle 1.1). Its terms are entered into the pool, which after a refusal may
 /// hold more of them. Beside the check of UTF-8 and the undoing of escapes, each token is read twice: it
@@ -66,7 +66,7 @@ fn read_text(
     // A pool never holds more terms than its limit.
     let _ = pool.len();
     let tokens = Tokens::at(text, first_byte(text));
-    let reading = Reading::new(alloc, scope, base, limits.triples, pool)?;
+    let reading = ReaderState::new(alloc, scope, base, limits.triples, pool)?;
     let mut reader = Reader { tokens, reading };
     statements(text, limits, &mut reader, pool)?;
     let Reader { reading, .. } = reader;

@@ -1,4 +1,8 @@
+ghost use Rattle.std.specs.Prelude.{◌≡◌};
+ghost use Rattle.ttl_read.specs.Documents.{code_of_term};
+
 use std::alloc::AllocError;
+use ttl_meaning::TermFaultKind;
 
 /// Why a text is no document, or a token no term.
 #[derive(Clone, Copy, Debug, PartialEq, Eq)]
@@ -14,6 +18,7 @@ pub enum TtlFault {
     /// | 5, 6 | `FloatLiteral` and `WideValue`, where the literal begins |
     /// | 7 | `TooDeep`, at the bracket that opens one too many |
     /// | 8, 9 | `TooManyTriples` and `TooManyTerms`, at the start of the statement |
+    /// | 57 | `UnknownBlankNode`, at the label; of a term alone |
     At { code: u32, at: u64 },
     Memory,
 }
@@ -26,5 +31,17 @@ impl From<AllocError> for TtlFault {
 
     fn from(_: AllocError) -> Self {
         TtlFault::Memory
+    }
+}
+
+// The code of the fault of a term.
+pub(crate) fn code_of(kind: TermFaultKind) -> u32
+    ensures { result ≡ code_of_term kind }
+{
+    match kind {
+        TermFaultKind::UnknownPrefix => 3,
+        TermFaultKind::BadIri => 4,
+        TermFaultKind::FloatLiteral => 5,
+        TermFaultKind::WideValue => 6,
     }
 }

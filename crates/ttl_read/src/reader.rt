@@ -5,7 +5,7 @@ ghost use Rattle.ttl_read.specs.Reads.{Stands, next_if, start_of_next};
 
 use crate::marks::{is_close_round, is_comma, is_semicolon, is_verb};
 use std::alloc::AllocError;
-use ttl_meaning::Reading;
+use ttl_meaning::ReaderState;
 use ttl_tokens::{Lookahead, NoToken, Token, next_token_after};
 
 /// Why nothing was read.
@@ -28,7 +28,7 @@ pub struct Tokens {
 #[derive(Drop)]
 pub struct Reader {
     pub(crate) tokens: Tokens,
-    pub(crate) reading: Reading,
+    pub(crate) reading: ReaderState,
 }
 
 impl Tokens {

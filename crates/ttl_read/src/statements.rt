@@ -2,16 +2,16 @@
 ghost use Rattle.std.specs.Prelude.{◌≡◌, List, MatchOption, OnOk};
 ghost use Rattle.shx_term.specs.declared.term.Term.{Term as term};
 ghost use Rattle.ttl_read.specs.Depth.{IsNotTooDeep, IsTooDeep};
-ghost use Rattle.ttl_read.specs.Documents.{code_of_term, setting};
+ghost use Rattle.ttl_read.specs.Documents.{setting};
 ghost use Rattle.ttl_read.specs.Reads.{Advances, Stands};
 ghost use Rattle.ttl_read.specs.Sound.{Concludes, IsJudged, IsSound, is_end_next};
 
 use crate::depth::too_deep;
-use crate::fault::TtlFault;
+use crate::fault::{TtlFault, code_of};
 use crate::reader::{Reader, Refused};
 use crate::statement::statement;
 use shx_term::{Limits, Pool};
-use ttl_meaning::{Excess, TermFaultKind};
+use ttl_meaning::Excess;
 use ttl_tokens::TokenKind;
 
 // All statements up to the end of the text.
@@ -104,16 +104,5 @@ fn judge(reader: &Reader, pool: &Pool, start: usize) -> Result<(), TtlFault>
             code: 9,
             at: start as u64,
         }),
-    }
-}
-
-fn code_of(kind: TermFaultKind) -> u32
-    ensures { result ≡ code_of_term kind }
-{
-    match kind {
-        TermFaultKind::UnknownPrefix => 3,
-        TermFaultKind::BadIri => 4,
-        TermFaultKind::FloatLiteral => 5,
-        TermFaultKind::WideValue => 6,
     }
 }

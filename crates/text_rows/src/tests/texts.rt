@@ -1,7 +1,7 @@
 use shx_outside::{Bytes, Inputs, MemoryInputs, Name, NamedText, Role};
 use std::alloc::{AllocError, Global};
 use std::test::Fail;
-use text_input::{Line, ReadFault, ScriptReader, read_text, split_line};
+use text_input::{Line, ReadFault, ScriptReader, read_text};
 
 /// A script with `~` for a line feed; the most bytes of the script and of a line; the number of the call that
 /// fails, from the opening on; and what five calls give: a line before `;`, `!` for one that is too long, `.`
@@ -149,19 +149,6 @@ fn first_other_text(alloc: Global) -> Result<&'static str, Fail> {
 fn texts_are_read_within_their_limit(rt: HostRuntime) -> Result<(), Fail> {
     assert_eq!(rt; first_other_text(rt.alloc())?, "");
     Ok(())
-}
-
-// Whether a text has this first line, and this behind it.
-fn splits(text: &[u8], first: &[u8], rest: &[u8]) -> bool {
-    let (line, behind) = split_line(text);
-    line == first && behind == rest
-}
-
-#[test]
-fn a_text_is_split_at_its_first_line_feed(rt: HostRuntime) {
-    assert!(rt; splits(b"a\nb\nc", b"a", b"b\nc"));
-    assert!(rt; splits(b"\n", b"", b""));
-    assert!(rt; splits(b"abc", b"abc", b""));
 }
 
 #[test]

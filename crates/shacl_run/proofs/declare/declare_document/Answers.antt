@@ -1,6 +1,6 @@
 use Rattle.std.proofs.Common.{◌≡◌, None, Some, ap, ◌∙◌, subst}
 use Rattle.graph_view.specs.Graph.{graph_of}
-use Rattle.graph_view.specs.ListGraph.{plain_graph}
+use Rattle.graph_view.specs.ListGraph.{PlainGraph, plain_graph}
 use Rattle.graph_view.specs.SameGraph.{SameGraph}
 use Rattle.graph_view.proofs.SameGraphLemmas.{HoldsSame-sym, HoldsSame-then, first_places_same}
 use Rattle.shacl_run.proofs.SameReportLemmas.{declared_by-same}
@@ -14,8 +14,8 @@ pub returns-in-Some-clause-declared : goal.returns-in-Some-clause-declared
 returns-in-Some-clause-declared c =
     let graph = plain_graph c.load.new.graph in
     let triples = c.args.triples.now in
-    let new : c.new-graph.result.pool.terms ≡ c.args.pool.terms =
-    ap (λ made. made.pool.terms) c.new-graph.ensures in
+    let new : c.in_ok-graph.graph.pool.terms ≡ c.args.pool.terms =
+    ap (λ (made : PlainGraph). made.pool.terms) c.in_ok-graph.ensures in
     let terms : c.into_pool-pool.result.terms ≡ c.args.pool.terms =
     ap (λ pool. pool.terms) c.into_pool-pool.ensures ∙ c.load.ensures.terms ∙ new in
     let stored : SameGraph (graph_of c.args.pool.terms triples) graph =
@@ -28,8 +28,8 @@ pub returns-in-None-clause-declared : goal.returns-in-None-clause-declared
 returns-in-None-clause-declared c =
     let graph = plain_graph c.load.new.graph in
     let triples = c.args.triples.now in
-    let new : c.new-graph.result.pool.terms ≡ c.args.pool.terms =
-    ap (λ made. made.pool.terms) c.new-graph.ensures in
+    let new : c.in_ok-graph.graph.pool.terms ≡ c.args.pool.terms =
+    ap (λ (made : PlainGraph). made.pool.terms) c.in_ok-graph.ensures in
     let stored : SameGraph (graph_of c.args.pool.terms triples) graph =
     subst (λ ts. SameGraph (graph_of ts triples) graph) new c.in_ok-load.ensures.loaded in
     declared_by-same c.args.pool.terms triples graph None stored (rw c.in-None.is at c.in_ok-found.ensures)

@@ -1,0 +1,4 @@
+mod declarations;
+mod lists;
+mod made;
+mod paths;

@@ -1,0 +1,193 @@
+mod predicates;
+mod rows;
+
+use super::made::{cut, graph};
+use super::paths::spelled;
+use graph_view::{GraphView, ListGraph};
+use shape_decl::{Declared, ListValue, ShapeDecl, collect, shapes_are_listed, sparql_count};
+use shx_term::vocabulary::vocabulary_rows;
+use shx_term::{Id, Limits, LocalName, Memory, Pool, Term};
+use std::alloc::Global;
+use std::test::Fail;
+
+// The part of an IRI behind its `#`; the IRIs of rows have none.
+fn local_name(iri: &str) -> &str {
+    match iri.rsplit_once('#') {
+        Some((_, name)) => name,
+        None => iri,
+    }
+}
+
+// What rows call a term.
+fn add_name(pool: &Pool, id: Id, out: &mut String) -> Result<(), Memory> {
+    if id >= pool.len() {
+        return Ok(out.push_str("no term")?);
+    }
+    match pool.term(id) {
+        Term::Iri(iri) => Ok(out.push_str(local_name(iri.as_str()))?),
+        Term::Blank(blank) => add_label(&blank.name, out),
+        Term::Lit(literal) => {
+            out.push_str("'")?;
+            Ok(out.push_str(literal.lexical.as_str())?)
+        }
+    }
+}
+
+fn add_label(name: &LocalName, out: &mut String) -> Result<(), Memory> {
+    match name {
+        LocalName::Labelled(label) => {
+            out.push_str("_")?;
+            Ok(out.push_str(label.as_str())?)
+        }
+        LocalName::Anonymous(_) => Ok(out.push_str("no label")?),
+    }
+}
+
+fn add_values(pool: &Pool, declared: &Declared, out: &mut String) -> Result<(), Memory> {
+    out.push_str(" | ")?;
+    add_name(pool, declared.predicate, out)?;
+    for value in &declared.values {
+        out.push_str(" ")?;
+        add_name(pool, *value, out)?;
+    }
+    Ok(())
+}
+
+fn add_list(pool: &Pool, list: &ListValue, out: &mut String) -> Result<(), Memory> {
+    out.push_str(" | list ")?;
+    add_name(pool, list.head, out)?;
+    match &list.members {
+        None => Ok(out.push_str(" none")?),
+        Some(members) => add_members(pool, members, out),
+    }
+}
+
+fn add_members(pool: &Pool, members: &[Id], out: &mut String) -> Result<(), Memory> {
+    out.push_str(" (")?;
+    let mut before = "";
+    for member in members {
+        out.push_str(before)?;
+        add_name(pool, *member, out)?;
+        before = " ";
+    }
+    Ok(out.push_str(")")?)
+}
+
+// A declaration as a line: the shape, which class it is an instance of, the values of its predicates, its
+// lists, and the reading of its path.
+fn add_declaration(
+    alloc: Global,
+    pool: &Pool,
+    decl: &ShapeDecl,
+    out: &mut String,
+) -> Result<(), Memory> {
+    add_name(pool, decl.node, out)?;
+    if decl.is_node_shape {
+        out.push_str(" | is NodeShape")?;
+    }
+    if decl.is_class {
+        out.push_str(" | is Class")?;
+    }
+    for declared in &decl.values {
+        add_values(pool, declared, out)?;
+    }
+    for list in &decl.lists {
+        add_list(pool, list, out)?;
+    }
+    if let Some(reading) = &decl.path {
+        out.push_str(" | reads ")?;
+        out.push_str(spelled(alloc, pool, reading)?.as_str())?;
+    }
+    Ok(out.push_str("\n")?)
+}
+
+fn declarations(alloc: Global, graph: &ListGraph) -> Result<String, Memory> {
+    let mut out = String::new(alloc);
+    for decl in &collect(alloc, graph, &Limits::program())? {
+        add_declaration(alloc, graph.pool(), decl, &mut out)?;
+    }
+    Ok(out)
+}
+
+// A row has the statements of a graph, and then a line for each declaration.
+fn is_as_said(alloc: Global, row: &str) -> Result<bool, Fail> {
+    let (text, wanted) = cut(row, '\n');
+    let graph = graph(alloc, text)?;
+    let found = declarations(alloc, &graph)?;
+    Ok(found.as_str().trim_end() == wanted)
+}
+
+fn first_other(alloc: Global, rows: &'static str) -> Result<&'static str, Fail> {
+    for row in rows.split("\n\n") {
+        if !is_as_said(alloc, row)? {
+            return Ok(row);
+        }
+    }
+    Ok("")
+}
+
+#[test]
+fn declared(rt: HostRuntime) -> Result<(), Fail> {
+    assert_eq!(rt; first_other(rt.alloc(), rows::ROWS)?, "");
+    shapes_are_listed();
+    Ok(())
+}
+
+fn names(alloc: Global, graph: &ListGraph) -> Result<String, Memory> {
+    let mut out = String::new(alloc);
+    for decl in &collect(alloc, graph, &Limits::program())? {
+        add_name(graph.pool(), decl.node, &mut out)?;
+        out.push_str(" ")?;
+    }
+    Ok(out)
+}
+
+// Whether the statement `a P b` alone makes those nodes shapes that the row of P names.
+fn are_shapes(alloc: Global, row: &str) -> Result<bool, Fail> {
+    let (predicate, wanted) = cut(row, '=');
+    let text = format!(in alloc; "a {predicate} b")?;
+    let graph = graph(alloc, text.as_str())?;
+    let found = names(alloc, &graph)?;
+    Ok(found.as_str().trim_end() == wanted)
+}
+
+fn first_other_predicate(alloc: Global, rows: &'static str) -> Result<&'static str, Fail> {
+    for row in rows.lines() {
+        if !are_shapes(alloc, row)? {
+            return Ok(row);
+        }
+    }
+    Ok("")
+}
+
+#[test]
+fn shapes_by_one_statement(rt: HostRuntime) -> Result<(), Fail> {
+    assert_eq!(rt; predicates::ROWS.lines().count(), vocabulary_rows().len());
+    assert_eq!(rt; first_other_predicate(rt.alloc(), predicates::ROWS)?, "");
+    Ok(())
+}
+
+// Graphs, each with how often sh:sparql is stated.
+const COUNTS: &str = "\
+a p b = 0
+a sparql b = 1
+a sparql b, a sparql b = 1
+a sparql b, a sparql c, b sparql c = 3
+a sparql b, sparql p c, a node sparql = 1
+";
+
+fn is_counted(alloc: Global, row: &str) -> Result<bool, Fail> {
+    let (text, wanted) = cut(row, '=');
+    let count = sparql_count(alloc, &graph(alloc, text)?)?;
+    Ok(format!(in alloc; "{count}")?.as_str() == wanted)
+}
+
+#[test]
+fn sparql_is_counted(rt: HostRuntime) -> Result<(), Fail> {
+    for row in COUNTS.lines() {
+        if !is_counted(rt.alloc(), row)? {
+            assert_eq!(rt; row, "");
+        }
+    }
+    Ok(())
+}

@@ -1,0 +1,107 @@
+mod iris;
+mod literals;
+mod nodes;
+mod others;
+
+use super::refused::cut;
+use super::seen::text_of;
+use iri_resolve::is_absolute;
+use shx_term::vocabulary::VOCABULARY_LEN;
+use shx_term::{IriText, Limits, Memory, Pool, Scope, spell};
+use std::alloc::{AllocError, Global};
+use std::test::Fail;
+use ttl_read::{Document, Reading, TtlFault, read_document, read_term};
+use ttl_tokens::next_token;
+
+// What is found at the first token of a text behind what another states over the base of the examples in
+// RFC 3986: a term and the byte behind it, or a code and a byte.
+fn outcome(alloc: Global, stated: &str, text: &str) -> Result<String, Memory> {
+    let base = "http://a/b/c/d;p?q";
+    let limits = Limits::program();
+    if !is_absolute(base) || limits.terms < VOCABULARY_LEN {
+        return String::from_str(alloc, "no base, or no room");
+    }
+    let base = IriText::new(String::from_str(alloc, base)?);
+    let mut pool = Pool::with_vocabulary(alloc, limits.terms)?;
+    match read_document(
+        alloc,
+        stated.as_bytes(),
+        &base,
+        Scope::Data,
+        &limits,
+        &mut pool,
+    ) {
+        Ok(document) => found(alloc, &document, text),
+        Err(TtlFault::At { .. }) => String::from_str(alloc, "no document"),
+        Err(TtlFault::Memory) => Err(AllocError),
+    }
+}
+
+fn found(alloc: Global, document: &Document, text: &str) -> Result<String, Memory> {
+    let Ok(token) = next_token(text, 0) else {
+        return String::from_str(alloc, "no token");
+    };
+    match read_term(alloc, text, &token, document) {
+        Ok(reading) => shown(alloc, &reading),
+        Err(TtlFault::At { code, at }) => format!(in alloc; "{code} at {at}"),
+        Err(TtlFault::Memory) => Err(AllocError),
+    }
+}
+
+fn shown(alloc: Global, reading: &Reading) -> Result<String, Memory> {
+    let mut out = Vec::new(alloc);
+    spell(&reading.term, &mut out)?;
+    let end = format!(in alloc; " to {}", reading.end)?;
+    out.extend_from_slice(end.as_bytes())?;
+    match String::from_utf8(out) {
+        Ok(text) => Ok(text),
+        Err(_) => String::from_str(alloc, "no text"),
+    }
+}
+
+// Whether what is found is as the row says: what a text states, the text with the token, and the outcome.
+fn is_found_as_said(alloc: Global, row: &str) -> Result<bool, Memory> {
+    let (texts, wanted) = cut(row);
+    let Some((stated, text)) = texts.split_once('¦') else {
+        return Ok(false);
+    };
+    let stated = text_of(alloc, stated)?;
+    let text = text_of(alloc, text)?;
+    let wanted = text_of(alloc, wanted)?;
+    let found = outcome(alloc, stated.as_str(), text.as_str())?;
+    Ok(found.as_str() == wanted.as_str())
+}
+
+// The first row of which another outcome is found, or none.
+fn first_other(alloc: Global, rows: &'static str) -> Result<&'static str, Memory> {
+    for row in rows.lines() {
+        if !is_found_as_said(alloc, row)? {
+            return Ok(row);
+        }
+    }
+    Ok("")
+}
+
+#[test]
+fn iris_by_base_and_prefix(rt: HostRuntime) -> Result<(), Fail> {
+    assert_eq!(rt; first_other(rt.alloc(), iris::ROWS)?, "");
+    Ok(())
+}
+
+#[test]
+fn nodes_by_their_printed_names(rt: HostRuntime) -> Result<(), Fail> {
+    assert_eq!(rt; first_other(rt.alloc(), nodes::ROWS)?, "");
+    Ok(())
+}
+
+#[test]
+fn literals_with_what_belongs_to_them(rt: HostRuntime) -> Result<(), Fail> {
+    assert_eq!(rt; first_other(rt.alloc(), literals::ROWS)?, "");
+    Ok(())
+}
+
+#[test]
+fn no_term(rt: HostRuntime) -> Result<(), Fail> {
+    assert_eq!(rt; first_other(rt.alloc(), others::ROWS)?, "");
+    Ok(())
+}

@@ -1,0 +1,73 @@
+//! The graphs that are made. Their nodes are numbered behind the vocabulary, and the first is a predicate too.
+use crate::task::Task;
+use graph_view::{GraphEdit, GraphView, ListGraph};
+use shx_term::vocabulary::VOCABULARY_LEN;
+use shx_term::{Id, IriText, Limits, Memory, Pool, Term, Triple};
+use std::alloc::{AllocError, Global};
+use triple_store::Store;
+
+// How many triples stand under one subject, and about how many under one predicate.
+const UNDER_ONE: u32 = 10;
+
+/// The number of a node.
+pub fn node(at: u32) -> Id {
+    at.saturating_add(VOCABULARY_LEN)
+}
+
+/// How many nodes the graph of a task with so many triples has.
+pub fn nodes(task: Task, count: u32) -> u32 {
+    match task {
+        Task::Chain | Task::Star => count.saturating_add(1),
+        _ => (count / UNDER_ONE).saturating_add(UNDER_ONE),
+    }
+}
+
+/// The triple at a place of the graph of a task that has so many nodes.
+pub fn triple_at(task: Task, at: u32, nodes: u32) -> Triple {
+    let nodes = nodes.max(1);
+    let (s, p, o) = match task {
+        Task::Chain => (at, 0, at.saturating_add(1)),
+        Task::Star => (0, 0, at.saturating_add(1)),
+        _ => (at / UNDER_ONE, at % nodes, at.wrapping_mul(7) % nodes),
+    };
+    Triple {
+        s: node(s),
+        p: node(p),
+        o: node(o),
+    }
+}
+
+/// A store with the graph of a task, of so many triples.
+pub fn store_for(alloc: Global, task: Task, count: u32) -> Result<Store, Memory> {
+    let nodes = nodes(task, count);
+    let mut store = empty_store(alloc, nodes)?;
+    for at in 0..count {
+        add(&mut store, triple_at(task, at, nodes))?;
+    }
+    Ok(store)
+}
+
+// A store without triples over so many nodes.
+fn empty_store(alloc: Global, nodes: u32) -> Result<Store, Memory> {
+    let limits = Limits::program();
+    let mut pool = Pool::with_vocabulary(alloc, limits.terms)?;
+    for at in 0..nodes {
+        let name = format!(in alloc; "http://e/{}", at)?;
+        if pool.enter(&Term::Iri(IriText::new(name))).is_err() {
+            return Err(AllocError);
+        }
+    }
+    Store::from_list(alloc, ListGraph::new(alloc, pool, limits.triples))
+}
+
+// Adds a triple whose numbers have terms.
+fn add<E: GraphEdit>(graph: &mut E, triple: Triple) -> Result<(), Memory> {
+    let terms = graph.pool().len();
+    if triple.s >= terms || triple.p >= terms || triple.o >= terms {
+        return Ok(());
+    }
+    match graph.insert(triple) {
+        Ok(_) => Ok(()),
+        Err(_) => Err(AllocError),
+    }
+}

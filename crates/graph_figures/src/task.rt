@@ -1,0 +1,29 @@
+/// What is done over a graph.
+#[derive(Clone, Copy, Debug, PartialEq, Eq)]
+pub enum Task {
+    Contains,
+    Objects,
+    Subjects,
+    TriplesOf,
+    TriplesWith,
+    /// A path is followed along a chain, none or more times.
+    Chain,
+    /// A path is followed to all points of a star.
+    Star,
+}
+
+impl Task {
+    /// The task of this name.
+    pub fn named(name: &str) -> Option<Task> {
+        match name {
+            "contains" => Some(Task::Contains),
+            "objects" => Some(Task::Objects),
+            "subjects" => Some(Task::Subjects),
+            "triples_of" => Some(Task::TriplesOf),
+            "triples_with" => Some(Task::TriplesWith),
+            "chain" => Some(Task::Chain),
+            "star" => Some(Task::Star),
+            _ => None,
+        }
+    }
+}

@@ -1,0 +1,32 @@
+use super::task::Task;
+use super::work::line_of;
+use std::alloc::Global;
+use std::test::Fail;
+
+// Of a thousand triples over 110 nodes ten have one subject; nine have one predicate, and ten one of the
+// first ten predicates, and those have one object too.
+#[test]
+fn each_task_finds_what_it_looks_for(rt: HostRuntime) -> Result<(), Fail> {
+    let cases = "contains 30 triples 1000 found 30
+objects 30 triples 1000 found 30
+subjects 30 triples 1000 found 273
+triples_of 30 triples 1000 found 300
+triples_with 30 triples 1000 found 273
+chain 1 triples 1000 found 1001
+star 1 triples 1000 found 1001";
+    for case in cases.lines() {
+        assert!(rt; finds(rt.alloc(), case)?);
+    }
+    Ok(())
+}
+
+fn finds(alloc: Global, case: &str) -> Result<bool, Fail> {
+    let (Some((name, case)), Some(times)) = (case.split_once(' '), case.split(' ').nth(1)) else {
+        return Ok(false);
+    };
+    let (Some(task), Some((_, wanted))) = (Task::named(name), case.split_once(' ')) else {
+        return Ok(false);
+    };
+    let line = line_of(alloc, task, 1000, times.parse::<u32>()?)?;
+    Ok(line.as_bytes() == wanted.as_bytes())
+}

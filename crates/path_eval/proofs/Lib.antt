@@ -1,0 +1,12 @@
+pub mod AgreementLemmas
+pub mod ChainLemmas
+pub mod FlatMapLemmas
+pub mod FollowLemmas
+pub mod MeetsLemmas
+pub mod NodesLemmas
+pub mod PartLemmas
+pub mod PathReadsLemmas
+pub mod RouteLemmas
+pub mod SameLemmas
+pub mod ThroughLemmas
+pub mod WalkLemmas

@@ -1,0 +1,56 @@
+-- What a sequence and an alternative say, by the lists of their parts.
+use Rattle.std.specs.Prelude.{◌≡◌, List, map}
+use Rattle.std.proofs.Common.{Vec, Global, refl, sym, ap, ◌∙◌}
+use mathlib.Core.Former.{Count}
+use Rattle.graph_view.specs.Graph.{Graph}
+use Rattle.path_eval.specs.declared.direction.Direction.{Direction}
+use Rattle.path_eval.specs.declared.path.Path.{Path, Row_of-Path, end_of-Path, more_of-Path, Seq', Alt'}
+use Rattle.path_eval.specs.declared.path.Path.{items-the_row-Path, items_hidden-the_row-Path-0}
+use Rattle.path_eval.specs.declared.path.Path.TheViews.{Seq, Alt}
+use Rattle.path_eval.specs.Route.{Route, first_then, one_or_other, sequence, alternative}
+use Rattle.path_eval.specs.Route.{route_of, in_sequence, among}
+use Rattle.path_eval.specs.Way.{way}
+
+abbrev row_of : Path → (n : Count) × Row_of-Path n
+row_of (Seq' _ row) = (_, row)
+row_of (Alt' _ row) = (_, row)
+row_of _ = (_, end_of-Path)
+
+sequence_items : (n : _) (row : Row_of-Path n)
+    → in_sequence row ≡ sequence (map route_of (items-the_row-Path n row))
+sequence_items n end_of-Path = refl
+sequence_items n (more_of-Path p rest) = ap (first_then (route_of p)) (sequence_items _ rest)
+
+alternative_items : (n : _) (row : Row_of-Path n)
+    → among row ≡ alternative (map route_of (items-the_row-Path n row))
+alternative_items n end_of-Path = refl
+alternative_items n (more_of-Path p rest) = ap (one_or_other (route_of p)) (alternative_items _ rest)
+
+pub route_Seq : (parts : Vec Path Global) → route_of (Seq parts) ≡ sequence (map route_of parts.items)
+route_Seq parts =
+    let row = row_of (Seq parts) in
+    sequence_items row.0 row.1
+    ∙ ap (λ paths. sequence (map route_of paths)) (items_hidden-the_row-Path-0 parts)
+
+pub route_Alt : (members : Vec Path Global)
+    → route_of (Alt members) ≡ alternative (map route_of members.items)
+route_Alt members =
+    let row = row_of (Alt members) in
+    alternative_items row.0 row.1
+    ∙ ap (λ paths. alternative (map route_of paths)) (items_hidden-the_row-Path-0 members)
+
+-- so a sequence that was matched goes the way of its parts
+pub way_Seq : (g : Graph) (d known : Direction) (p : Path) (parts : Vec Path Global) (items : List Path)
+    → p ≡ Seq parts → d ≡ known → items ≡ parts.items
+    → way g d (route_of p) ≡ way g known (sequence (map route_of items))
+way_Seq g d known p parts items is same held =
+    ap (λ q. way g d (route_of q)) is ∙ ap (λ e. way g e (route_of (Seq parts))) same
+    ∙ ap (way g known) (route_Seq parts)
+    ∙ ap (λ paths. way g known (sequence (map route_of paths))) (sym held)
+
+pub way_Alt : (g : Graph) (d : Direction) (p : Path) (members : Vec Path Global) (items : List Path)
+    → p ≡ Alt members → items ≡ members.items
+    → way g d (route_of p) ≡ way g d (alternative (map route_of items))
+way_Alt g d p members items is held =
+    ap (λ q. way g d (route_of q)) is ∙ ap (way g d) (route_Alt members)
+    ∙ ap (λ paths. way g d (alternative (map route_of paths))) (sym held)

@@ -1,0 +1,45 @@
+-- What a path says (SHACL, section 2.3.1), without the places in memory at which its parts stand.
+use Rattle.std.specs.Prelude.{ℕ, List, [], ◌∷◌}
+use Rattle.path_eval.specs.declared.path.Path.{Path, Row_of-Path, end_of-Path, more_of-Path}
+use Rattle.path_eval.specs.declared.path.Path.{Pred, Seq', Alt', Inverse', ZeroOrMore', OneOrMore'}
+use Rattle.path_eval.specs.declared.path.Path.{ZeroOrOne'}
+
+pub data Route : Type 0 where
+  -- from the subject of a triple with this predicate to its object
+  along : ℕ → Route
+  here : Route
+  first_then : Route → Route → Route
+  none : Route
+  one_or_other : Route → Route → Route
+  turned : Route → Route
+  any_times : Route → Route
+  some_times : Route → Route
+  perhaps : Route → Route
+
+-- one part after the other; any one of the members
+abbrev pub sequence : List Route → Route
+sequence [] = here
+sequence (r ∷ rs) = first_then r (sequence rs)
+
+abbrev pub alternative : List Route → Route
+alternative [] = none
+alternative (r ∷ rs) = one_or_other r (alternative rs)
+
+abbrev mutual
+  pub route_of : Path → Route
+  route_of (Pred p) = along p
+  route_of (Seq' shape parts) = in_sequence parts
+  route_of (Alt' shape members) = among members
+  route_of (Inverse' box p) = turned (route_of p)
+  route_of (ZeroOrMore' box p) = any_times (route_of p)
+  route_of (OneOrMore' box p) = some_times (route_of p)
+  route_of (ZeroOrOne' box p) = perhaps (route_of p)
+
+  -- of the parts as they stand in a vector
+  pub in_sequence : {m : _} → Row_of-Path m → Route
+  in_sequence end_of-Path = here
+  in_sequence (more_of-Path p parts) = first_then (route_of p) (in_sequence parts)
+
+  pub among : {m : _} → Row_of-Path m → Route
+  among end_of-Path = none
+  among (more_of-Path p members) = one_or_other (route_of p) (among members)

@@ -1,0 +1,4 @@
+mod graphs;
+mod paths;
+mod rows;
+mod values;

@@ -1,0 +1,10 @@
+pub mod CountLemmas
+pub mod FollowsLemmas
+pub mod InstanceLemmas
+pub mod ListLemmas
+pub mod ObjectLemmas
+pub mod PathReadingLemmas
+pub mod RouteReadLemmas
+pub mod ShapeLemmas
+pub mod ValuesLemmas
+pub mod VisitLemmas

@@ -1,0 +1,44 @@
+//! The declarations of a graph.
+ghost use Rattle.std.specs.Prelude.{◌≡◌, length, map, IfOk};
+ghost use Rattle.shx_term.specs.declared.vocabulary.TheConstants.{SH_SPARQL};
+ghost use Rattle.graph_view.specs.declared.key.Key.TheVariants.{Predicate};
+ghost use Rattle.graph_view.specs.Key.{look};
+ghost use Rattle.shape_decl.specs.Declarations.{declarations, told_decl};
+
+use crate::ShapeDecl;
+use crate::declaring::declare;
+use crate::shapes::find_shapes;
+use graph_view::{GraphView, Reads};
+use path_eval::instance_path;
+use shx_term::vocabulary::SH_SPARQL;
+use shx_term::{Limits, Memory};
+use std::alloc::Global;
+
+/// Each shape of a graph once, in term order, with what the graph states of it. It asks the graph by
+/// predicate and by subject, and takes time in proportion to the triples of shapes, where look-ups do.
+#[tactic(auto, unfolding(crate::specs::Declarations::declarations))]
+pub fn collect<V: GraphView>(
+    alloc: Global,
+    graph: &V,
+    limits: &Limits,
+) -> Result<Vec<ShapeDecl>, Memory>
+    ensures { IfOk result (λ decls.
+        map told_decl decls.items ≡ declarations limits.now (V.graph graph.now)) }
+{
+    let to_classes = instance_path(alloc)?;
+    let mut decls = Vec::new(alloc);
+    for node in &find_shapes(alloc, graph)? {
+        decls.push(declare(alloc, graph, &to_classes, limits, *node)?)?;
+    }
+    Ok(decls)
+}
+
+/// How many triples have the predicate `sh:sparql`.
+pub fn sparql_count<V: GraphView>(alloc: Global, graph: &V) -> Result<u64, Memory>
+    ensures { IfOk result (λ count.
+        count ≡ length (look (V.graph graph.now).triples (Predicate SH_SPARQL))) }
+{
+    let triples = graph.triples_with(alloc, SH_SPARQL, &mut Reads::new(alloc))?;
+    let _ = graph.len();
+    Ok(triples.len() as u64)
+}

@@ -1,0 +1,152 @@
+//! What a graph states of a shape.
+ghost use Rattle.std.specs.Prelude.{◌≡◌, ◌++◌, [], map, flat_map, IfOk, OnOk};
+ghost use Rattle.std.specs.Option.{option_map};
+ghost use Rattle.graph_view.specs.Graph.{objects_of, triples_of};
+ghost use Rattle.graph_view.specs.Key.{look};
+ghost use Rattle.path_eval.specs.Instances.{instance_route};
+ghost use Rattle.path_eval.specs.Route.{route_of};
+ghost use Rattle.shape_decl.specs.PathReadings.{told_reading};
+ghost use Rattle.shape_decl.specs.Declarations.{declaration_of, told_decl, told_values, told_list};
+ghost use Rattle.shape_decl.specs.Declarations.{list_reading, lists_of, path_of, unless_empty, values_of};
+
+use crate::tables::list_predicates;
+use crate::{Declared, ListValue, PathReading, ShapeDecl, read_list, read_path};
+use graph_view::{GraphView, Key, Reads, touches};
+use path_eval::{Path, values};
+use shx_term::vocabulary::{RDFS_CLASS, SH_NODE_SHAPE, SH_PATH, VOCABULARY_LEN};
+use shx_term::{Id, Limits, Memory, Triple};
+use std::alloc::Global;
+
+/// What a graph states of a node, where `to_classes` is the path to the classes of a node. It asks the
+/// graph once for the triples of the node, and goes over them once for each predicate of the vocabulary.
+pub(crate) fn declare<V: GraphView>(
+    alloc: Global,
+    graph: &V,
+    to_classes: &Path,
+    limits: &Limits,
+    node: Id,
+) -> Result<ShapeDecl, Memory>
+    requires { route_of to_classes.now ≡ instance_route }
+    ensures { IfOk result (λ decl.
+        told_decl decl ≡ declaration_of limits.now (V.graph graph.now) node) }
+{
+    let mut reads = Reads::new(alloc);
+    let triples = graph.triples_of(alloc, node, &mut reads)?;
+    let classes = values(alloc, graph, to_classes, node, &mut reads)?;
+    Ok(ShapeDecl {
+        node,
+        is_node_shape: classes.contains(&SH_NODE_SHAPE),
+        is_class: classes.contains(&RDFS_CLASS),
+        values: declared_values(alloc, graph, node, &triples)?,
+        lists: declared_lists(alloc, graph, node, &triples)?,
+        path: declared_path(alloc, graph, node, &triples, limits)?,
+    })
+}
+
+// The values of a predicate at a node, found among the triples of the node.
+fn values_among<V: GraphView>(
+    alloc: Global,
+    graph: &V,
+    node: Id,
+    triples: &[Triple],
+    p: Id,
+) -> Result<Vec<Id>, Memory>
+    requires { triples.now ≡ triples_of (V.graph graph.now) node }
+    ensures { IfOk result (λ found. found.items ≡ objects_of (V.graph graph.now) node p) }
+{
+    let found = objects_among(alloc, triples, &Key::Out(node, p))?;
+    Ok(graph.pool().in_order(found))
+}
+
+fn objects_among(alloc: Global, triples: &[Triple], key: &Key) -> Result<Vec<Id>, Memory>
+    ensures { IfOk result (λ found. found.items ≡ map (λ t. t.o) (look triples.now key.now)) }
+{
+    triples
+        .iter()
+        .filter(|t| touches(t, key))
+        .map(|t| t.o)
+        .collect(alloc)
+}
+
+fn declared_values<V: GraphView>(
+    alloc: Global,
+    graph: &V,
+    node: Id,
+    triples: &[Triple],
+) -> Result<Vec<Declared>, Memory>
+    requires { triples.now ≡ triples_of (V.graph graph.now) node }
+    ensures { IfOk result (λ found. map told_values found.items ≡ values_of (V.graph graph.now) node) }
+{
+    let mut found = Vec::new(alloc);
+    for predicate in 0..VOCABULARY_LEN {
+        let values = values_among(alloc, graph, node, triples, predicate)?;
+        add_values(predicate, values, &mut found)?;
+    }
+    Ok(found)
+}
+
+fn add_values(predicate: Id, values: Vec<Id>, found: &mut Vec<Declared>) -> Result<(), Memory>
+    ensures { OnOk result (map told_values found.new.items
+        ≡ map told_values found.old.items ++ unless_empty predicate values.items) }
+{
+    if !values.is_empty() {
+        found.push(Declared { predicate, values })?;
+    }
+    Ok(())
+}
+
+#[tactic(auto, unfolding(crate::specs::Declarations::lists_of))]
+fn declared_lists<V: GraphView>(
+    alloc: Global,
+    graph: &V,
+    node: Id,
+    triples: &[Triple],
+) -> Result<Vec<ListValue>, Memory>
+    requires { triples.now ≡ triples_of (V.graph graph.now) node }
+    ensures { IfOk result (λ found. map told_list found.items ≡ lists_of (V.graph graph.now) node) }
+{
+    let mut found = Vec::new(alloc);
+    for p in list_predicates() {
+        let heads = values_among(alloc, graph, node, triples, *p)?;
+        add_lists(alloc, graph, &heads, &mut found)?;
+    }
+    Ok(found)
+}
+
+fn add_lists<V: GraphView>(
+    alloc: Global,
+    graph: &V,
+    heads: &[Id],
+    found: &mut Vec<ListValue>,
+) -> Result<(), Memory>
+    ensures { OnOk result (map told_list found.new.items
+        ≡ map told_list found.old.items ++ map (list_reading (V.graph graph.now)) heads.now) }
+{
+    for head in heads {
+        let members = read_list(alloc, graph, *head)?;
+        found.push(ListValue {
+            head: *head,
+            members,
+        })?;
+    }
+    Ok(())
+}
+
+#[tactic(auto, unfolding(crate::specs::Declarations::path_of))]
+fn declared_path<V: GraphView>(
+    alloc: Global,
+    graph: &V,
+    node: Id,
+    triples: &[Triple],
+    limits: &Limits,
+) -> Result<Option<PathReading>, Memory>
+    requires { triples.now ≡ triples_of (V.graph graph.now) node }
+    ensures { IfOk result (λ path.
+        option_map told_reading path ≡ path_of limits.now (V.graph graph.now) node) }
+{
+    let heads = values_among(alloc, graph, node, triples, SH_PATH)?;
+    match heads.first() {
+        None => Ok(None),
+        Some(head) => Ok(Some(read_path(alloc, graph, *head, limits)?)),
+    }
+}

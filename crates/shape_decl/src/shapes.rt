@@ -1,0 +1,163 @@
+//! Which nodes are shapes (SHACL, section 2).
+ghost use Rattle.std.specs.Prelude.{◌≡◌, ◌++◌, map, flat_map, filter, IfOk, OnOk};
+ghost use Rattle.shx_term.specs.declared.triple.Triple.{Triple};
+ghost use Rattle.graph_view.specs.Graph.{triples_with};
+ghost use Rattle.path_eval.specs.declared.direction.Direction.{Direction};
+ghost use Rattle.path_eval.specs.Instances.{instance_route};
+ghost use Rattle.path_eval.specs.Route.{Route, route_of};
+ghost use Rattle.path_eval.specs.Values.{nodes_reached};
+ghost use Rattle.shape_decl.specs.Lists.{list_of};
+ghost use Rattle.shape_decl.specs.Shapes.{is_node, members_or_none, members_with, objects_with, shape_nodes};
+ghost use Rattle.shape_decl.specs.Shapes.{candidates, subjects_with};
+
+use crate::read_list;
+use crate::tables::{shape_classes, shape_list_predicates, shape_predicates, subject_predicates};
+use graph_view::{GraphView, Reads};
+use path_eval::{Path, instance_path, values};
+use shx_term::{Id, Memory, Pool, Term, Triple};
+use std::alloc::Global;
+
+/// The shapes of a graph in term order, each once. It asks the graph by predicate, and follows the path of
+/// instances back from the two classes of shapes.
+#[tactic(auto, unfolding(crate::specs::Shapes::shape_nodes))]
+pub(crate) fn find_shapes<V: GraphView>(alloc: Global, graph: &V) -> Result<Vec<Id>, Memory>
+    ensures { IfOk result (λ nodes. nodes.items ≡ shape_nodes (V.graph graph.now)) }
+{
+    let mut found = gather(alloc, graph)?;
+    keep_nodes(graph.pool(), &mut found);
+    Ok(graph.pool().in_order(found))
+}
+
+// All that may be a shape, literals among them, with repeats.
+fn gather<V: GraphView>(alloc: Global, graph: &V) -> Result<Vec<Id>, Memory>
+    ensures { IfOk result (λ found. found.items ≡ candidates (V.graph graph.now)) }
+{
+    let mut found = Vec::new(alloc);
+    let instances = Path::Inverse(Box::new(alloc, instance_path(alloc)?)?);
+    gather_instances(alloc, graph, &instances, shape_classes(), &mut found)?;
+    gather_subjects(alloc, graph, subject_predicates(), &mut found)?;
+    gather_objects(alloc, graph, shape_predicates(), &mut found)?;
+    gather_members(alloc, graph, shape_list_predicates(), &mut found)?;
+    Ok(found)
+}
+
+fn gather_instances<V: GraphView>(
+    alloc: Global,
+    graph: &V,
+    instances: &Path,
+    classes: &[Id],
+    found: &mut Vec<Id>,
+) -> Result<(), Memory>
+    requires { route_of instances.now ≡ Route.turned instance_route }
+    ensures { OnOk result (found.new.items ≡ found.old.items
+        ++ flat_map (nodes_reached (V.graph graph.now) Direction.Backward instance_route) classes.now) }
+{
+    for class in classes {
+        let nodes = values(alloc, graph, instances, *class, &mut Reads::new(alloc))?;
+        found.extend_from_slice(&nodes)?;
+    }
+    Ok(())
+}
+
+fn gather_subjects<V: GraphView>(
+    alloc: Global,
+    graph: &V,
+    predicates: &[Id],
+    found: &mut Vec<Id>,
+) -> Result<(), Memory>
+    ensures { OnOk result (found.new.items
+        ≡ found.old.items ++ flat_map (subjects_with (V.graph graph.now)) predicates.now) }
+{
+    for p in predicates {
+        let triples = graph.triples_with(alloc, *p, &mut Reads::new(alloc))?;
+        add_subjects(&triples, found)?;
+    }
+    Ok(())
+}
+
+fn add_subjects(triples: &[Triple], found: &mut Vec<Id>) -> Result<(), Memory>
+    ensures { OnOk result (found.new.items ≡ found.old.items ++ map (λ t. t.s) triples.now) }
+{
+    for t in triples {
+        found.push(t.s)?;
+    }
+    Ok(())
+}
+
+fn gather_objects<V: GraphView>(
+    alloc: Global,
+    graph: &V,
+    predicates: &[Id],
+    found: &mut Vec<Id>,
+) -> Result<(), Memory>
+    ensures { OnOk result (found.new.items
+        ≡ found.old.items ++ flat_map (objects_with (V.graph graph.now)) predicates.now) }
+{
+    for p in predicates {
+        let triples = graph.triples_with(alloc, *p, &mut Reads::new(alloc))?;
+        add_objects(&triples, found)?;
+    }
+    Ok(())
+}
+
+fn add_objects(triples: &[Triple], found: &mut Vec<Id>) -> Result<(), Memory>
+    ensures { OnOk result (found.new.items ≡ found.old.items ++ map (λ t. t.o) triples.now) }
+{
+    for t in triples {
+        found.push(t.o)?;
+    }
+    Ok(())
+}
+
+fn gather_members<V: GraphView>(
+    alloc: Global,
+    graph: &V,
+    predicates: &[Id],
+    found: &mut Vec<Id>,
+) -> Result<(), Memory>
+    ensures { OnOk result (found.new.items
+        ≡ found.old.items ++ flat_map (members_with (V.graph graph.now)) predicates.now) }
+{
+    for p in predicates {
+        let triples = graph.triples_with(alloc, *p, &mut Reads::new(alloc))?;
+        add_members(alloc, graph, &triples, found)?;
+    }
+    Ok(())
+}
+
+// A value that is no list has no members.
+fn add_members<V: GraphView>(
+    alloc: Global,
+    graph: &V,
+    triples: &[Triple],
+    found: &mut Vec<Id>,
+) -> Result<(), Memory>
+    ensures { OnOk result (found.new.items ≡ found.old.items
+        ++ flat_map (λ t. members_or_none (list_of (V.graph graph.now) t.o)) triples.now) }
+{
+    for t in triples {
+        if let Some(members) = read_list(alloc, graph, t.o)? {
+            found.extend_from_slice(&members)?;
+        }
+    }
+    Ok(())
+}
+
+fn keep_nodes(pool: &Pool, found: &mut Vec<Id>)
+    ensures { found.new.items ≡ filter (is_node pool.now.terms) found.old.items }
+{
+    found.retain(|n| is_iri_or_blank(pool, *n));
+}
+
+fn is_iri_or_blank(pool: &Pool, n: Id) -> bool
+    ensures { result ≡ is_node pool.now.terms n }
+{
+    if n >= pool.len() {
+        return false;
+    }
+    match pool.term(n) {
+        Term::Iri(_) => true,
+        Term::Blank(_) => true,
+        Term::Lit(_) => false,
+    }
+}

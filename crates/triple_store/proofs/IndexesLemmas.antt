@@ -1,0 +1,160 @@
+-- Indexes of some triples: as one is added or removed, taken back, and what they give under a number or two.
+use Rattle.std.specs.Prelude.{◌≡◌, ℕ, true, ◌&&◌, ◌==◌, List, [], ◌∷◌, ◌++◌, map, filter}
+use Rattle.std.specs.Prelude.{take, length, Contains, ◌<◌, ◌+◌}
+use Rattle.std.specs.List.{IsDistinct}
+use Rattle.std.specs.Cmp.{both_ways}
+use Rattle.std.specs.List.Sorted.{IsStrictlySortedBy}
+use Rattle.std.specs.Ordering.{eq_by_cmp}
+use Rattle.std.proofs.Common.{refl, sym, ◌∙◌, subst, inl, inr, get_or}
+use Rattle.std.proofs.lemmas.List.{take_more}
+use Rattle.std.proofs.lemmas.List.Elements.{Contains-push, Contains-push_cases, Contains-append_left}
+use Rattle.std.proofs.lemmas.Map.Keys.{IsDistinct-from_sorted}
+use Rattle.std.proofs.lemmas.Map.Views.{tells_apart}
+use Rattle.std.specs.Cmp.{eq_by_cmp_equiv}
+use Rattle.shx_term.specs.InOrder.{Lists}
+use Rattle.shx_term.specs.Triple.{same_triple}
+use Rattle.shx_term.specs.TripleLaws.{same_triple_equiv, same_triple_exact}
+use Rattle.shx_term.specs.declared.triple.Triple.{Triple}
+use Rattle.shx_term.proofs.InOrderLemmas.{same_lists}
+use Rattle.graph_view.specs.Graph.{HasAlso, HasNot}
+use Rattle.graph_view.specs.SameGraph.{HoldsSame}
+use Rattle.graph_view.proofs.SameGraphLemmas.{HoldsSame-sym, HoldsSame-filter, HoldsSame-also, HoldsSame-not}
+use Rattle.graph_view.proofs.SameGraphLemmas.{map_same}
+use Rattle.triple_store.proofs.ArrangementLemmas.{arranged_order}
+use Rattle.triple_store.specs.Arrangement.{entry_of, arranged_cmp}
+use Rattle.triple_store.specs.Index.{Arranged, IsArranged, IsIndex, AreIndexes, SameNumbers}
+use Rattle.triple_store.specs.Index.{led_by, led_by_pair, third_of}
+use Rattle.triple_store.specs.declared.arrangement.Arrangement.{Arrangement}
+
+module _ {triples : List Triple} {a : Arrangement} {index : Arranged} where
+  IsIndex-holds : IsIndex triples a index → HoldsSame index.triples triples
+  IsIndex-holds is = record { each = is.lists.each }
+
+  -- whatever holds the same triples and ascends is an index of them
+  IsIndex-from : index.arrangement ≡ a → HoldsSame index.triples triples → IsArranged index
+      → IsIndex triples a index
+  IsIndex-from arranged same ordered = record {
+    arranged = arranged;
+    lists = record {
+      sorted = subst (λ b. IsStrictlySortedBy (arranged_cmp b) index.triples) arranged ordered;
+      each = same.each;
+    };
+  }
+
+-- no triples
+pub IsIndex-none : (a : Arrangement) → IsIndex [] a (record { arrangement = a; triples = [] })
+unfolding IsStrictlySortedBy
+IsIndex-none a = record { arranged = refl; lists = record { sorted = tt; each = λ t. (λ c. c, λ c. c) } }
+
+-- one triple more, or less
+module _ {triples others : List Triple} {a : Arrangement} {old new : Arranged} (t : Triple)
+    (index : IsIndex triples a old) (kept : new.arrangement ≡ old.arrangement) (ordered : IsArranged new) where
+  pub IsIndex-also : HasAlso triples others t → HasAlso old.triples new.triples t → IsIndex others a new
+  IsIndex-also also also' =
+      IsIndex-from (kept ∙ index.arranged) (HoldsSame-also t (IsIndex-holds index) also' also) ordered
+
+  pub IsIndex-not : HasNot triples others t → HasNot old.triples new.triples t → IsIndex others a new
+  IsIndex-not without without' =
+      IsIndex-from (kept ∙ index.arranged) (HoldsSame-not t (IsIndex-holds index) without' without) ordered
+
+-- a new triple that is taken out again leaves what was there
+also_not : {old added left : List Triple} (t : Triple) → HasAlso old added t → (Contains old t → ⊥)
+    → HasNot added left t → HoldsSame left old
+also_not {old} t also absent without = record {
+  each = λ u. (
+    λ c.
+        let held = (without.each u).0 c in
+        elim ((also.each u).0 held.0) [ inl before ↦ before | inr same ↦ absurd (held.1 same) ],
+    λ c. (without.each u).1 ((also.each u).1 (inl c), λ same. absent (subst (Contains old) same c)),
+  );
+}
+
+pub taken_back : {triples : List Triple} {a : Arrangement} (index added left : Arranged) (t : Triple)
+    → IsIndex triples a index → added.arrangement ≡ index.arrangement → left.arrangement ≡ added.arrangement
+    → HasAlso index.triples added.triples t → (Contains triples t → ⊥) → HasNot added.triples left.triples t
+    → IsArranged left → left ≡ index
+taken_back {triples} {a} index added left t is kept kept' also absent without ordered =
+    let same = kept' ∙ kept in
+    let before = also_not t also (λ c. absent ((is.lists.each t).0 c)) without in
+    let there : Lists (arranged_cmp a) (Contains triples) left.triples = record {
+      sorted = subst (λ b. IsStrictlySortedBy (arranged_cmp b) left.triples) (same ∙ is.arranged) ordered;
+      each = λ u. (
+        λ c. (is.lists.each u).0 ((before.each u).0 c),
+        λ c. (before.each u).1 ((is.lists.each u).1 c),
+      );
+    } in
+    let list = same_lists (arranged_cmp a) (arranged_order a) left.triples index.triples there is.lists in
+    λ i. record { arrangement = same i; triples = list i }
+
+-- indexes that are as before are indexes
+pub AreIndexes-back : (one two three one' two' three' : Arranged) → AreIndexes one.triples one two three
+    → one' ≡ one → two' ≡ two → three' ≡ three → AreIndexes one'.triples one' two' three'
+AreIndexes-back one two three one' two' three' are first second third =
+    subst (λ index. AreIndexes index.triples index two' three') (sym first)
+    (subst (λ index. AreIndexes one.triples one index three') (sym second)
+    (subst (λ index. AreIndexes one.triples one two index) (sym third) are))
+
+-- the triples of an index are distinct
+pub IsDistinct-arranged : (index : Arranged) → IsArranged index → IsDistinct same_triple index.triples
+IsDistinct-arranged index ordered =
+    let order = arranged_order index.arrangement in
+    let tie = eq_by_cmp (arranged_cmp index.arrangement) in
+    let laws = eq_by_cmp_equiv order.total in
+    let same : tie ≡ same_triple = λ i t u.
+    both_ways (tie t u) (same_triple t u)
+    (λ h. subst (λ v. same_triple t v ≡ true) (tells_apart order.exact t u h) (same_triple_equiv.refl t))
+    (λ h. subst (λ v. tie t v ≡ true) (same_triple_exact t u h) (laws.refl t)) i in
+    subst (λ test. IsDistinct test index.triples) same
+    (IsDistinct-from_sorted (arranged_cmp index.arrangement) index.triples ordered)
+
+module _ {triples : List Triple} {a : Arrangement} (index : Arranged) (is : IsIndex triples a index) where
+  holds : HoldsSame triples index.triples
+  holds = HoldsSame-sym (IsIndex-holds is)
+
+  -- what an index gives under a first number holds the same as the filter of the triples
+  pub led_same : (first : ℕ)
+      → HoldsSame (led_by (record { arrangement = a; triples = triples }) first) (led_by index first)
+  led_same first =
+      subst (λ b. HoldsSame (led_by (record { arrangement = b; triples = triples }) first) (led_by index first))
+      is.arranged
+      (HoldsSame-filter (λ t. (entry_of index.arrangement t).first == first) triples index.triples holds)
+
+  -- and so do the third numbers under a first and a second
+  pub thirds_same : (first second : ℕ)
+      → SameNumbers (map (third_of (record { arrangement = a; triples = triples }))
+      (led_by_pair (record { arrangement = a; triples = triples }) first second))
+      (map (third_of index) (led_by_pair index first second))
+  thirds_same first second =
+      let p = λ (t : Triple). ((entry_of index.arrangement t).first == first)
+      && ((entry_of index.arrangement t).second == second) in
+      let found = HoldsSame-filter p triples index.triples holds in
+      let f = third_of index in
+      let there = filter p triples in
+      let here = filter p index.triples in
+      subst (λ b. SameNumbers (map (third_of (record { arrangement = b; triples = triples }))
+      (led_by_pair (record { arrangement = b; triples = triples }) first second))
+      (map (third_of index) (led_by_pair index first second)))
+      is.arranged
+      (record {
+        each = λ y. (
+          map_same there here found f y,
+          map_same here there (HoldsSame-sym found) f y,
+        );
+      })
+
+-- one triple more of a list that is gone over
+pub HoldsSame-take_more : (ts : List Triple) (i : ℕ) (d : Triple) → i < length ts → {old new : List Triple}
+    → HoldsSame (take i ts) old → HasAlso old new (get_or ts i d) → HoldsSame (take (i + 1) ts) new
+HoldsSame-take_more ts i d inside {old} {new} before also =
+    let t = get_or ts i d in
+    let pushed : HasAlso (take i ts) (take i ts ++ t ∷ []) t = record {
+      each = λ u. (
+        λ c. elim (Contains-push_cases (take i ts) t u c) [ inl held ↦ inl held | inr same ↦ inr (sym same) ],
+        λ h. elim h [
+          | inl c ↦ Contains-append_left (take i ts) (t ∷ []) u c
+          | inr same ↦ subst (Contains (take i ts ++ t ∷ [])) (sym same) (Contains-push (take i ts) t)
+        ],
+      );
+    } in
+    subst (λ us. HoldsSame us new) (sym (take_more ts i d inside))
+    (HoldsSame-also t before pushed also)

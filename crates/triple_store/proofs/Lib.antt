@@ -1,0 +1,4 @@
+pub mod ArrangementLemmas
+pub mod IndexLemmas
+pub mod IndexesLemmas
+pub mod RangeLemmas

@@ -1,0 +1,21 @@
+//! The indexed store: a graph of numbered triples in which a look-up costs what it finds.
+//!
+//! | file | what it holds |
+//! |---|---|
+//! | `arrangement.rt` | `Arrangement`: which number of a triple an index compares first; `Entry` |
+//! | `index.rt` | `Index`: a set of triples in one arrangement, and what stands under a first number or two |
+//! | `indexes.rt` | `Indexes`: three of them, with the same triples |
+//! | `store.rt` | `Store`: a pool and the indexes; both traits of `graph_view` |
+//!
+//! It stands on `shx_term` and `graph_view`. Start with `store.rt`; `specs/Arrangement.antt` says how triples
+//! are arranged, and `specs/Index.antt` what an index of some triples is.
+#![tactic(auto)]
+
+mod arrangement;
+mod index;
+mod indexes;
+mod store;
+#[cfg(test)]
+mod tests;
+
+pub use store::Store;

@@ -1,0 +1,133 @@
+ghost use Rattle.std.specs.Prelude.{◌≡◌, IfOk};
+ghost use Rattle.graph_view.specs.ListGraph.{plain_graph};
+ghost use Rattle.graph_view.specs.SameGraph.{SameGraph};
+
+use crate::indexes::Indexes;
+use graph_view::{GraphEdit, GraphView, Key, ListGraph, Reads, StoreFault};
+use shx_term::{Id, Memory, Pool, PoolFault, Term, Triple};
+use std::alloc::Global;
+use std::marker::Model;
+
+/// A pool and the triples of its numbers, in three indexes. Contracts see the same as of a `ListGraph`.
+#[derive(Drop)]
+pub struct Store {
+    pool: Pool,
+    indexes: Indexes,
+    limit: u64,
+}
+
+impl Model for Store {
+    ghost use Rattle.graph_view.specs.ListGraph.{PlainGraph, IsWithinLimit};
+
+    ghost Value = { PlainGraph };
+
+    ghost view = { λ a. record { pool = a.pool; triples = a.indexes; limit = a.limit } };
+
+    ghost invariant = { λ a. IsWithinLimit a.pool.terms a.indexes a.limit };
+}
+
+impl Store {
+    /// The store of a plain graph, with its pool and its limit. It takes time `O(n log n)` in the number of
+    /// triples.
+    pub fn from_list(alloc: Global, graph: ListGraph) -> Result<Store, Memory>
+        ensures pool { IfOk result (λ store. store.pool ≡ graph.pool) }
+        ensures limit { IfOk result (λ store. store.limit ≡ graph.limit) }
+        ensures same { IfOk result (λ store. SameGraph (plain_graph graph) (plain_graph store)) }
+    {
+        let _ = graph.pool();
+        let limit = graph.limit();
+        let indexes = Indexes::from_triples(alloc, graph.triples())?;
+        prove!(indexes.len() as u64 == graph.len());
+        let pool = graph.into_pool();
+        Ok(Store {
+            pool,
+            indexes,
+            limit,
+        })
+    }
+
+    /// The pool, without the triples. It takes no memory.
+    pub fn into_pool(self) -> Pool
+        ensures { result ≡ self.pool }
+    {
+        let Store {
+            pool,
+            indexes: _,
+            limit: _,
+        } = self;
+        pool
+    }
+}
+
+impl GraphView for Store {
+    ghost use Rattle.graph_view.specs.ListGraph.{plain_graph};
+
+    ghost graph = { plain_graph };
+
+    ghost term_limit = { λ g. g.pool.limit };
+
+    fn pool(&self) -> &Pool {
+        &self.pool
+    }
+
+    fn len(&self) -> u64 {
+        self.indexes.len() as u64
+    }
+
+    /// It takes logarithmic time.
+    fn contains(&self, t: &Triple) -> bool {
+        self.indexes.contains(t)
+    }
+
+    fn objects(&self, alloc: Global, s: Id, p: Id, reads: &mut Reads) -> Result<Vec<Id>, Memory> {
+        let found = self.indexes.objects(alloc, s, p)?;
+        reads.add(Key::Out(s, p))?;
+        Ok(self.pool.in_order(found))
+    }
+
+    fn subjects(&self, alloc: Global, p: Id, o: Id, reads: &mut Reads) -> Result<Vec<Id>, Memory> {
+        let found = self.indexes.subjects(alloc, p, o)?;
+        reads.add(Key::In(p, o))?;
+        Ok(self.pool.in_order(found))
+    }
+
+    fn triples_of(&self, alloc: Global, s: Id, reads: &mut Reads) -> Result<Vec<Triple>, Memory> {
+        let found = self.indexes.triples_of(alloc, s)?;
+        reads.add(Key::Subject(s))?;
+        Ok(self.pool.triples_in_order(found))
+    }
+
+    fn triples_with(&self, alloc: Global, p: Id, reads: &mut Reads) -> Result<Vec<Triple>, Memory> {
+        let found = self.indexes.triples_with(alloc, p)?;
+        reads.add(Key::Predicate(p))?;
+        Ok(self.pool.triples_in_order(found))
+    }
+}
+
+impl GraphEdit for Store {
+    ghost triple_limit = { λ g. g.limit };
+
+    fn limit(&self) -> u64 {
+        self.limit
+    }
+
+    fn enter(&mut self, term: &Term) -> Result<Id, PoolFault> {
+        self.pool.enter(term)
+    }
+
+    /// It takes logarithmic time.
+    fn insert(&mut self, t: Triple) -> Result<bool, StoreFault> {
+        if self.indexes.contains(&t) {
+            return Ok(false);
+        }
+        if self.indexes.len() as u64 >= self.limit {
+            return Err(StoreFault::TooMany);
+        }
+        Ok(self.indexes.insert(t)?)
+    }
+
+    /// It takes logarithmic time.
+    fn remove(&mut self, t: &Triple) -> bool {
+        self.indexes.remove(t)
+    }
+}

@@ -1,8 +1,10 @@
 #!/usr/bin/env python3
-"""Measures the load of data texts: processor seconds, seconds and peak memory, beside `serdi -q` where it is
-installed (Debian's package serdi), and hostile texts. Run it at the top of the repository, on a quiet machine.
+"""Measures the load of data texts: processor seconds, seconds and peak memory, beside `serdi -q` where it
+is installed (Debian's package serdi), and hostile texts. Run it at the top of the repository, on a quiet
+machine.
 
-    bench/load.py [COUNT ..]    texts of so many triples (10000, 100000, 1000000 and 4000000 where none is given)
+    bench/load.py [COUNT ..]    texts of so many triples (10000, 100000, 1000000 and 4000000 where no count
+                                is given)
     bench/load.py hostile       texts of 100 million bytes that are hard to pass
 """
 import os
@@ -78,7 +80,8 @@ def main():
         if sys.argv[1:] == ["hostile"]:
             hostile(folder, empty, out)
         else:
-            loads(folder, empty, out, [int(word) for word in sys.argv[1:]] or [10000, 100000, 1000000, 4000000])
+            counts = [int(word) for word in sys.argv[1:]]
+            loads(folder, empty, out, counts or [10000, 100000, 1000000, 4000000])
 
 
 main()

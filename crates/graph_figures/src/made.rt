@@ -1,13 +1,22 @@
-//! The graphs that are made. Their nodes are numbered behind the vocabulary, and the first is a predicate too.
+//! The graphs that are made. Their nodes are numbered behind the vocabulary, and the first is a predicate
+//! too.
 use crate::task::Task;
 use graph_view::{GraphEdit, GraphView, ListGraph};
-use shx_term::vocabulary::VOCABULARY_LEN;
+use shx_term::vocabulary::{
+    RDF_FIRST, RDF_NIL, RDF_REST, RDF_TYPE, SH_IRI, SH_NODE_KIND, SH_PATH, SH_PROPERTY_SHAPE,
+    VOCABULARY_LEN,
+};
 use shx_term::{Id, IriText, Limits, Memory, Pool, Term, Triple};
 use std::alloc::{AllocError, Global};
 use triple_store::Store;
 
 // How many triples stand under one subject, and about how many under one predicate.
 const UNDER_ONE: u32 = 10;
+
+// How many triples a cell of a list has, and how many a shape.
+const OF_A_CELL: u32 = 2;
+
+const OF_A_SHAPE: u32 = 3;
 
 /// The number of a node.
 pub fn node(at: u32) -> Id {
@@ -18,22 +27,62 @@ pub fn node(at: u32) -> Id {
 pub fn nodes(task: Task, count: u32) -> u32 {
     match task {
         Task::Chain | Task::Star => count.saturating_add(1),
+        Task::List => count / OF_A_CELL,
+        Task::Collect | Task::Check => count / OF_A_SHAPE,
         _ => (count / UNDER_ONE).saturating_add(UNDER_ONE),
     }
 }
 
 /// The triple at a place of the graph of a task that has so many nodes.
 pub fn triple_at(task: Task, at: u32, nodes: u32) -> Triple {
-    let nodes = nodes.max(1);
-    let (s, p, o) = match task {
-        Task::Chain => (at, 0, at.saturating_add(1)),
-        Task::Star => (0, 0, at.saturating_add(1)),
-        _ => (at / UNDER_ONE, at % nodes, at.wrapping_mul(7) % nodes),
-    };
+    match task {
+        Task::Chain => of_nodes(at, 0, at.saturating_add(1)),
+        Task::Star => of_nodes(0, 0, at.saturating_add(1)),
+        Task::List => of_cell(at / OF_A_CELL, at % OF_A_CELL, nodes),
+        Task::Collect | Task::Check => of_shape(at / OF_A_SHAPE, at % OF_A_SHAPE),
+        _ => {
+            let nodes = nodes.max(1);
+            of_nodes(at / UNDER_ONE, at % nodes, at.wrapping_mul(7) % nodes)
+        }
+    }
+}
+
+fn of_nodes(s: u32, p: u32, o: u32) -> Triple {
     Triple {
         s: node(s),
         p: node(p),
         o: node(o),
+    }
+}
+
+// A triple of a cell of one list: its member, or the next cell.
+fn of_cell(cell: u32, place: u32, cells: u32) -> Triple {
+    let next = cell.saturating_add(1);
+    let (p, o) = if place == 0 {
+        (RDF_FIRST, node(cell))
+    } else if next < cells {
+        (RDF_REST, node(next))
+    } else {
+        (RDF_REST, RDF_NIL)
+    };
+    Triple {
+        s: node(cell),
+        p,
+        o,
+    }
+}
+
+// A triple of a property shape.
+fn of_shape(shape: u32, place: u32) -> Triple {
+    let (p, o) = match place {
+        0 => (RDF_TYPE, SH_PROPERTY_SHAPE),
+        1 => (SH_PATH, RDF_TYPE),
+        _ => (SH_NODE_KIND, SH_IRI),
+    };
+    Triple {
+        s: node(shape),
+        p,
+        o,
     }
 }
 

@@ -8,7 +8,7 @@
 //! | `work.rt` | the work over them |
 //! | `main.rt` | the program over its words and standard output |
 //!
-//! It stands on `triple_store`, `path_eval`, `graph_view` and `shx_term`.
+//! It stands on `triple_store`, `path_eval`, `shape_decl`, `shape_check`, `graph_view` and `shx_term`.
 #![tactic(auto)]
 
 mod made;

@@ -10,6 +10,12 @@ pub enum Task {
     Chain,
     /// A path is followed to all points of a star.
     Star,
+    /// A list is read, of a cell for two triples.
+    List,
+    /// The shapes are declared, of which each has three triples.
+    Collect,
+    /// They are declared, and checked.
+    Check,
 }
 
 impl Task {
@@ -23,6 +29,9 @@ impl Task {
             "triples_with" => Some(Task::TriplesWith),
             "chain" => Some(Task::Chain),
             "star" => Some(Task::Star),
+            "list" => Some(Task::List),
+            "collect" => Some(Task::Collect),
+            "check" => Some(Task::Check),
             _ => None,
         }
     }

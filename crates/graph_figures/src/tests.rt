@@ -4,7 +4,7 @@ use std::alloc::Global;
 use std::test::Fail;
 
 // Of a thousand triples over 110 nodes ten have one subject; nine have one predicate, and ten one of the
-// first ten predicates, and those have one object too.
+// first ten predicates, and those have one object too. A thousand make 500 cells of a list, or 333 shapes.
 #[test]
 fn each_task_finds_what_it_looks_for(rt: HostRuntime) -> Result<(), Fail> {
     let cases = "contains 30 triples 1000 found 30
@@ -13,7 +13,10 @@ subjects 30 triples 1000 found 273
 triples_of 30 triples 1000 found 300
 triples_with 30 triples 1000 found 273
 chain 1 triples 1000 found 1001
-star 1 triples 1000 found 1001";
+star 1 triples 1000 found 1001
+list 1 triples 1000 found 500
+collect 1 triples 999 found 333
+check 1 triples 999 found 333";
     for case in cases.lines() {
         assert!(rt; finds(rt.alloc(), case)?);
     }

@@ -3,7 +3,9 @@ use crate::made::{node, nodes, store_for, triple_at};
 use crate::task::Task;
 use graph_view::{GraphView, Reads};
 use path_eval::{Path, values};
-use shx_term::{Memory, Triple};
+use shape_check::check;
+use shape_decl::{collect, read_list};
+use shx_term::{Limits, Memory, Triple};
 use std::alloc::Global;
 
 // How far the look-ups are from one another.
@@ -36,6 +38,9 @@ fn found_under<V: GraphView>(
         Task::TriplesOf => graph.triples_of(alloc, triple.s, &mut reads)?.len(),
         Task::TriplesWith => graph.triples_with(alloc, triple.p, &mut reads)?.len(),
         Task::Chain | Task::Star => walked(alloc, graph, &mut reads)?,
+        Task::List => members(alloc, graph)?,
+        Task::Collect => collect(alloc, graph, &Limits::program())?.len(),
+        Task::Check => checked(alloc, graph)?,
     };
     Ok(found as u64)
 }
@@ -44,4 +49,22 @@ fn found_under<V: GraphView>(
 fn walked<V: GraphView>(alloc: Global, graph: &V, reads: &mut Reads) -> Result<usize, Memory> {
     let path = Path::ZeroOrMore(Box::new(alloc, Path::Pred(node(0)))?);
     Ok(values(alloc, graph, &path, node(0), reads)?.len())
+}
+
+// How many members the list has that begins at the first node.
+fn members<V: GraphView>(alloc: Global, graph: &V) -> Result<usize, Memory> {
+    match read_list(alloc, graph, node(0))? {
+        Some(members) => Ok(members.len()),
+        None => Ok(0),
+    }
+}
+
+// How many shapes are declared, where none is at fault.
+fn checked<V: GraphView>(alloc: Global, graph: &V) -> Result<usize, Memory> {
+    let limits = Limits::program();
+    let decls = collect(alloc, graph, &limits)?;
+    match check(alloc, &decls, graph.pool(), &limits) {
+        Ok(()) => Ok(decls.len()),
+        Err(_) => Ok(0),
+    }
 }

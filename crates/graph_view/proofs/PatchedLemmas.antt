@@ -1,6 +1,6 @@
 -- What a change leaves: the members of lists, a graph that is patched, and what look-ups find in it.
-use Rattle.std.specs.Prelude.{◌≡◌, ℕ, ◌+◌, ◌≤◌, Bool, true, false, not, nat_eq, List, [], ◌∷◌, ◌++◌, map, length}
-use Rattle.std.specs.Prelude.{All, Contains, ◌↔◌, ◌⊎◌}
+use Rattle.std.specs.Prelude.{◌≡◌, ℕ, ◌+◌, ◌≤◌, Bool, true, false, not, nat_eq, List, [], ◌∷◌, ◌++◌}
+use Rattle.std.specs.Prelude.{map, length, All, Contains, ◌↔◌, ◌⊎◌}
 use Rattle.std.specs.Cmp.{IsEquivalence, nat_eq_equiv}
 use Rattle.std.specs.List.{list_any, IsDistinct, AllByRecursion}
 use Rattle.std.proofs.Common.{refl, sym, ◌∙◌, subst, inl, inr, true≢false, length-append, arith}
@@ -21,9 +21,9 @@ use Rattle.shx_term.proofs.MemberLemmas.{Contains-head, Contains-tail, Contains-
 use Rattle.shx_term.proofs.MemberLemmas.{Contains-from_filter, each_of_All}
 use Rattle.shx_term.proofs.TripleOrderLemmas.{triple_order}
 use Rattle.graph_view.specs.declared.key.Key.{Key}
-use Rattle.graph_view.specs.declared.key.Key.TheVariants.{Out, In, Subject, Predicate}
+use Rattle.graph_view.specs.declared.key.Key.TheVariants.{Out, In}
 use Rattle.graph_view.specs.Agree.{Agree, IsUntouched}
-use Rattle.graph_view.specs.Graph.{Graph, objects_of, subjects_of, triples_of, triples_with}
+use Rattle.graph_view.specs.Graph.{Graph, objects_of, subjects_of}
 use Rattle.graph_view.specs.Key.{look}
 use Rattle.graph_view.specs.Patched.{without, patched, IsBeside}
 use Rattle.graph_view.specs.SameGraph.{HoldsSame}
@@ -165,7 +165,8 @@ module _ (g : Graph) (added removed : List Triple) where
   length-patched =
       let left = without same_triple g.triples removed in
       let stays = λ (t : Triple). not (list_any (λ u. same_triple u t) removed) in
-      omega (arith, length-append left added, length-filter stays g.triples, count_by-le-length stays g.triples)
+      let fewer = count_by-le-length stays g.triples in
+      omega (arith, length-append left added, length-filter stays g.triples, fewer)
 
   pub Agree-patched : Agree g (patched g added removed) (IsBeside added removed)
   Agree-patched = Agree-on_terms refl (AgreeOn-from (λ key beside t touches.
@@ -186,7 +187,8 @@ module _ (g : Graph) (added removed : List Triple) where
   }
 
   -- where one triple decides of a number whether it is found, gone, new, and found in the end
-  found_alike : (found gone new all : List ℕ) (y : ℕ) (t : Triple) → Contains found y ↔ Contains g.triples t
+  found_alike : (found gone new all : List ℕ) (y : ℕ) (t : Triple)
+      → Contains found y ↔ Contains g.triples t
       → Contains gone y ↔ Contains removed t → Contains new y ↔ Contains added t
       → Contains all y ↔ Contains (patched g added removed).triples t
       → Contains (without nat_eq found gone ++ new) y ↔ Contains all y
@@ -233,15 +235,16 @@ module _ (g : Graph) (added removed : List Triple) where
       (Contains-subjects_of g p o s) (Contains-subjects removed p o s)
       (Contains-subjects added p o s) (Contains-subjects triples p o s))
 
-  touching_alike : (key : Key) (t : Triple) → Contains
-      (without same_triple (in_triple_order g.terms (look g.triples key)) (look removed key) ++ look added key)
-      t ↔ Contains (look (patched g added removed).triples key) t
+  touching_alike : (key : Key) (t : Triple) →
+      let found = in_triple_order g.terms (look g.triples key) in
+      Contains (without same_triple found (look removed key) ++ look added key) t
+      ↔ Contains (look (patched g added removed).triples key) t
   touching_alike key t =
       let found = in_triple_order g.terms (look g.triples key) in
+      let gone = look removed key in
       let triples = (patched g added removed).triples in
       let changed =
-      Contains-changed same_triple same_triple_equiv same_triple_exact found (look removed key) (look added key)
-      t in
+      Contains-changed same_triple same_triple_equiv same_triple_exact found gone (look added key) t in
       let held = Contains-patched t in
       let of_found = Contains-ordered g key t in
       let of_gone = Contains-look removed key t in
@@ -261,8 +264,9 @@ module _ (g : Graph) (added removed : List Triple) where
             ]),
       )
 
-  pub triples-patched : (key : Key) → in_triple_order g.terms
-      (without same_triple (in_triple_order g.terms (look g.triples key)) (look removed key) ++ look added key)
+  pub triples-patched : (key : Key) →
+      let found = in_triple_order g.terms (look g.triples key) in
+      in_triple_order g.terms (without same_triple found (look removed key) ++ look added key)
       ≡ in_triple_order g.terms (look (patched g added removed).triples key)
   triples-patched key =
       let found = in_triple_order g.terms (look g.triples key) in

@@ -13,19 +13,20 @@ use crate::{GraphView, Key, Reads};
 use shx_term::{Id, Memory, Pool, Triple};
 use std::alloc::Global;
 
-/// A base graph without some triples and with others, so that an edit is evaluated before it is made. The base
-/// stays as it is.
+/// A base graph without some triples and with others, so that an edit is evaluated before it is made. The
+/// base stays as it is.
 ///
 /// A look-up costs that of the base and one pass over the changed triples; what it finds is compared with the
-/// removed triples under its key, and sorted again. It is meant for a change of a few triples. For many of them
-/// an overlay with an index of its own is better, since each look-up passes the whole change.
+/// removed triples under its key, and sorted again. It is meant for a change of a few triples. For many an
+/// overlay with an index of its own is better, since each look-up passes the whole change.
 #[derive(Drop)]
 pub struct Patched<'a, V: GraphView> {
     base: &'a V,
     added: &'a [Triple],
     removed: &'a [Triple],
     ghost known: { AllKnown (patched (V.graph base.now) added.now removed.now) },
-    ghost distinct: { IsDistinct same_triple (patched (V.graph base.now) added.now removed.now).triples } by { IsDistinct-prop same_triple (patched (V.graph base.now) added.now removed.now).triples },
+    ghost distinct: { IsDistinct same_triple
+        (patched (V.graph base.now) added.now removed.now).triples } by { IsDistinct-prop same_triple _ },
     ghost all_held: { length (without same_triple (V.graph base.now).triples removed.now) + length removed.now
         ≡ length (V.graph base.now).triples },
     ghost countable: { length (patched (V.graph base.now) added.now removed.now).triples < 2 ^ 64 },

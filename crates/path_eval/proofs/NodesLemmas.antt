@@ -1,6 +1,6 @@
 -- Nodes that are added to those that were seen.
 use Rattle.std.specs.Prelude.{◌≡◌, ℕ, ◌+◌, ◌<◌, nat_eq, true, false, List, [], ◌∷◌, ◌++◌, take, length}
-use Rattle.std.specs.Prelude.{if◌then◌else◌, Contains, ◌⊎◌}
+use Rattle.std.specs.Prelude.{if◌then◌else◌}
 use Rattle.std.specs.Cmp.{nat_eq_equiv}
 use Rattle.std.specs.List.{list_any}
 use Rattle.std.proofs.Common.{refl, sym, ap, ◌∙◌, subst, inl, inr, get_or, append_assoc, append-nil}

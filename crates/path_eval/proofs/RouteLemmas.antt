@@ -7,7 +7,7 @@ use Rattle.path_eval.specs.declared.direction.Direction.{Direction}
 use Rattle.path_eval.specs.declared.path.Path.{Path, Row_of-Path, end_of-Path, more_of-Path, Seq', Alt'}
 use Rattle.path_eval.specs.declared.path.Path.{items-the_row-Path, items_hidden-the_row-Path-0}
 use Rattle.path_eval.specs.declared.path.Path.TheViews.{Seq, Alt}
-use Rattle.path_eval.specs.Route.{Route, first_then, one_or_other, sequence, alternative}
+use Rattle.path_eval.specs.Route.{first_then, one_or_other, sequence, alternative}
 use Rattle.path_eval.specs.Route.{route_of, in_sequence, among}
 use Rattle.path_eval.specs.Way.{way}
 

@@ -1,7 +1,7 @@
 -- A walk of any number of steps: nodes that were seen, of which those before a place were followed.
-use Rattle.std.specs.Prelude.{◌≡◌, ℕ, ◌+◌, ◌-◌, ◌≤◌, ◌<◌, nat_eq, true, List, [], ◌∷◌, ◌++◌, flat_map}
+use Rattle.std.specs.Prelude.{◌≡◌, ℕ, ◌+◌, ◌≤◌, nat_eq, List, [], ◌∷◌, ◌++◌, flat_map}
 use Rattle.std.specs.Prelude.{length, take, drop, Contains, ◌↔◌, ◌⊎◌}
-use Rattle.std.specs.List.{list_any, IsDistinct}
+use Rattle.std.specs.List.{IsDistinct}
 use Rattle.std.specs.Cmp.{nat_eq_equiv}
 use Rattle.std.proofs.Common.{refl, sym, ap, ◌∙◌, subst, inl, inr, zero, suc, arith}
 use Rattle.std.proofs.lemmas.Bool.{eqb-true}
@@ -26,7 +26,7 @@ use Rattle.path_eval.proofs.FollowLemmas.{Follows, Follows-answer, Follows-again
 use Rattle.path_eval.proofs.FollowLemmas.{Adds-members, SameMembers-is}
 use Rattle.path_eval.proofs.FollowLemmas.{flat_map_then, flat_map_of_same}
 use Rattle.path_eval.proofs.MeetsLemmas.{Meets, meets_closed}
-use Rattle.path_eval.proofs.SameLemmas.{SameMembers, SameMembers-itself, SameMembers-then, SameMembers-sym}
+use Rattle.path_eval.proofs.SameLemmas.{SameMembers, SameMembers-itself, SameMembers-then}
 use Rattle.path_eval.proofs.SameLemmas.{SameMembers-append, SameMembers-flat_map}
 use Rattle.path_eval.proofs.ThroughLemmas.{IsWithin, Leads, Contains-below, repeated_chain}
 

@@ -12,8 +12,8 @@
 //! | `laws.rt` | what a path relates and reads, and that nothing else matters to it |
 //!
 //! It stands on `graph_view` for what a graph gives and what it notes as read. Start with
-//! `path_values.rt`;
-//! `specs/Relation.antt` says what a path relates and reads, `specs/Way.antt` the same as lists.
+//! `path_values.rt`; `specs/Relation.antt` says what a path relates and reads, `specs/Way.antt` the same as
+//! lists.
 #![tactic(auto)]
 
 mod direction;

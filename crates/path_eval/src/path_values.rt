@@ -15,7 +15,8 @@ use std::alloc::Global;
 /// keys that it reads to `reads`, and no others; they are the same whatever is found.
 ///
 /// It recurses as deep as the path nests. A closure walks a frontier, so that each node goes through the
-/// path inside it once; only a closure inside a closure is walked anew at each turn of the outer one.
+/// path inside it once, but for the start of one-or-more where a cycle leads back to it. A closure inside a
+/// closure is walked anew at each turn of the outer one.
 pub fn values<V: GraphView>(
     alloc: Global,
     view: &V,

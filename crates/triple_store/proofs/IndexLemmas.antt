@@ -58,7 +58,8 @@ Contains-entered old new e entered d =
 
 module _ (a : Arrangement) where
   -- a triple is there where its entry is
-  pub held_at : (es : List Entry) (t : Triple) → Contains (map (triple_at a) es) t ↔ Contains es (entry_of a t)
+  pub held_at : (es : List Entry) (t : Triple)
+      → Contains (map (triple_at a) es) t ↔ Contains es (entry_of a t)
   held_at es t = (
     λ c.
         let found = Contains-from_map (triple_at a) es t c in

@@ -48,14 +48,15 @@ IsIndex-none a = record { arranged = refl; lists = record { sorted = tt; each = 
 
 -- one triple more, or less
 module _ {triples others : List Triple} {a : Arrangement} {old new : Arranged} (t : Triple)
-    (index : IsIndex triples a old) (kept : new.arrangement ≡ old.arrangement) (ordered : IsArranged new) where
-  pub IsIndex-also : HasAlso triples others t → HasAlso old.triples new.triples t → IsIndex others a new
-  IsIndex-also also also' =
-      IsIndex-from (kept ∙ index.arranged) (HoldsSame-also t (IsIndex-holds index) also' also) ordered
+    (index : IsIndex triples a old) (kept : new.arrangement ≡ old.arrangement) (ordered : IsArranged new)
+  where
+    pub IsIndex-also : HasAlso triples others t → HasAlso old.triples new.triples t → IsIndex others a new
+    IsIndex-also also also' =
+        IsIndex-from (kept ∙ index.arranged) (HoldsSame-also t (IsIndex-holds index) also' also) ordered
 
-  pub IsIndex-not : HasNot triples others t → HasNot old.triples new.triples t → IsIndex others a new
-  IsIndex-not without without' =
-      IsIndex-from (kept ∙ index.arranged) (HoldsSame-not t (IsIndex-holds index) without' without) ordered
+    pub IsIndex-not : HasNot triples others t → HasNot old.triples new.triples t → IsIndex others a new
+    IsIndex-not without without' =
+        IsIndex-from (kept ∙ index.arranged) (HoldsSame-not t (IsIndex-holds index) without' without) ordered
 
 -- a new triple that is taken out again leaves what was there
 also_not : {old added left : List Triple} (t : Triple) → HasAlso old added t → (Contains old t → ⊥)
@@ -115,8 +116,8 @@ module _ {triples : List Triple} {a : Arrangement} (index : Arranged) (is : IsIn
   pub led_same : (first : ℕ)
       → HoldsSame (led_by (record { arrangement = a; triples = triples }) first) (led_by index first)
   led_same first =
-      subst (λ b. HoldsSame (led_by (record { arrangement = b; triples = triples }) first) (led_by index first))
-      is.arranged
+      let led = led_by index first in
+      subst (λ b. HoldsSame (led_by (record { arrangement = b; triples = triples }) first) led) is.arranged
       (HoldsSame-filter (λ t. (entry_of index.arrangement t).first == first) triples index.triples holds)
 
   -- and so do the third numbers under a first and a second

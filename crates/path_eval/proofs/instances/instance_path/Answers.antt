@@ -1,6 +1,6 @@
 use Rattle.std.specs.Prelude.{[], ◌∷◌, ◌++◌, map}
 use Rattle.std.proofs.Common.{ap, ◌∙◌}
-use Rattle.shx_term.specs.declared.vocabulary.TheConstants.{RDF_TYPE, RDFS_SUB_CLASS_OF}
+use Rattle.shx_term.specs.declared.vocabulary.TheConstants.{RDF_TYPE}
 use Rattle.path_eval.specs.declared.path.Path.{Pred}
 use Rattle.path_eval.specs.declared.path.Path.TheViews.{ZeroOrMore}
 use Rattle.path_eval.specs.Route.{along, any_times, route_of, sequence}

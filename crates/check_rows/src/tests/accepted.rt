@@ -1,0 +1,73 @@
+//! Texts that are accepted, with what they declare.
+use super::answers::{answer, graph_of};
+use super::names::{add_term, shortened};
+use super::rows::declared;
+use graph_view::{GraphView, ListGraph};
+use shape_decl::{Declared, PathReading, ShapeDecl, collect};
+use shx_term::{Limits, Memory, Pool};
+use std::alloc::Global;
+use std::test::Fail;
+
+fn add_values(pool: &Pool, declared: &Declared, lines: &mut Vec<u8>) -> Result<(), Memory> {
+    lines.extend_from_slice(b" | ")?;
+    add_term(pool, declared.predicate, lines)?;
+    for value in &declared.values {
+        lines.push(b' ')?;
+        add_term(pool, *value, lines)?;
+    }
+    Ok(())
+}
+
+fn reading_mark(path: &Option<PathReading>) -> &'static str {
+    match path {
+        None => "\n",
+        Some(PathReading::Path(_)) => " | has a path\n",
+        Some(_) => " | has none\n",
+    }
+}
+
+fn add_line(pool: &Pool, decl: &ShapeDecl, lines: &mut Vec<u8>) -> Result<(), Memory> {
+    add_term(pool, decl.node, lines)?;
+    for declared in &decl.values {
+        add_values(pool, declared, lines)?;
+    }
+    Ok(lines.extend_from_slice(reading_mark(&decl.path).as_bytes())?)
+}
+
+// The declarations of a graph, one a line.
+fn lines_of(alloc: Global, graph: &ListGraph) -> Result<String, Memory> {
+    let mut lines = Vec::new(alloc);
+    for decl in &collect(alloc, graph, &Limits::program())? {
+        add_line(graph.pool(), decl, &mut lines)?;
+    }
+    shortened(alloc, lines)
+}
+
+fn has_lines(alloc: Global, text: &str, due: &str) -> Result<bool, Fail> {
+    match graph_of(alloc, text)? {
+        Some(graph) => Ok(lines_of(alloc, &graph)?.as_str().trim_end() == due.trim_end()),
+        None => Ok(false),
+    }
+}
+
+// Whether the text in the row's first line is accepted, and declares what the other lines say.
+fn is_as_said(alloc: Global, row: &str) -> Result<bool, Fail> {
+    let (text, due) = match row.split_once('\n') {
+        Some(parts) => parts,
+        None => (row, ""),
+    };
+    if answer(alloc, &Limits::program(), text)?.as_str() != "accepted" {
+        return Ok(false);
+    }
+    has_lines(alloc, text, due)
+}
+
+#[test]
+fn accepted(rt: HostRuntime) -> Result<(), Fail> {
+    for row in declared::ROWS.split("\n\n") {
+        if !is_as_said(rt.alloc(), row)? {
+            assert_eq!(rt; row, "");
+        }
+    }
+    Ok(())
+}

@@ -1,0 +1,89 @@
+//! What is answered of a text.
+use super::names::{add_term, shortened};
+use graph_view::{GraphEdit, GraphView, ListGraph};
+use iri_resolve::is_absolute;
+use shape_check::{CheckFault, ShapeFault, check};
+use shape_decl::collect;
+use shx_term::{IriText, Limits, Memory, Pool, Scope, Triple};
+use std::alloc::{AllocError, Global};
+use std::test::Fail;
+use ttl_read::{Document, TtlFault, read_document};
+
+const PREFIXES: &str = "\
+@prefix e: <http://e/> .
+@prefix sh: <http://www.w3.org/ns/shacl#> .
+@prefix rdf: <http://www.w3.org/1999/02/22-rdf-syntax-ns#> .
+@prefix rdfs: <http://www.w3.org/2000/01/rdf-schema#> .
+@prefix xsd: <http://www.w3.org/2001/XMLSchema#> .
+";
+
+/// The graph that a text behind the prefixes states, or none where it is no document.
+pub(super) fn graph_of(alloc: Global, text: &str) -> Result<Option<ListGraph>, Fail> {
+    let base = "file:///";
+    if !is_absolute(base) {
+        return Ok(None);
+    }
+    let base = IriText::new(String::from_str(alloc, base)?);
+    let text = format!(in alloc; "{PREFIXES}{text}")?;
+    let limits = Limits::program();
+    let mut pool = Pool::with_vocabulary(alloc, limits.terms)?;
+    match read_document(
+        alloc,
+        text.as_bytes(),
+        &base,
+        Scope::Shapes,
+        &limits,
+        &mut pool,
+    ) {
+        Ok(document) => Ok(Some(graph_over(alloc, pool, &document)?)),
+        Err(TtlFault::At { .. }) => Ok(None),
+        Err(TtlFault::Memory) => Err(AllocError)?,
+    }
+}
+
+fn graph_over(alloc: Global, pool: Pool, document: &Document) -> Result<ListGraph, Fail> {
+    let mut graph = ListGraph::new(alloc, pool, 1_000);
+    for triple in &document.triples {
+        state(&mut graph, *triple)?;
+    }
+    Ok(graph)
+}
+
+fn state(graph: &mut ListGraph, t: Triple) -> Result<(), Fail> {
+    let held = graph.pool().len();
+    if t.s < held && t.p < held && t.o < held {
+        graph.insert(t)?;
+    }
+    Ok(())
+}
+
+/// `accepted`, or the first fault of the declarations of a text within limits.
+pub(super) fn answer(alloc: Global, limits: &Limits, text: &str) -> Result<String, Fail> {
+    match graph_of(alloc, text)? {
+        Some(graph) => Ok(checked(alloc, limits, &graph)?),
+        None => Ok(String::from_str(alloc, "no document")?),
+    }
+}
+
+fn checked(alloc: Global, limits: &Limits, graph: &ListGraph) -> Result<String, Memory> {
+    let decls = collect(alloc, graph, limits)?;
+    match check(alloc, &decls, graph.pool(), limits) {
+        Ok(()) => String::from_str(alloc, "accepted"),
+        Err(CheckFault::Shape(fault)) => told(alloc, graph.pool(), &fault),
+        Err(CheckFault::Memory) => Err(AllocError),
+    }
+}
+
+// A fault as its code, the shape, the predicate and the term, with `-` for one that it does not have.
+fn told(alloc: Global, pool: &Pool, fault: &ShapeFault) -> Result<String, Memory> {
+    let mut line = Vec::new(alloc);
+    line.extend_from_slice(format!(in alloc; "{}", fault.code)?.as_bytes())?;
+    for id in [Some(fault.shape), fault.predicate, fault.term] {
+        line.push(b' ')?;
+        match id {
+            Some(id) => add_term(pool, id, &mut line)?,
+            None => line.push(b'-')?,
+        }
+    }
+    shortened(alloc, line)
+}

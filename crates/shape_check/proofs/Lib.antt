@@ -1,0 +1,6 @@
+pub mod FaultLemmas
+pub mod FirstLemmas
+pub mod KindLemmas
+pub mod LeftLemmas
+pub mod ParameterLemmas
+pub mod UnderLemmas

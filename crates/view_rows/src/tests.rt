@@ -1,0 +1,3 @@
+mod graphs;
+mod patches;
+mod rows;

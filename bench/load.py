@@ -6,6 +6,7 @@ machine.
     bench/load.py [COUNT ..]    texts of so many triples (10000, 100000, 1000000 and 4000000 where no count
                                 is given)
     bench/load.py hostile       texts of 100 million bytes that are hard to pass
+    bench/load.py script        a script of 20000 insertions behind 1000000 triples, less the load
 """
 import os
 import shutil
@@ -72,6 +73,19 @@ def hostile(folder, empty, out):
         os.remove(path)
 
 
+def script(folder, empty, out):
+    path = text(folder, "triples", "1000000")
+    lines = os.path.join(folder, "lines")
+    with open(lines, "w") as written:
+        for at in range(20_000):
+            written.write(f"insert <http://e/{at}> <http://e/p> <http://e/o{at}> .\n")
+    before, _, _, _ = run([PROGRAM, empty, path], out)
+    behind, _, peak, _ = run([PROGRAM, empty, path, lines], out)
+    with open(out, encoding="utf-8") as answers:
+        changed = sum(answer == "ok changed\n" for answer in answers)
+    print(f"load {before:.2f} s, script {behind - before:.2f} s, peak {peak:.0f} MB, {changed} changed")
+
+
 def main():
     with tempfile.TemporaryDirectory() as folder:
         empty = os.path.join(folder, "empty.ttl")
@@ -79,6 +93,8 @@ def main():
         out = os.path.join(folder, "out")
         if sys.argv[1:] == ["hostile"]:
             hostile(folder, empty, out)
+        elif sys.argv[1:] == ["script"]:
+            script(folder, empty, out)
         else:
             counts = [int(word) for word in sys.argv[1:]]
             loads(folder, empty, out, counts or [10000, 100000, 1000000, 4000000])

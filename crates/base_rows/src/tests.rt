@@ -1,5 +1,4 @@
 mod graphs;
-mod literals;
 mod look_ups;
 mod made;
 mod pools;

@@ -1,0 +1,13 @@
+//! The values of literals and their order, as tests alone.
+//!
+//! | file | what it holds |
+//! |---|---|
+//! | `tests/made.rt` | texts and IRIs, and the parts of a row |
+//! | `tests/literals.rt` | values of literals and their order, by the tables beside it |
+//!
+//! It stands on `value_space` and `shx_term`. A table is a text of lines, and a test asks for the first line
+//! that is met otherwise.
+#![tactic(auto)]
+
+#[cfg(test)]
+mod tests;

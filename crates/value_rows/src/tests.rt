@@ -1,0 +1,2 @@
+mod literals;
+mod made;

@@ -6,6 +6,7 @@ pub mod MemberLemmas
 pub mod NumberedLemmas
 pub mod PieceLemmas
 pub mod PlaceLemmas
+pub mod SetLemmas
 pub mod SortLemmas
 pub mod TripleOrderLemmas
 pub mod VocabularyLemmas

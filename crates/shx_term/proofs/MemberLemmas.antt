@@ -1,6 +1,6 @@
 -- Members of lists, which are seen as sets.
-use Rattle.std.specs.Prelude.{◌≡◌, Bool, true, false, List, [], ◌∷◌, ◌++◌, map, flat_map, filter}
-use Rattle.std.specs.Prelude.{if◌then◌else◌, All, Contains, ◌↔◌, ◌⊎◌}
+use Rattle.std.specs.Prelude.{◌≡◌, ℕ, ◌<◌, Bool, true, false, List, [], ◌∷◌, ◌++◌, map, flat_map, filter}
+use Rattle.std.specs.Prelude.{length, if◌then◌else◌, All, Contains, ◌↔◌, ◌⊎◌}
 use Rattle.std.specs.Cmp.{IsEquivalence, first_so, second_so}
 use Rattle.std.specs.List.{list_any, list_all}
 use Rattle.std.proofs.Common.{refl, sym, ap, ◌∙◌, subst, inl, inr, get_or, true≢false, arith}
@@ -57,6 +57,27 @@ module _ {K : Type 0} where
             ],
           )
         ] refl
+
+    -- the members after an element was entered, wherever it stands now
+    pub Contains-entered : (old new : List K) (x : K)
+        → ((y : K) → list_any (same y) new ≡ (if same x y then true else list_any (same y) old))
+        → (y : K) → Contains new y ↔ (Contains old y ⊎ (y ≡ x))
+    Contains-entered old new x entered y =
+        elim (same x y) as
+        (λ b. same x y ≡ b → list_any (same y) new ≡ (if b then true else list_any (same y) old)
+        → Contains new y ↔ (Contains old y ⊎ (y ≡ x))) [
+          | true ↦ λ tied there. (
+            λ _. inr (sym (exact x y tied)),
+            λ _. (Contains-test new y).0 there,
+          )
+          | false ↦ λ apart kept. (
+            λ c. inl ((Contains-test old y).0 (sym kept ∙ (Contains-test new y).1 c)),
+            λ h. elim h [
+              | inl c ↦ (Contains-test new y).0 (kept ∙ (Contains-test old y).1 c)
+              | inr e ↦ absurd (true≢false (sym (laws.refl x) ∙ ap (same x) (sym e) ∙ apart))
+            ],
+          )
+        ] refl (entered y)
 
     -- the members of what is left where an element is removed
     pub Contains-remove : (xs left : List K) (x : K)
@@ -162,3 +183,48 @@ module _ {A : Type 0} (p : A → Bool) where
     | inl e ↦ ap p e ∙ first_so (p y) (list_all p ys) all
     | inr d ↦ each_passes ys (second_so (p y) (list_all p ys) all) x d
   ]
+
+-- the element at a place is a member
+pub Contains-at : {X : Type 0} (xs : List X) (i : ℕ) (d : X) → i < length xs → Contains xs (get_or xs i d)
+Contains-at xs i d inside = (i, inside, get_or_default xs i (get_or xs i d) d inside)
+
+module _ {X : Type 0} (P : X → Type 0) (x : X) (xs : List X) where
+  pub All_head : All P (x ∷ xs) → P x
+  All_head all = each_of_All P (x ∷ xs) all x (Contains-head x xs)
+
+  pub All_tail : All P (x ∷ xs) → All P xs
+  All_tail all = All_of_each P xs (λ y c. each_of_All P (x ∷ xs) all y (Contains-tail x y xs c))
+
+-- what holds of all that is made of members holds of what is made of one
+module _ {X Y : Type 0} (P : Y → Type 0) where
+  pub All_mapped : (k : X → Y) (xs : List X) (i : ℕ) (d : X) → i < length xs → All P (map k xs)
+      → P (k (get_or xs i d))
+  All_mapped k xs i d inside all =
+      each_of_All P (map k xs) all (k (get_or xs i d))
+      (Contains-map k xs (get_or xs i d) (Contains-at xs i d inside))
+
+  pub All_part : (f : X → List Y) (xs : List X) (i : ℕ) (d : X) → i < length xs → All P (flat_map f xs)
+      → All P (f (get_or xs i d))
+  All_part f xs i d inside all =
+      All_of_each P (f (get_or xs i d))
+      (λ y c. each_of_All P (flat_map f xs) all y
+      (Contains-flat_map f xs (get_or xs i d) y (Contains-at xs i d inside) c))
+
+-- lists whose parts are the same
+module _ {A B : Type 0} where
+  pub map_agree : (f g : A → B) (xs : List A) → ((x : A) → Contains xs x → f x ≡ g x) → map f xs ≡ map g xs
+  map_agree f g [] same = refl
+  map_agree f g (x ∷ xs) same =
+      rw (same x (Contains-head x xs), map_agree f g xs (λ y c. same y (Contains-tail x y xs c))) refl
+
+  pub flat_map_agree : (f g : A → List B) (xs : List A) → ((x : A) → Contains xs x → f x ≡ g x)
+      → flat_map f xs ≡ flat_map g xs
+  flat_map_agree f g [] same = refl
+  flat_map_agree f g (x ∷ xs) same =
+      rw (same x (Contains-head x xs), flat_map_agree f g xs (λ y c. same y (Contains-tail x y xs c))) refl
+
+pub filter_agree : {A : Type 0} (p q : A → Bool) (xs : List A) → ((x : A) → Contains xs x → p x ≡ q x)
+    → filter p xs ≡ filter q xs
+filter_agree p q [] same = refl
+filter_agree p q (x ∷ xs) same =
+    rw (same x (Contains-head x xs), filter_agree p q xs (λ y c. same y (Contains-tail x y xs c))) refl

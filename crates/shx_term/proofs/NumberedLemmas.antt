@@ -1,12 +1,12 @@
 -- Triples whose terms are held have numbers, which stay where more terms are entered.
-use Rattle.std.specs.Prelude.{◌≡◌, ◌<◌, true, List, [], ◌∷◌, ◌++◌, length, Some, Contains}
+use Rattle.std.specs.Prelude.{◌≡◌, ℕ, ◌<◌, true, List, [], ◌∷◌, ◌++◌, length, Some, Contains}
 use Rattle.std.proofs.Common.{refl}
 use Rattle.shx_term.specs.declared.term.Term.{Term}
 use Rattle.shx_term.specs.declared.triple.Triple.{Triple}
 use Rattle.shx_term.specs.declared.triple.TermTriple.{TermTriple}
-use Rattle.shx_term.specs.Pool.{is_held, with_terms}
-use Rattle.shx_term.specs.TripleTerms.{terms_of, numbered}
-use Rattle.shx_term.proofs.HeldLemmas.{number_stays, number_in-known, all_held}
+use Rattle.shx_term.specs.Pool.{is_held, with_term, with_terms}
+use Rattle.shx_term.specs.TripleTerms.{terms_of, number_in, numbered}
+use Rattle.shx_term.proofs.HeldLemmas.{number_stays, number_in-known, number_from_place, all_held}
 use Rattle.shx_term.proofs.MemberLemmas.{Contains-head, Contains-tail, Contains-flat_map, each_passes}
 
 -- the numbers of a triple of terms, each with a term
@@ -60,3 +60,14 @@ numbered-append terms more t held =
     let p = number_stays terms more t.p held.p in
     let o = number_stays terms more t.o held.o in
     rw (s, p, o) refl
+
+-- the triple over the numbers that its terms have when they are entered in turn
+pub numbered-in_turn : (one two three : List Term) (t : TermTriple) (s p o : ℕ)
+    → two ≡ with_term one t.p → three ≡ with_term two t.o
+    → number_in one t.s ≡ Some s → number_in two t.p ≡ Some p → number_in three t.o ≡ Some o
+    → numbered three t ≡ Some (record { s = s; p = p; o = o })
+numbered-in_turn one two three t s p o second third first_id second_id third_id =
+    let first : number_in three t.s ≡ Some s =
+    rw (third, second) (number_from_place one (t.p ∷ (t.o ∷ [])) t.s s first_id) in
+    let next : number_in three t.p ≡ Some p = rw third (number_from_place two (t.o ∷ []) t.p p second_id) in
+    rw (first, next, third_id) refl

@@ -1,8 +1,10 @@
 pub mod Appended
 pub mod Datatypes
+pub mod FaultCodes
 pub mod IdOrder
 pub mod InOrder
 pub mod Limits
+pub mod Members
 pub mod MomentForm
 pub mod NumberForm
 pub mod Pool

@@ -15,6 +15,8 @@ pub record AreUsable (limits : Limits) : Type 0 where
   pub path_parts : 0 < limits.path_parts
   pub some_reference_depth : 0 < limits.reference_depth
   pub shapes : 0 < limits.shapes
+  pub group : 0 < limits.group
+  pub history : 0 < limits.history
   pub turtle_depth : limits.turtle_depth ≤ 128
   pub path_depth : limits.path_depth ≤ 64
   pub reference_depth : limits.reference_depth ≤ 64
@@ -32,4 +34,6 @@ program_limits = record {
   path_parts = 4096;
   reference_depth = 64;
   shapes = 100000;
+  group = 10000;
+  history = 100;
 }

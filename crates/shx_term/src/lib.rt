@@ -11,14 +11,14 @@
 //! | `pool.rt` | `Pool`: distinct terms by number |
 //! | `vocabulary.rt` | the 62 terms that every pool begins with, and a constant for each number |
 //! | `limits.rt` | `Limits` |
-//! | `fault_code.rt` | the codes of faults that more than one crate gives |
+//! | `fault_codes.rt` | the codes of faults, with their names: one table |
 //! | `steps.rt` | `Steps`: a counter that takes no memory and no time |
 //!
 //! It stands on `indexmap` and `itoa`. Start with `term.rt` and `pool.rt`; `specs/TermOrder.antt` has the
 //! order and `specs/Pool.antt` the words of a pool's contracts.
 #![tactic(auto)]
 
-mod fault_code;
+pub mod fault_codes;
 mod iri_text;
 mod label;
 mod limits;
@@ -33,7 +33,6 @@ mod text;
 mod triple;
 pub mod vocabulary;
 
-pub use fault_code::NOT_BUILT;
 pub use iri_text::IriText;
 pub use label::Label;
 pub use limits::Limits;

@@ -24,6 +24,10 @@ pub struct Limits {
     pub reference_depth: u32,
     /// Shapes.
     pub shapes: u32,
+    /// Edits of one group.
+    pub group: u32,
+    /// Changes that are kept to be undone.
+    pub history: u32,
 }
 
 impl Limits {
@@ -43,6 +47,8 @@ impl Limits {
             path_parts: 4_096,
             reference_depth: 64,
             shapes: 100_000,
+            group: 10_000,
+            history: 100,
         }
     }
 }

@@ -1,4 +1,4 @@
-ghost use Rattle.std.specs.Prelude.{◌≡◌, ◌<◌, ◌≤◌, ◌+◌, Some, length, position, slice_get};
+ghost use Rattle.std.specs.Prelude.{◌≡◌, ◌<◌, ◌≤◌, Some, length, take, position, slice_get};
 ghost use Rattle.std.specs.Prelude.{is_some, IfOk, IfErr, OnOk, OnErr};
 ghost use Rattle.std.specs.List.{IsDistinct};
 ghost use Rattle.shx_term.specs.TermOrder.{same_term, term_cmp};
@@ -153,6 +153,17 @@ impl Pool {
         let copy = term.copy(self.alloc)?;
         let (index, _) = self.terms.insert_full(copy)?;
         Ok(index as u32)
+    }
+
+    /// Forgets the terms from a number on: the first `len` are kept. It takes no memory, and time linear in what
+    /// it forgets.
+    pub fn cut(&mut self, len: u32)
+        requires vocabulary { 62 ≤ len }
+        requires within { len ≤ length self.old.terms }
+        ensures terms { self.new.terms ≡ take len self.old.terms }
+        ensures limit { self.new.limit ≡ self.old.limit }
+    {
+        self.terms.truncate(len as usize);
     }
 
     /// Compares two numbers by their terms. It takes no memory, and constant time where they are the same.

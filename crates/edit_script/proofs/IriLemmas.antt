@@ -8,7 +8,8 @@ use Rattle.std.proofs.lemmas.Bool.{and_parts, or_left}
 use Rattle.std.proofs.lemmas.List.Sums.{split_at_first, passes_at_first}
 use Rattle.std.proofs.lemmas.Str.{IsUtf8-from_ascii, IsAscii-append}
 use Rattle.shx_term.proofs.HeldLemmas.{place_of_any}
-use Rattle.edit_script.specs.Iris.{is_scheme, is_letter, is_scheme_byte, is_iri_byte, is_colon, is_plain_iri}
+use Rattle.shx_term.specs.Characters.{is_colon, is_letter, is_scheme, is_scheme_byte}
+use Rattle.edit_script.specs.Iris.{is_iri_byte, is_plain_iri}
 
 pub scheme_at_first : (bs : List ℕ) → 1 ≤ length bs
     → is_scheme bs ≡ (is_letter (get_or bs 0 0) && list_all is_scheme_byte (drop 1 bs))

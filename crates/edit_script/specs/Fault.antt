@@ -1,6 +1,6 @@
 -- Why a line is no command, and how it is told.
 use Rattle.std.specs.Prelude.{ℕ, List, [], ◌++◌, Option, Some, None, codes, decimal}
-use Rattle.shx_term.specs.declared.fault_code.TheConstants.{NOT_BUILT}
+use Rattle.shx_term.specs.declared.fault_codes.TheConstants.{NOT_BUILT}
 use Rattle.edit_script.specs.declared.fault.LineFault.{LineFault}
 use Rattle.edit_script.specs.declared.fault.LineFault.TheVariants.{Line, Memory}
 

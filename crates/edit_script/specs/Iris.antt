@@ -3,17 +3,7 @@
 use Rattle.std.specs.Prelude.{ℕ, ◌-◌, Bool, false, not, ◌&&◌, ◌||◌, ◌==◌, nat_le, List, [], ◌∷◌, take, drop}
 use Rattle.std.specs.Prelude.{length, slice_index, Option, Some, None, if◌then◌else◌}
 use Rattle.std.specs.List.{before_first, after_first, list_all, list_any}
-use Rattle.shx_term.specs.NumberForm.{is_digit}
-
-abbrev pub is_colon : ℕ → Bool
-is_colon b = b == 58
-
-abbrev pub is_letter : ℕ → Bool
-is_letter b = (nat_le 65 b && nat_le b 90) || (nat_le 97 b && nat_le b 122)
-
--- a letter, a digit, `+`, `-` or `.`
-abbrev pub is_scheme_byte : ℕ → Bool
-is_scheme_byte b = is_letter b || (is_digit b || ((b == 43) || ((b == 45) || (b == 46))))
+use Rattle.shx_term.specs.Characters.{is_colon, is_scheme}
 
 -- `<`, `>`, `"`, `{`, `}`, `|`, `^`, `\` and the backquote, which stand in no IRI
 abbrev pub is_barred_byte : ℕ → Bool
@@ -24,11 +14,6 @@ is_barred_byte b =
 -- from 33 to 126, and none of those
 abbrev pub is_iri_byte : ℕ → Bool
 is_iri_byte b = (nat_le 33 b && nat_le b 126) && not (is_barred_byte b)
-
--- a letter, and then letters, digits, `+`, `-` and `.`
-abbrev pub is_scheme : List ℕ → Bool
-is_scheme [] = false
-is_scheme (b ∷ bs) = is_letter b && list_all is_scheme_byte bs
 
 -- a scheme, a colon, and then bytes of an IRI
 abbrev pub is_plain_iri : List ℕ → Bool

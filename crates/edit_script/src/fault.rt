@@ -2,7 +2,7 @@
 ghost use Rattle.std.specs.Prelude.{◌≡◌};
 ghost use Rattle.edit_script.specs.Fault.{not_built};
 
-use shx_term::NOT_BUILT;
+use shx_term::fault_codes::NOT_BUILT;
 use std::alloc::AllocError;
 use std::error::Error;
 use std::fmt;

@@ -2,11 +2,11 @@
 ghost use Rattle.std.specs.Prelude.{◌≡◌, ◌≢◌, Some, None, IfOk, IfErr};
 ghost use Rattle.std.specs.List.{list_all};
 ghost use Rattle.edit_script.specs.Fault.{not_built};
-ghost use Rattle.edit_script.specs.Iris.{iri_of_word, is_plain_iri, is_scheme, is_scheme_byte, is_iri_byte};
+ghost use Rattle.edit_script.specs.Iris.{iri_of_word, is_plain_iri, is_iri_byte};
 
 use crate::LineFault;
 use crate::split::split_at_first;
-use shx_term::IriText;
+use shx_term::{IriText, is_scheme};
 use std::alloc::Global;
 
 /// The IRI that a word has in angle brackets. It takes time and memory linear in the word.
@@ -36,28 +36,7 @@ fn is_plain(iri: &[u8]) -> bool
     ensures { result ≡ is_plain_iri iri.now }
 {
     let (scheme, rest) = split_at_first(iri, b':');
-    iri.contains(&b':') && starts_as_scheme(scheme) && are_iri_bytes(rest)
-}
-
-fn starts_as_scheme(scheme: &[u8]) -> bool
-    ensures { result ≡ is_scheme scheme.now }
-{
-    match scheme {
-        [first, rest @ ..] => first.is_ascii_alphabetic() && are_scheme_bytes(rest),
-        [] => false,
-    }
-}
-
-fn are_scheme_bytes(bytes: &[u8]) -> bool
-    ensures { result ≡ list_all is_scheme_byte bytes.now }
-{
-    bytes.iter().all(|b| is_scheme_byte(*b))
-}
-
-fn is_scheme_byte(byte: u8) -> bool
-    ensures { result ≡ is_scheme_byte byte }
-{
-    byte.is_ascii_alphanumeric() || matches!(byte, b'+' | b'-' | b'.')
+    iri.contains(&b':') && is_scheme(scheme) && are_iri_bytes(rest)
 }
 
 fn are_iri_bytes(bytes: &[u8]) -> bool

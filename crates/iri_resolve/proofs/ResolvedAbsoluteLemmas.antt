@@ -8,9 +8,9 @@ use Rattle.std.proofs.lemmas.Bool.{and_parts, and_from, or_left, or_right, or_pa
 use Rattle.std.proofs.lemmas.Bool.{false≢true, false_from_ne_true}
 use Rattle.std.proofs.lemmas.List.{append_assoc, take-append-drop, reverse-append}
 use Rattle.std.proofs.lemmas.List.Folds.{list_all-append, list_any-append}
-use Rattle.iri_resolve.specs.Characters.{is_allowed, is_colon, is_slash, is_question_mark, is_hash, is_letter}
-use Rattle.iri_resolve.specs.Characters.{is_scheme_byte}
-use Rattle.iri_resolve.specs.Parts.{Parts, parts_of, written, with_front, with_back, is_scheme, has_scheme}
+use Rattle.shx_term.specs.Characters.{is_colon, is_letter, is_scheme, is_scheme_byte}
+use Rattle.iri_resolve.specs.Characters.{is_allowed, is_slash, is_question_mark, is_hash}
+use Rattle.iri_resolve.specs.Parts.{Parts, parts_of, written, with_front, with_back, has_scheme}
 use Rattle.iri_resolve.specs.Parts.{scheme_of, without_scheme, from_first, has_authority}
 use Rattle.iri_resolve.specs.DotSegments.{Dots, dot_step, dot_steps, first_segment, without_last_segment}
 use Rattle.iri_resolve.specs.DotSegments.{without_dot_segments}

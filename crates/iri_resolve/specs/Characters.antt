@@ -1,11 +1,7 @@
 -- The characters of references (RFC 3987; Turtle 1.1, section 6.5, IRIREF), as bytes of UTF-8: a character
 -- outside ASCII is allowed, and so is each of its bytes.
-use Rattle.std.specs.Prelude.{ℕ, Bool, not, ◌&&◌, ◌||◌, ◌==◌, nat_le, nat_lt, List}
+use Rattle.std.specs.Prelude.{ℕ, Bool, not, ◌&&◌, ◌||◌, ◌==◌, nat_lt, List}
 use Rattle.std.specs.List.{list_all}
-use Rattle.shx_term.specs.NumberForm.{is_digit}
-
-abbrev pub is_colon : ℕ → Bool
-is_colon b = b == 58
 
 abbrev pub is_slash : ℕ → Bool
 is_slash b = b == 47
@@ -15,13 +11,6 @@ is_question_mark b = b == 63
 
 abbrev pub is_hash : ℕ → Bool
 is_hash b = b == 35
-
-abbrev pub is_letter : ℕ → Bool
-is_letter b = (nat_le 65 b && nat_le b 90) || (nat_le 97 b && nat_le b 122)
-
--- a letter, a digit, `+`, `-` or `.`
-abbrev pub is_scheme_byte : ℕ → Bool
-is_scheme_byte b = is_letter b || (is_digit b || ((b == 43) || ((b == 45) || (b == 46))))
 
 -- above the space, and none of `<`, `>`, `"`, `{`, `}`, `|`, `^`, `\` and the backquote
 abbrev pub is_allowed_byte : ℕ → Bool

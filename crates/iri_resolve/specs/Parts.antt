@@ -3,8 +3,8 @@
 use Rattle.std.specs.Prelude.{ℕ, Bool, false, ◌&&◌, List, [], ◌∷◌, ◌++◌, drop, length, Option, Some, None}
 use Rattle.std.specs.Prelude.{if◌then◌else◌, codes, nat_eq}
 use Rattle.std.specs.List.{list_any, list_all, starts_with, before_first, after_first}
-use Rattle.iri_resolve.specs.Characters.{is_colon, is_slash, is_question_mark, is_hash, is_letter}
-use Rattle.iri_resolve.specs.Characters.{is_scheme_byte}
+use Rattle.shx_term.specs.Characters.{is_colon, is_scheme}
+use Rattle.iri_resolve.specs.Characters.{is_slash, is_question_mark, is_hash}
 
 pub record Parts : Type 0 where
   pub scheme : Option (List ℕ)
@@ -12,11 +12,6 @@ pub record Parts : Type 0 where
   pub path : List ℕ
   pub query : Option (List ℕ)
   pub fragment : Option (List ℕ)
-
--- a letter, then letters, digits, `+`, `-` and `.`
-abbrev pub is_scheme : List ℕ → Bool
-is_scheme [] = false
-is_scheme (b ∷ bs) = is_letter b && list_all is_scheme_byte bs
 
 -- there is a colon, and a scheme before the first one
 abbrev pub has_scheme : List ℕ → Bool

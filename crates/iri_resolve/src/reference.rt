@@ -1,8 +1,8 @@
 ghost use Rattle.std.specs.Prelude.{◌≡◌, ◌==◌, ◌<◌, Bool};
 ghost use Rattle.std.specs.List.{list_all, before_first};
 ghost use Rattle.std.specs.Option.{option_copied};
-ghost use Rattle.iri_resolve.specs.Characters.{is_scheme_byte, is_slash};
-ghost use Rattle.iri_resolve.specs.Parts.{parts_of, part_after, is_scheme, scheme_of, without_scheme};
+ghost use Rattle.iri_resolve.specs.Characters.{is_slash};
+ghost use Rattle.iri_resolve.specs.Parts.{parts_of, part_after, scheme_of, without_scheme};
 ghost use Rattle.iri_resolve.specs.Parts.{authority_of, path_of, from_first};
 
 /// A reference split into its parts (RFC 3986, section 3 and appendix B). A part that is there may be empty.
@@ -57,32 +57,11 @@ fn cut_scheme(text: &str) -> (Option<&str>, &str)
     let Some((front, rest)) = text.split_once(':') else {
         return (None, text);
     };
-    if is_scheme(front) {
+    if is_scheme(front.as_bytes()) {
         (Some(front), rest)
     } else {
         (None, text)
     }
-}
-
-fn is_scheme(text: &str) -> bool
-    ensures { result ≡ is_scheme text.now }
-{
-    match text.as_bytes() {
-        [first, rest @ ..] => first.is_ascii_alphabetic() && are_scheme_bytes(rest),
-        [] => false,
-    }
-}
-
-fn are_scheme_bytes(bytes: &[u8]) -> bool
-    ensures { result ≡ list_all is_scheme_byte bytes.now }
-{
-    bytes.iter().all(|b| is_scheme_byte(*b))
-}
-
-fn is_scheme_byte(byte: u8) -> bool
-    ensures { result ≡ is_scheme_byte byte }
-{
-    byte.is_ascii_alphanumeric() || matches!(byte, b'+' | b'-' | b'.')
 }
 
 // The authority of a text without scheme, query and fragment, and its path.

@@ -3,11 +3,11 @@ use Rattle.std.specs.Prelude.{ℕ, Option, Some, None, List, [], ◌++◌, codes
 use Rattle.report_write.specs.declared.answer.Answer.{Answer}
 use Rattle.report_write.specs.declared.answer.Answer.TheVariants.{Changed, Unchanged, RefusedLine}
 use Rattle.report_write.specs.declared.answer.Answer.TheVariants.{Fault, Usage}
-use Rattle.report_write.specs.Names.{code_name, role_name}
+use Rattle.report_write.specs.Names.{code_word, role_name}
 
 -- a code with its name
 abbrev pub code_text : ℕ → List ℕ
-code_text code = decimal code ++ codes " " ++ code_name code
+code_text code = decimal code ++ codes " " ++ code_word code
 
 -- the byte at which a fault stands, where that is told
 abbrev pub place_text : Option ℕ → List ℕ

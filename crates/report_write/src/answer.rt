@@ -3,7 +3,7 @@ ghost use Rattle.report_write.specs.Names.{role_name};
 ghost use Rattle.report_write.specs.Answers.{answer_text, code_text, place_text};
 ghost use Rattle.report_write.specs.Writes.{Writes};
 
-use crate::names::{code_name, role_name};
+use crate::names::{code_word, role_name};
 use crate::number::add_number;
 use crate::{WriteFault, Writer};
 use shx_outside::{Role, Sink};
@@ -80,7 +80,7 @@ fn add_code<W: Pieces>(code: u32, out: &mut W)
 {
     add_number(code, out);
     out.add(b" ");
-    out.add(code_name(code).as_bytes());
+    out.add(code_word(code).as_bytes());
 }
 
 fn add_place<W: Pieces>(at: Option<u64>, out: &mut W)

@@ -23,7 +23,6 @@ mod write_fault;
 mod writer;
 
 pub use answer::{Answer, add_answer, write_answer};
-pub use names::TEXT_TOO_LONG;
 pub use number::add_number;
 pub use term::write_term;
 pub use write_fault::WriteFault;

@@ -1,29 +1,16 @@
 ghost use Rattle.std.specs.Prelude.{◌≡◌};
-ghost use Rattle.report_write.specs.Names.{code_name, role_name};
+ghost use Rattle.report_write.specs.Names.{code_word, role_name};
 
 use shx_outside::Role;
-use shx_term::NOT_BUILT;
-
-/// The code of a text that is longer than it may be.
-pub const TEXT_TOO_LONG: u32 = 10;
+use shx_term::fault_codes::{NOT_BUILT, code_name};
 
 /// The name of a code, empty where the code is not known.
-pub fn code_name(code: u32) -> &'static str
-    ensures { result.now ≡ code_name code }
+pub fn code_word(code: u32) -> &'static str
+    ensures { result.now ≡ code_word code }
 {
     match code {
-        1 => "NotUtf8",
-        2 => "Syntax",
-        3 => "UnknownPrefix",
-        4 => "BadIri",
-        5 => "FloatLiteral",
-        6 => "WideValue",
-        7 => "TooDeep",
-        8 => "TooManyTriples",
-        9 => "TooManyTerms",
-        TEXT_TOO_LONG => "TextTooLong",
         NOT_BUILT => "NotBuilt",
-        _ => "",
+        _ => code_name(code),
     }
 }
 

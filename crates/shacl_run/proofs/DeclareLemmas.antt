@@ -1,7 +1,7 @@
 -- What the shapes text declares, by what it was read as.
 use Rattle.std.proofs.Common.{◌≡◌, ℕ, List, Some, None, refl, sym, ap, subst, Result, Ok, Err}
 use Rattle.std.specs.Prelude.{IfErr, IsErrAnd}
-use Rattle.shx_term.specs.declared.fault_code.TheConstants.{NOT_BUILT}
+use Rattle.shx_term.specs.declared.fault_codes.TheConstants.{NOT_BUILT}
 use Rattle.shx_term.specs.declared.limits.Limits.{Limits}
 use Rattle.shx_term.specs.declared.term.Scope.TheVariants.{Shapes}
 use Rattle.shx_term.specs.declared.term.Term.{Term}

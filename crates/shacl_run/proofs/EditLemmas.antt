@@ -53,17 +53,6 @@ numbered_known terms t u e =
       o = number_within terms t.o u.o numbers.2;
     }
 
--- the triple over the numbers that its terms have when they are entered in turn
-pub numbered-in_turn : (one two three : List Term) (t : TermTriple) (s p o : ℕ)
-    → two ≡ with_term one t.p → three ≡ with_term two t.o
-    → number_in one t.s ≡ Some s → number_in two t.p ≡ Some p → number_in three t.o ≡ Some o
-    → numbered three t ≡ Some (record { s = s; p = p; o = o })
-numbered-in_turn one two three t s p o second third first_id second_id third_id =
-    let first : number_in three t.s ≡ Some s =
-    rw (third, second) (number_from_place one (t.p ∷ (t.o ∷ [])) t.s s first_id) in
-    let next : number_in three t.p ≡ Some p = rw third (number_from_place two (t.o ∷ []) t.p p second_id) in
-    numbered_of three t (record { s = s; p = p; o = o }) first next third_id
-
 -- a term with the number of an old term is old, with the same number
 number_before : (terms more : List Term) (t : Term) (id : ℕ)
     → number_in (terms ++ more) t ≡ Some id → id < length terms → number_in terms t ≡ Some id

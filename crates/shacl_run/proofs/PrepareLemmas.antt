@@ -8,7 +8,7 @@ use Rattle.shx_term.specs.declared.term.Term.{Term}
 use Rattle.shx_term.specs.Vocabulary.{vocabulary}
 use Rattle.shx_outside.specs.declared.role.Role.TheVariants.{Shapes as shapes_role, Data as data_role}
 use Rattle.text_input.specs.TextRead.{ReadsWhole, IsTooLong}
-use Rattle.report_write.specs.declared.names.TheConstants.{TEXT_TOO_LONG}
+use Rattle.shx_term.specs.declared.fault_codes.TheConstants.{TEXT_TOO_LONG}
 use Rattle.shacl_run.specs.declared.refusal.TextFault.{TextFault}
 use Rattle.shacl_run.specs.declared.validation.Validation.{Validation}
 use Rattle.shacl_run.specs.Declarations.{Declarations}

@@ -10,7 +10,7 @@ use Rattle.shx_outside.specs.Outside.{SinkState}
 use Rattle.shx_outside.specs.Told.{Grew, IsAtEnd}
 use Rattle.shx_outside.proofs.ToldLemmas.{Grew-none, Grew-then}
 use Rattle.shx_term.specs.declared.limits.Limits.{Limits}
-use Rattle.shx_term.specs.declared.fault_code.TheConstants.{NOT_BUILT}
+use Rattle.shx_term.specs.declared.fault_codes.TheConstants.{NOT_BUILT}
 use Rattle.text_input.specs.Lines.{script_lines}
 use Rattle.text_input.specs.ScriptReader.{ReaderState, new_reader, left_of, TookLine, TookEnd}
 use Rattle.text_input.specs.ScriptReader.{StopsInLine, IsCounted, KeepsCount}

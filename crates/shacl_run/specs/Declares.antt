@@ -1,6 +1,6 @@
 -- What the shapes text is made into, in terms of what it is read as.
 use Rattle.std.specs.Prelude.{◌≡◌, ℕ, List, Some, None}
-use Rattle.shx_term.specs.declared.fault_code.TheConstants.{NOT_BUILT}
+use Rattle.shx_term.specs.declared.fault_codes.TheConstants.{NOT_BUILT}
 use Rattle.shx_term.specs.declared.limits.Limits.{Limits}
 use Rattle.shx_term.specs.declared.term.Scope.TheVariants.{Shapes, Data}
 use Rattle.shx_term.specs.declared.term.Term.{Term}

@@ -9,7 +9,7 @@ use Rattle.shx_term.specs.Pool.{with_terms}
 use Rattle.shx_term.specs.TripleTerms.{terms_of, numbered_all}
 use Rattle.shx_term.specs.Vocabulary.{vocabulary}
 use Rattle.graph_view.specs.Graph.{Graph, AllKnown}
-use Rattle.report_write.specs.declared.names.TheConstants.{TEXT_TOO_LONG}
+use Rattle.shx_term.specs.declared.fault_codes.TheConstants.{TEXT_TOO_LONG}
 use Rattle.ttl_meaning.specs.State.{State}
 use Rattle.ttl_read.specs.Documents.{setting}
 use Rattle.ttl_read.specs.Unique.{IsOneDocument, IsOneFault}

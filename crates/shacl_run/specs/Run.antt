@@ -6,7 +6,7 @@ use Rattle.std.specs.Option.{option_map, option_and_then}
 use Rattle.shx_outside.specs.declared.role.Role.{Role}
 use Rattle.shx_outside.specs.declared.role.Role.TheVariants.{Shapes, Data, Script}
 use Rattle.shx_term.specs.declared.limits.Limits.{Limits}
-use Rattle.shx_term.specs.declared.fault_code.TheConstants.{NOT_BUILT}
+use Rattle.shx_term.specs.declared.fault_codes.TheConstants.{NOT_BUILT}
 use Rattle.graph_view.specs.Graph.{graph_of}
 use Rattle.text_input.specs.Lines.{script_lines, fed_lines}
 use Rattle.report_write.specs.declared.answer.Answer.{Answer}

@@ -1,6 +1,6 @@
 -- Scripts: what each line does to the graph, and what is said to it.
 use Rattle.std.specs.Prelude.{ℕ, ◌+◌, true, List, [], ◌∷◌, ◌++◌, flat_map, Result, Ok, Err}
-use Rattle.shx_term.specs.declared.fault_code.TheConstants.{NOT_BUILT}
+use Rattle.shx_term.specs.declared.fault_codes.TheConstants.{NOT_BUILT}
 use Rattle.shx_term.specs.declared.limits.Limits.{Limits}
 use Rattle.shx_term.specs.declared.triple.TermTriple.{TermTriple}
 use Rattle.graph_view.specs.Graph.{Graph}

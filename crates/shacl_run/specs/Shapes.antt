@@ -9,17 +9,13 @@ use Rattle.shx_term.specs.declared.term.Term.{Term}
 use Rattle.shx_term.specs.declared.term.Term.TheVariants.{Iri, Blank}
 use Rattle.shx_term.specs.declared.triple.Triple.{Triple}
 use Rattle.shx_term.specs.IdOrder.{in_term_order}
+use Rattle.shx_term.specs.TermKinds.{is_iri}
 use Rattle.graph_view.specs.Graph.{Graph, objects_of}
 use Rattle.shacl_run.specs.declared.plan.Shape.{Shape}
 use Rattle.shacl_run.specs.declared.plan.Target.{Target}
 use Rattle.shacl_run.specs.declared.plan.Target.TheVariants.{Node}
 use Rattle.shacl_run.specs.declared.plan.Constraint.{Constraint}
 use Rattle.shacl_run.specs.declared.plan.Constraint.TheVariants.{HasValue}
-
-abbrev pub is_iri : Option Term → Bool
-is_iri (Some (Iri iri)) = true
-is_iri (Some other) = false
-is_iri None = false
 
 abbrev pub is_no_blank_node : Option Term → Bool
 is_no_blank_node (Some (Blank name)) = false

@@ -4,7 +4,7 @@ ghost use Rattle.shx_outside.specs.declared.role.Role.TheVariants.{Shapes, Data,
 ghost use Rattle.shx_outside.specs.Told.{StaysAdmitted, SameTexts, OthersStay};
 ghost use Rattle.shx_term.specs.Limits.{AreUsable};
 ghost use Rattle.text_input.specs.TextRead.{ReadsWhole, IsTooLong, TakesWithin};
-ghost use Rattle.report_write.specs.declared.names.TheConstants.{TEXT_TOO_LONG};
+ghost use Rattle.shx_term.specs.declared.fault_codes.TheConstants.{TEXT_TOO_LONG};
 ghost use Rattle.shacl_run.specs.Prepared.{Prepares, IsFresh, IsReadToEnd, StopCause};
 ghost use Rattle.shacl_run.specs.Readings.{AreRight, Readings};
 
@@ -13,9 +13,9 @@ use crate::open_validation::open_validation;
 use crate::refusal::{Refusal, TextFault};
 use crate::stop::Stop;
 use crate::validation::Validation;
-use report_write::TEXT_TOO_LONG;
 use shx_outside::{Inputs, Role};
 use shx_term::Limits;
+use shx_term::fault_codes::TEXT_TOO_LONG;
 use std::alloc::Global;
 use text_input::{ReadFault, read_text};
 

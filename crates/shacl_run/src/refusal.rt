@@ -1,7 +1,7 @@
 ghost use Rattle.std.specs.Prelude.{◌≡◌, None};
-ghost use Rattle.shx_term.specs.declared.fault_code.TheConstants.{NOT_BUILT};
+ghost use Rattle.shx_term.specs.declared.fault_codes.TheConstants.{NOT_BUILT};
 
-use shx_term::NOT_BUILT;
+use shx_term::fault_codes::NOT_BUILT;
 use std::alloc::AllocError;
 
 /// The fault of a text: its code, and the byte at which it stands, if it has a place.

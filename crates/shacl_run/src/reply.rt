@@ -16,7 +16,8 @@ use edit_script::{Command, LineFault, read_line};
 use graph_view::GraphView;
 use report_write::{Answer, WriteFault, write_answer};
 use shx_outside::Sink;
-use shx_term::{Limits, Memory, NOT_BUILT, TermTriple};
+use shx_term::fault_codes::NOT_BUILT;
+use shx_term::{Limits, Memory, TermTriple};
 use std::alloc::{AllocError, Global};
 
 /// What is said to a line.

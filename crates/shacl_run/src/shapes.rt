@@ -4,7 +4,7 @@ ghost use Rattle.std.specs.Option.{option_map};
 ghost use Rattle.std.specs.List.{list_all};
 ghost use Rattle.shx_term.specs.IdOrder.{in_term_order};
 ghost use Rattle.shacl_run.specs.Shapes.{each_some, shapes_of, shape_at, is_built, has_value_of, target_at};
-ghost use Rattle.shacl_run.specs.Shapes.{is_iri, is_no_blank_node};
+ghost use Rattle.shacl_run.specs.Shapes.{is_no_blank_node};
 ghost use Rattle.graph_view.specs.SameGraph.{HoldsSame};
 
 use crate::plan::{Constraint, Constraints, HasValue, Shape, Target, Targets};
@@ -111,23 +111,10 @@ fn is_built(pool: &Pool, t: &Triple) -> bool
     ensures { result ≡ is_built pool.now.terms t.now }
 {
     match t.p {
-        SH_PATH => is_iri(pool, t.o),
+        SH_PATH => pool.is_iri(t.o),
         SH_TARGET_NODE => is_no_blank_node(pool, t.o),
         SH_HAS_VALUE => true,
         _ => false,
-    }
-}
-
-fn is_iri(pool: &Pool, id: Id) -> bool
-    ensures { result ≡ is_iri (slice_get pool.now.terms id) }
-{
-    if id >= pool.len() {
-        return false;
-    }
-    match pool.term(id) {
-        Term::Iri(_) => true,
-        Term::Blank(_) => false,
-        Term::Lit(_) => false,
     }
 }
 

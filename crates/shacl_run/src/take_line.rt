@@ -11,7 +11,8 @@ use crate::reply::{Reply, refuse_line, reply_to};
 use crate::stop::Stop;
 use crate::validation::Validation;
 use shx_outside::Inputs;
-use shx_term::{Limits, NOT_BUILT};
+use shx_term::Limits;
+use shx_term::fault_codes::NOT_BUILT;
 use std::alloc::Global;
 use text_input::{Line, ReadFault, ScriptReader};
 

@@ -5,6 +5,10 @@ use Rattle.std.specs.Prelude.{flat_map, filter, take, drop, Option, Some, None, 
 use Rattle.std.specs.Prelude.{if◌then◌else◌, ⊤}
 use Rattle.std.specs.List.{list_any, zip}
 use Rattle.std.specs.Option.{is_none, is_some}
+use Rattle.shx_term.specs.declared.fault_codes.TheConstants.{BAD_LIST, TOO_MANY_VALUES, WRONG_KIND}
+use Rattle.shx_term.specs.declared.fault_codes.TheConstants.{NOT_ON_NODE_SHAPE, BAD_PATH}
+use Rattle.shx_term.specs.declared.fault_codes.TheConstants.{NOT_A_PROPERTY_SHAPE, NOT_A_NODE_SHAPE}
+use Rattle.shx_term.specs.declared.fault_codes.TheConstants.{BAD_FLAGS, TOO_MANY_SHAPES, PATH_TOO_DEEP}
 use Rattle.shx_term.specs.declared.limits.Limits.{Limits}
 use Rattle.shx_term.specs.declared.term.Literal.{Literal}
 use Rattle.shx_term.specs.declared.term.Term.{Term}
@@ -16,10 +20,9 @@ use Rattle.shape_decl.specs.Shapes.{members_or_none}
 use Rattle.shape_check.specs.declared.fault.CheckFault.{CheckFault}
 use Rattle.shape_check.specs.declared.fault.CheckFault.TheVariants.{Shape, Memory}
 use Rattle.shape_check.specs.declared.fault.ShapeFault.{ShapeFault}
-use Rattle.shape_check.specs.declared.fault.TheConstants.{TOO_MANY_SHAPES}
 use Rattle.shape_check.specs.declared.kind.Expected.{Expected}
 use Rattle.shape_check.specs.declared.kind.Expected.TheVariants.{Each, Lists}
-use Rattle.shape_check.specs.declared.kind.Kind.{Kind}
+use Rattle.shape_check.specs.declared.kind.ValueKind.{ValueKind}
 use Rattle.shape_check.specs.declared.rule.Rule.{Rule}
 use Rattle.shape_check.specs.declared.rule.Rule.TheVariants.{BadList, TooManyValues, WrongKind}
 use Rattle.shape_check.specs.declared.rule.Rule.TheVariants.{NotOnNodeShape, BadPath, NotAPropertyShape}
@@ -67,7 +70,7 @@ abbrev pub judged : Expected → Declaration → Values → List ℕ
 judged (Each kind) d v = v.values
 judged (Lists kind) d v = flat_map (λ list. members_or_none list.members) (lists_under d v.predicate)
 
-abbrev pub kind_of : Expected → Kind
+abbrev pub kind_of : Expected → ValueKind
 kind_of (Each kind) = kind
 kind_of (Lists kind) = kind
 
@@ -115,15 +118,15 @@ rules =
     ∷ BadFlags ∷ PathTooDeep ∷ []
 
 abbrev pub code_of : Rule → ℕ
-code_of BadList = 20
-code_of TooManyValues = 21
-code_of WrongKind = 22
-code_of NotOnNodeShape = 23
-code_of BadPath = 24
-code_of NotAPropertyShape = 25
-code_of NotANodeShape = 26
-code_of BadFlags = 27
-code_of PathTooDeep = 29
+code_of BadList = BAD_LIST
+code_of TooManyValues = TOO_MANY_VALUES
+code_of WrongKind = WRONG_KIND
+code_of NotOnNodeShape = NOT_ON_NODE_SHAPE
+code_of BadPath = BAD_PATH
+code_of NotAPropertyShape = NOT_A_PROPERTY_SHAPE
+code_of NotANodeShape = NOT_A_NODE_SHAPE
+code_of BadFlags = BAD_FLAGS
+code_of PathTooDeep = PATH_TOO_DEEP
 
 abbrev pub fault_at : Rule → Declaration → ℕ → ℕ → ShapeFault
 fault_at rule d predicate term =

@@ -11,18 +11,12 @@ use Rattle.shx_term.specs.declared.vocabulary.TheConstants.{SH_IRI, SH_BLANK_NOD
 use Rattle.shx_term.specs.declared.vocabulary.TheConstants.{SH_BLANK_NODE_OR_IRI, SH_BLANK_NODE_OR_LITERAL}
 use Rattle.shx_term.specs.declared.vocabulary.TheConstants.{SH_IRI_OR_LITERAL}
 use Rattle.shx_term.specs.Datatypes.{xsd}
+use Rattle.shx_term.specs.TermKinds.{is_iri, is_node}
 use Rattle.value_space.specs.Values.{has_datatype}
-use Rattle.shape_decl.specs.Shapes.{is_node}
-use Rattle.shape_check.specs.declared.kind.Kind.{Kind}
-use Rattle.shape_check.specs.declared.kind.Kind.TheVariants as kind
+use Rattle.shape_check.specs.declared.kind.ValueKind.{ValueKind}
+use Rattle.shape_check.specs.declared.kind.ValueKind.TheVariants as kind
 
 -- ---- terms
-
-abbrev pub is_iri : Option Term → Bool
-is_iri (Some (Iri iri)) = true
-is_iri (Some (Blank name)) = false
-is_iri (Some (Lit literal)) = false
-is_iri None = false
 
 -- a literal of which this is so
 abbrev pub literal_is : (Literal → Bool) → Option Term → Bool
@@ -57,7 +51,7 @@ node_kinds =
     SH_IRI ∷ SH_BLANK_NODE ∷ SH_LITERAL ∷ SH_BLANK_NODE_OR_IRI ∷ SH_BLANK_NODE_OR_LITERAL
     ∷ SH_IRI_OR_LITERAL ∷ []
 
-abbrev pub is_of_kind : List Term → Kind → ℕ → Bool
+abbrev pub is_of_kind : List Term → ValueKind → ℕ → Bool
 is_of_kind terms kind.Anything n = true
 is_of_kind terms kind.Iri n = is_iri (slice_get terms n)
 is_of_kind terms kind.IriOrLiteral n = is_iri (slice_get terms n) || is_literal (slice_get terms n)

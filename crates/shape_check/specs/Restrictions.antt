@@ -18,7 +18,7 @@ use Rattle.shx_term.specs.declared.vocabulary.TheConstants.{SH_QUALIFIED_VALUE_S
 use Rattle.shx_term.specs.declared.vocabulary.TheConstants.{SH_IGNORED_PROPERTIES, SH_IN}
 use Rattle.shape_check.specs.declared.kind.Expected.{Expected}
 use Rattle.shape_check.specs.declared.kind.Expected.TheVariants.{Each, Lists}
-use Rattle.shape_check.specs.declared.kind.Kind.TheVariants as kind
+use Rattle.shape_check.specs.declared.kind.ValueKind.TheVariants as kind
 
 pub record Restriction : Type 0 where
   pub predicates : List ℕ

@@ -10,8 +10,9 @@ use crate::lists::list_parameters;
 use crate::offenders::first_offender;
 use crate::rule::rules;
 use crate::shapes::PropertyShapes;
-use crate::{CheckFault, Rule, ShapeFault, TOO_MANY_SHAPES};
+use crate::{CheckFault, Rule, ShapeFault};
 use shape_decl::ShapeDecl;
+use shx_term::fault_codes::TOO_MANY_SHAPES;
 use shx_term::{Limits, Pool};
 use std::alloc::Global;
 

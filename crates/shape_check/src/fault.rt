@@ -2,13 +2,10 @@
 use shx_term::Id;
 use std::alloc::{AllocError, AllocFailed};
 
-/// The code of a fault that no rule of a single shape has: there are more shapes than the limit.
-pub const TOO_MANY_SHAPES: u32 = 28;
-
 /// Which rule is broken, and by which term of which shape.
 #[derive(Clone, Copy, Debug, PartialEq, Eq)]
 pub struct ShapeFault {
-    /// The code of a [`Rule`](crate::Rule), or [`TOO_MANY_SHAPES`].
+    /// The code of a [`Rule`](crate::Rule), or `TOO_MANY_SHAPES`.
     pub code: u32,
     /// The shape; of too many, the first past the limit, in term order.
     pub shape: Id,

@@ -2,7 +2,7 @@
 
 /// Of which kind a term is.
 #[derive(Clone, Copy, Debug, PartialEq, Eq)]
-pub enum Kind {
+pub enum ValueKind {
     Anything,
     Iri,
     IriOrLiteral,
@@ -24,7 +24,7 @@ pub enum Kind {
 #[derive(Clone, Copy, Debug, PartialEq, Eq)]
 pub enum Expected {
     /// Terms of a kind.
-    Each(Kind),
+    Each(ValueKind),
     /// Lists, whose members are of a kind.
-    Lists(Kind),
+    Lists(ValueKind),
 }

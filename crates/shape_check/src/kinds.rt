@@ -2,12 +2,11 @@
 ghost use Rattle.std.specs.Prelude.{◌≡◌, Bool, false, not, find, slice_get};
 ghost use Rattle.std.specs.Option.{option_map_or};
 ghost use Rattle.shx_term.specs.declared.term.Literal.{Literal};
-ghost use Rattle.shape_decl.specs.Shapes.{is_node};
 ghost use Rattle.shape_check.specs.Faults.{has_unknown_flag};
-ghost use Rattle.shape_check.specs.Kinds.{is_boolean, is_integer, is_iri, is_message, is_of_kind, is_string};
+ghost use Rattle.shape_check.specs.Kinds.{is_boolean, is_integer, is_message, is_of_kind, is_string};
 ghost use Rattle.shape_check.specs.Kinds.{literal_is};
 
-use crate::Kind;
+use crate::ValueKind;
 use shx_term::vocabulary::{
     SH_BLANK_NODE, SH_BLANK_NODE_OR_IRI, SH_BLANK_NODE_OR_LITERAL, SH_IRI, SH_IRI_OR_LITERAL,
     SH_LITERAL,
@@ -25,27 +24,27 @@ const NODE_KINDS: [Id; 6] = [
 ];
 
 /// The first of some numbers whose term is of another kind.
-pub(crate) fn first_unfit(pool: &Pool, kind: Kind, ids: &[Id]) -> Option<Id>
+pub(crate) fn first_unfit(pool: &Pool, kind: ValueKind, ids: &[Id]) -> Option<Id>
     ensures { result ≡ find (λ n. not (is_of_kind pool.now.terms kind n)) ids.now }
 {
     ids.iter().copied().find(|id| !is_of_kind(pool, kind, *id))
 }
 
 /// Whether the term of a number is of a kind; where no term has the number, it is of none but `Anything`.
-pub(crate) fn is_of_kind(pool: &Pool, kind: Kind, id: Id) -> bool
+pub(crate) fn is_of_kind(pool: &Pool, kind: ValueKind, id: Id) -> bool
     ensures { result ≡ is_of_kind pool.now.terms kind id }
 {
     match kind {
-        Kind::Anything => true,
-        Kind::Iri => is_iri(pool, id),
-        Kind::IriOrLiteral => is_iri(pool, id) || literal_at(pool, id).is_some(),
-        Kind::IriOrBlank => is_iri_or_blank(pool, id),
-        Kind::Literal => literal_at(pool, id).is_some(),
-        Kind::String => literal_at(pool, id).is_some_and(is_string),
-        Kind::Message => literal_at(pool, id).is_some_and(is_message),
-        Kind::Boolean => literal_at(pool, id).is_some_and(is_boolean),
-        Kind::Integer => literal_at(pool, id).is_some_and(is_integer),
-        Kind::NodeKind => NODE_KINDS.contains(&id),
+        ValueKind::Anything => true,
+        ValueKind::Iri => pool.is_iri(id),
+        ValueKind::IriOrLiteral => pool.is_iri(id) || literal_at(pool, id).is_some(),
+        ValueKind::IriOrBlank => pool.is_iri_or_blank(id),
+        ValueKind::Literal => literal_at(pool, id).is_some(),
+        ValueKind::String => literal_at(pool, id).is_some_and(is_string),
+        ValueKind::Message => literal_at(pool, id).is_some_and(is_message),
+        ValueKind::Boolean => literal_at(pool, id).is_some_and(is_boolean),
+        ValueKind::Integer => literal_at(pool, id).is_some_and(is_integer),
+        ValueKind::NodeKind => NODE_KINDS.contains(&id),
     }
 }
 
@@ -56,32 +55,6 @@ pub(crate) fn first_with_unknown_flag(pool: &Pool, ids: &[Id]) -> Option<Id>
     ids.iter()
         .copied()
         .find(|id| literal_at(pool, *id).is_some_and(has_unknown_flag))
-}
-
-fn is_iri(pool: &Pool, id: Id) -> bool
-    ensures { result ≡ is_iri (slice_get pool.now.terms id) }
-{
-    if id >= pool.len() {
-        return false;
-    }
-    match pool.term(id) {
-        Term::Iri(_) => true,
-        Term::Blank(_) => false,
-        Term::Lit(_) => false,
-    }
-}
-
-fn is_iri_or_blank(pool: &Pool, id: Id) -> bool
-    ensures { result ≡ is_node pool.now.terms id }
-{
-    if id >= pool.len() {
-        return false;
-    }
-    match pool.term(id) {
-        Term::Iri(_) => true,
-        Term::Blank(_) => true,
-        Term::Lit(_) => false,
-    }
 }
 
 fn literal_at(pool: &Pool, id: Id) -> Option<&Literal>

@@ -31,7 +31,7 @@ mod rule;
 mod shapes;
 
 pub use checking::check;
-pub use fault::{CheckFault, ShapeFault, TOO_MANY_SHAPES};
-pub use kind::{Expected, Kind};
+pub use fault::{CheckFault, ShapeFault};
+pub use kind::{Expected, ValueKind};
 pub use laws::lists_stand_under_their_parameters;
 pub use rule::Rule;

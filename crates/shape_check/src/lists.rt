@@ -10,7 +10,7 @@ ghost use Rattle.shape_check.specs.Kinds.{is_of_kind};
 
 use crate::kinds::is_of_kind;
 use crate::restrictions::restriction_of;
-use crate::{Expected, Kind};
+use crate::{Expected, ValueKind};
 use shape_decl::{Declared, ListValue};
 use shx_term::{Id, Memory, Pool};
 use std::alloc::Global;
@@ -60,7 +60,7 @@ pub(crate) fn first_unfit_member(
     lists: &[ListValue],
     p: Id,
     pool: &Pool,
-    kind: Kind,
+    kind: ValueKind,
 ) -> Option<Id>
     ensures { result ≡ find (λ n. not (is_of_kind pool.now.terms kind n))
         (flat_map (λ under. members_or_none (told_list under.1).members)

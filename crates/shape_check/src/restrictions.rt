@@ -3,7 +3,7 @@ ghost use Rattle.std.specs.Prelude.{◌≡◌, map};
 ghost use Rattle.shape_check.specs.Restrictions.{property_parameters, restriction_among, restriction_of};
 ghost use Rattle.shape_check.specs.Told.{told_restriction};
 
-use crate::{Expected, Kind};
+use crate::{Expected, ValueKind};
 use shx_term::Id;
 use shx_term::vocabulary::*;
 
@@ -20,12 +20,12 @@ const RESTRICTIONS: [Restriction; 16] = [
     Restriction {
         one: true,
         predicates: &[SH_PATH],
-        expected: Expected::Each(Kind::Anything),
+        expected: Expected::Each(ValueKind::Anything),
     },
     Restriction {
         one: false,
         predicates: &[SH_TARGET_NODE],
-        expected: Expected::Each(Kind::IriOrLiteral),
+        expected: Expected::Each(ValueKind::IriOrLiteral),
     },
     Restriction {
         one: false,
@@ -39,17 +39,17 @@ const RESTRICTIONS: [Restriction; 16] = [
             SH_LESS_THAN,
             SH_LESS_THAN_OR_EQUALS,
         ],
-        expected: Expected::Each(Kind::Iri),
+        expected: Expected::Each(ValueKind::Iri),
     },
     Restriction {
         one: true,
         predicates: &[SH_SEVERITY, SH_DATATYPE],
-        expected: Expected::Each(Kind::Iri),
+        expected: Expected::Each(ValueKind::Iri),
     },
     Restriction {
         one: false,
         predicates: &[SH_MESSAGE],
-        expected: Expected::Each(Kind::Message),
+        expected: Expected::Each(ValueKind::Message),
     },
     Restriction {
         one: true,
@@ -59,12 +59,12 @@ const RESTRICTIONS: [Restriction; 16] = [
             SH_QUALIFIED_VALUE_SHAPES_DISJOINT,
             SH_CLOSED,
         ],
-        expected: Expected::Each(Kind::Boolean),
+        expected: Expected::Each(ValueKind::Boolean),
     },
     Restriction {
         one: true,
         predicates: &[SH_NODE_KIND],
-        expected: Expected::Each(Kind::NodeKind),
+        expected: Expected::Each(ValueKind::NodeKind),
     },
     Restriction {
         one: true,
@@ -76,7 +76,7 @@ const RESTRICTIONS: [Restriction; 16] = [
             SH_QUALIFIED_MIN_COUNT,
             SH_QUALIFIED_MAX_COUNT,
         ],
-        expected: Expected::Each(Kind::Integer),
+        expected: Expected::Each(ValueKind::Integer),
     },
     Restriction {
         one: true,
@@ -86,42 +86,42 @@ const RESTRICTIONS: [Restriction; 16] = [
             SH_MAX_EXCLUSIVE,
             SH_MAX_INCLUSIVE,
         ],
-        expected: Expected::Each(Kind::Literal),
+        expected: Expected::Each(ValueKind::Literal),
     },
     Restriction {
         one: true,
         predicates: &[SH_PATTERN, SH_FLAGS],
-        expected: Expected::Each(Kind::String),
+        expected: Expected::Each(ValueKind::String),
     },
     Restriction {
         one: true,
         predicates: &[SH_LANGUAGE_IN],
-        expected: Expected::Lists(Kind::String),
+        expected: Expected::Lists(ValueKind::String),
     },
     Restriction {
         one: true,
         predicates: &[SH_IGNORED_PROPERTIES],
-        expected: Expected::Lists(Kind::Iri),
+        expected: Expected::Lists(ValueKind::Iri),
     },
     Restriction {
         one: true,
         predicates: &[SH_IN],
-        expected: Expected::Lists(Kind::Anything),
+        expected: Expected::Lists(ValueKind::Anything),
     },
     Restriction {
         one: false,
         predicates: &[SH_AND, SH_OR, SH_XONE],
-        expected: Expected::Lists(Kind::IriOrBlank),
+        expected: Expected::Lists(ValueKind::IriOrBlank),
     },
     Restriction {
         one: false,
         predicates: &[SH_NOT, SH_NODE, SH_PROPERTY],
-        expected: Expected::Each(Kind::IriOrBlank),
+        expected: Expected::Each(ValueKind::IriOrBlank),
     },
     Restriction {
         one: true,
         predicates: &[SH_QUALIFIED_VALUE_SHAPE],
-        expected: Expected::Each(Kind::IriOrBlank),
+        expected: Expected::Each(ValueKind::IriOrBlank),
     },
 ];
 
@@ -153,7 +153,7 @@ fn restriction_among(rows: &[Restriction], predicate: Id) -> Restriction
     }
     Restriction {
         predicates: &[],
-        expected: Expected::Each(Kind::Anything),
+        expected: Expected::Each(ValueKind::Anything),
         one: false,
     }
 }

@@ -2,6 +2,8 @@
 ghost use Rattle.std.specs.Prelude.{◌≡◌};
 ghost use Rattle.shape_check.specs.Faults.{code_of, rules};
 
+use shx_term::fault_codes::*;
+
 /// A rule that each shape keeps, by what it forbids.
 #[derive(Clone, Copy, Debug, PartialEq, Eq)]
 pub enum Rule {
@@ -51,15 +53,15 @@ impl Rule {
         ensures { result ≡ code_of self }
     {
         match self {
-            Rule::BadList => 20,
-            Rule::TooManyValues => 21,
-            Rule::WrongKind => 22,
-            Rule::NotOnNodeShape => 23,
-            Rule::BadPath => 24,
-            Rule::NotAPropertyShape => 25,
-            Rule::NotANodeShape => 26,
-            Rule::BadFlags => 27,
-            Rule::PathTooDeep => 29,
+            Rule::BadList => BAD_LIST,
+            Rule::TooManyValues => TOO_MANY_VALUES,
+            Rule::WrongKind => WRONG_KIND,
+            Rule::NotOnNodeShape => NOT_ON_NODE_SHAPE,
+            Rule::BadPath => BAD_PATH,
+            Rule::NotAPropertyShape => NOT_A_PROPERTY_SHAPE,
+            Rule::NotANodeShape => NOT_A_NODE_SHAPE,
+            Rule::BadFlags => BAD_FLAGS,
+            Rule::PathTooDeep => PATH_TOO_DEEP,
         }
     }
 }

@@ -18,7 +18,8 @@ use Rattle.path_eval.specs.Values.{nodes_reached}
 use Rattle.path_eval.proofs.MeetsLemmas.{path_lists}
 use Rattle.shape_decl.specs.Lists.{IsList, list_of}
 use Rattle.shape_decl.specs.Shapes.{IsOfShapeClass, IsShapeSubject, IsShapeValue, IsShapeMember, IsShape}
-use Rattle.shape_decl.specs.Shapes.{candidates, is_node, members_or_none, members_with, objects_with}
+use Rattle.shx_term.specs.TermKinds.{is_node}
+use Rattle.shape_decl.specs.Shapes.{candidates, members_or_none, members_with, objects_with}
 use Rattle.shape_decl.specs.Shapes.{shape_classes, shape_nodes, subjects_with}
 use Rattle.shape_decl.specs.Tables.{shape_list_predicates, shape_predicates, subject_predicates}
 use Rattle.shape_decl.proofs.ListLemmas.{lists_read}

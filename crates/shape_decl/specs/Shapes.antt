@@ -7,22 +7,13 @@ use Rattle.shx_term.specs.declared.triple.Triple.{Triple}
 use Rattle.shx_term.specs.declared.vocabulary.TheConstants.{SH_NODE_SHAPE, SH_PROPERTY_SHAPE}
 use Rattle.shx_term.specs.IdOrder.{id_cmp, in_term_order}
 use Rattle.shx_term.specs.InOrder.{Lists}
+use Rattle.shx_term.specs.TermKinds.{is_node}
 use Rattle.graph_view.specs.Graph.{Graph, AllKnown, triples_with}
 use Rattle.path_eval.specs.declared.direction.Direction.TheVariants.{Backward}
 use Rattle.path_eval.specs.Instances.{IsInstance, instance_route}
 use Rattle.path_eval.specs.Values.{nodes_reached}
 use Rattle.shape_decl.specs.Lists.{IsList, list_of}
 use Rattle.shape_decl.specs.Tables.{shape_list_predicates, shape_predicates, subject_predicates}
-
--- an IRI or a blank node
-abbrev pub is_node_term : Option Term → Bool
-is_node_term (Some (Iri iri)) = true
-is_node_term (Some (Blank name)) = true
-is_node_term (Some (Lit literal)) = false
-is_node_term None = false
-
-abbrev pub is_node : List Term → ℕ → Bool
-is_node terms n = is_node_term (slice_get terms n)
 
 -- ---- the four ways to be a shape
 

@@ -7,7 +7,8 @@ ghost use Rattle.path_eval.specs.Instances.{instance_route};
 ghost use Rattle.path_eval.specs.Route.{Route, route_of};
 ghost use Rattle.path_eval.specs.Values.{nodes_reached};
 ghost use Rattle.shape_decl.specs.Lists.{list_of};
-ghost use Rattle.shape_decl.specs.Shapes.{is_node, members_or_none, members_with, objects_with, shape_nodes};
+ghost use Rattle.shx_term.specs.TermKinds.{is_node};
+ghost use Rattle.shape_decl.specs.Shapes.{members_or_none, members_with, objects_with, shape_nodes};
 ghost use Rattle.shape_decl.specs.Shapes.{candidates, subjects_with};
 
 use crate::read_list;
@@ -146,18 +147,5 @@ fn add_members<V: GraphView>(
 fn keep_nodes(pool: &Pool, found: &mut Vec<Id>)
     ensures { found.new.items ≡ filter (is_node pool.now.terms) found.old.items }
 {
-    found.retain(|n| is_iri_or_blank(pool, *n));
-}
-
-fn is_iri_or_blank(pool: &Pool, n: Id) -> bool
-    ensures { result ≡ is_node pool.now.terms n }
-{
-    if n >= pool.len() {
-        return false;
-    }
-    match pool.term(n) {
-        Term::Iri(_) => true,
-        Term::Blank(_) => true,
-        Term::Lit(_) => false,
-    }
+    found.retain(|n| pool.is_iri_or_blank(*n));
 }

@@ -1,4 +1,5 @@
 pub mod Appended
+pub mod Characters
 pub mod Datatypes
 pub mod FaultCodes
 pub mod IdOrder
@@ -10,6 +11,7 @@ pub mod NumberForm
 pub mod Pool
 pub mod Spelling
 pub mod TermHash
+pub mod TermKinds
 pub mod TermOrder
 pub mod TermOrderLaws
 pub mod Triple

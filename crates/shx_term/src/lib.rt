@@ -7,6 +7,7 @@
 //! | `order.rt` | the order of terms, and their equality and hash |
 //! | `pieces.rt` | `Pieces`: what takes a text in pieces |
 //! | `spelling.rt` | `spell`, `write_term`: how a term is written |
+//! | `scheme.rt` | `is_scheme`: what an absolute IRI begins with |
 //! | `triple.rt` | `Id`, `Triple` over numbers, `TermTriple` over terms |
 //! | `pool.rt` | `Pool`: distinct terms by number |
 //! | `vocabulary.rt` | the 62 terms that every pool begins with, and a constant for each number |
@@ -26,6 +27,7 @@ mod memory;
 mod order;
 mod pieces;
 mod pool;
+mod scheme;
 mod spelling;
 mod steps;
 mod term;
@@ -40,6 +42,7 @@ pub use memory::Memory;
 pub use order::{cmp_terms, equal_terms_are_one};
 pub use pieces::Pieces;
 pub use pool::{Pool, PoolFault, term_order_lists};
+pub use scheme::is_scheme;
 pub use spelling::{XSD_STRING, spell, write_term};
 pub use steps::Steps;
 pub use term::{BlankName, Literal, LocalName, Scope, Term};

@@ -3,6 +3,7 @@ ghost use Rattle.std.specs.Prelude.{is_some, IfOk, IfErr, OnOk, OnErr};
 ghost use Rattle.std.specs.List.{IsDistinct};
 ghost use Rattle.shx_term.specs.TermOrder.{same_term, term_cmp};
 ghost use Rattle.shx_term.specs.Pool.{Pooled, is_held, with_term, IsFullFor, HasRoomFor};
+ghost use Rattle.shx_term.specs.TermKinds.{is_iri, is_node};
 ghost use Rattle.shx_term.specs.Vocabulary.{HasVocabulary};
 ghost use Rattle.shx_term.specs.IdOrder.{id_cmp, in_term_order, TermOrderLists};
 ghost use Rattle.shx_term.specs.TripleOrder.{triple_cmp, in_triple_order, TripleOrderLists};
@@ -110,6 +111,34 @@ impl Pool {
         ensures { slice_get self.now.terms id ≡ Some result.now }
     {
         &self.terms.as_slice()[id as usize]
+    }
+
+    /// Whether the number has a term, and that is an IRI. It takes no memory.
+    pub fn is_iri(&self, id: Id) -> bool
+        ensures { result ≡ is_iri (slice_get self.now.terms id) }
+    {
+        if id >= self.len() {
+            return false;
+        }
+        match self.term(id) {
+            Term::Iri(_) => true,
+            Term::Blank(_) => false,
+            Term::Lit(_) => false,
+        }
+    }
+
+    /// Whether the number has a term, and that is an IRI or a blank node. It takes no memory.
+    pub fn is_iri_or_blank(&self, id: Id) -> bool
+        ensures { result ≡ is_node self.now.terms id }
+    {
+        if id >= self.len() {
+            return false;
+        }
+        match self.term(id) {
+            Term::Iri(_) => true,
+            Term::Blank(_) => true,
+            Term::Lit(_) => false,
+        }
     }
 
     /// How many terms are held. The terms are distinct, and begin with the vocabulary.

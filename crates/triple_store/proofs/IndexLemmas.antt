@@ -10,7 +10,8 @@ use Rattle.std.proofs.Common.{refl, sym, ap, ◌∙◌, subst, inl, inr, true≢
 use Rattle.std.proofs.lemmas.Map.Views.{tells_apart}
 use Rattle.shx_term.specs.declared.triple.Triple.{Triple}
 use Rattle.shx_term.proofs.MemberLemmas.{Contains-head, Contains-tail, Contains-map, Contains-from_map}
-use Rattle.shx_term.proofs.MemberLemmas.{Contains-test, Contains-remove, each_of_All}
+use Rattle.shx_term.proofs.MemberLemmas.{Contains-test, Contains-entered, Contains-remove}
+use Rattle.shx_term.proofs.MemberLemmas.{each_of_All}
 use Rattle.graph_view.specs.Graph.{HasAlso, HasNot}
 use Rattle.triple_store.proofs.ArrangementLemmas.{triple_back, entry_back, entry_cmp_total, entry_cmp_exact}
 use Rattle.triple_store.proofs.RangeLemmas.{greatest, is_between, between_first, between_pair}
@@ -31,30 +32,6 @@ same_entry_exact = tells_apart entry_cmp_exact
 
 Contains-entry : (es : List Entry) (e : Entry) → (list_any (same_entry e) es ≡ true) ↔ Contains es e
 Contains-entry = Contains-test same_entry same_entry_equiv same_entry_exact
-
--- the entries after one was added
-Contains-entered : (old new : List Entry) (e : Entry)
-    → ((d : Entry) → list_any (same_entry d) new
-    ≡ (if same_entry e d then true else list_any (same_entry d) old))
-    → (d : Entry) → Contains new d ↔ (Contains old d ⊎ (d ≡ e))
-Contains-entered old new e entered d =
-    elim (same_entry e d) as
-    (λ b. same_entry e d ≡ b
-    → list_any (same_entry d) new ≡ (if b then true else list_any (same_entry d) old)
-    → Contains new d ↔ (Contains old d ⊎ (d ≡ e))) [
-      | true ↦ λ tied there. (
-        λ _. inr (sym (same_entry_exact e d tied)),
-        λ _. (Contains-entry new d).0 there,
-      )
-      | false ↦ λ apart kept. (
-        λ c. inl ((Contains-entry old d).0 (sym kept ∙ (Contains-entry new d).1 c)),
-        λ h. elim h [
-          | inl c ↦ (Contains-entry new d).0 (kept ∙ (Contains-entry old d).1 c)
-          | inr same ↦
-              absurd (true≢false (sym (same_entry_equiv.refl e) ∙ ap (same_entry e) (sym same) ∙ apart))
-        ],
-      )
-    ] refl (entered d)
 
 module _ (a : Arrangement) where
   -- a triple is there where its entry is
@@ -110,7 +87,7 @@ module _ (a : Arrangement) where
       → HasAlso (map (triple_at a) old) (map (triple_at a) new) t
   HasAlso-entered old new t e made entered = record {
     each = λ u.
-        let there = Contains-entered old new e entered (entry_of a u) in
+        let there = Contains-entered same_entry same_entry_equiv same_entry_exact old new e entered (entry_of a u) in
         let before = held_at old u in
         let after = held_at new u in (
           λ c. elim (there.0 (after.0 c)) [

@@ -19,17 +19,6 @@ use Rattle.ttl_meaning.specs.declared.stated.Excess.{Excess}
 use Rattle.ttl_meaning.specs.declared.stated.Excess.TheVariants.{Triples, Terms}
 use Rattle.ttl_meaning.specs.IsStated.{Bounds, IsStated, IsWithin, terms_with}
 
--- the triple over the numbers that its terms have when they are entered in turn
-pub numbered-in_turn : (one two three : List Term) (t : TermTriple) (s p o : ℕ)
-    → two ≡ with_term one t.p → three ≡ with_term two t.o
-    → number_in one t.s ≡ Some s → number_in two t.p ≡ Some p → number_in three t.o ≡ Some o
-    → numbered three t ≡ Some (record { s = s; p = p; o = o })
-numbered-in_turn one two three t s p o second third first_id second_id third_id =
-    let first : number_in three t.s ≡ Some s =
-    rw (third, second) (number_from_place one (t.p ∷ (t.o ∷ [])) t.s s first_id) in
-    let next : number_in three t.p ≡ Some p = rw third (number_from_place two (t.o ∷ []) t.p p second_id) in
-    rw (first, next, third_id) refl
-
 -- triples whose terms are held keep their numbers where more terms are held behind them
 numbers_stay : (terms more : List Term) (ts : List TermTriple) → list_all (is_held terms) (terms_of ts) ≡ true
     → numbered_all (terms ++ more) ts ≡ numbered_all terms ts

@@ -10,6 +10,7 @@ use Rattle.shx_term.specs.declared.term.Term.TheVariants.{Blank, Lit}
 use Rattle.shx_term.specs.declared.term.Literal.{Literal}
 use Rattle.shx_term.specs.declared.term.Scope.{Scope}
 use Rattle.shx_term.specs.declared.term.LocalName.TheVariants.{Labelled, Anonymous}
+use Rattle.shx_term.specs.Datatypes.{xsd}
 use Rattle.shx_term.specs.WideLiterals.{is_wide}
 use Rattle.iri_resolve.specs.Characters.{is_allowed}
 use Rattle.iri_resolve.specs.Resolution.{resolved}
@@ -68,9 +69,6 @@ iri_of text token s = iri_of_kind token.kind text token s
 abbrev pub judged : Literal → Result Term TermFaultKind
 judged literal =
     if is_float literal then Err FloatLiteral else if is_wide literal then Err WideValue else Ok (Lit literal)
-
-abbrev pub xsd : List ℕ → List ℕ
-xsd name = codes "http://www.w3.org/2001/XMLSchema#" ++ name
 
 -- the datatype of a literal that is written without quotes
 abbrev pub datatype_of : TokenKind → List ℕ

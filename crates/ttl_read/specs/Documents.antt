@@ -5,6 +5,9 @@ use Rattle.std.specs.Prelude.{Some, None, if◌then◌else◌}
 use Rattle.std.specs.Char.{encode_utf8}
 use Rattle.std.specs.Cmp.Lexicographic.{pointwise}
 use Rattle.std.specs.Str.{IsUtf8, IsValidUpTo}
+use Rattle.shx_term.specs.declared.fault_codes.TheConstants.{NOT_UTF8, SYNTAX, UNKNOWN_PREFIX}
+use Rattle.shx_term.specs.declared.fault_codes.TheConstants.{BAD_IRI, FLOAT_LITERAL, WIDE_VALUE}
+use Rattle.shx_term.specs.declared.fault_codes.TheConstants.{TOO_DEEP, TEXT_TRIPLES, TEXT_TERMS}
 use Rattle.shx_term.specs.declared.limits.Limits.{Limits}
 use Rattle.shx_term.specs.declared.term.Scope.{Scope}
 use Rattle.shx_term.specs.declared.term.Term.{Term}
@@ -71,17 +74,17 @@ HasCause t x TooManyTerms =
 
 -- the codes of faults, and their bytes, where the statement begins at this byte
 abbrev pub code_of_term : TermFaultKind → ℕ
-code_of_term UnknownPrefix = 3
-code_of_term BadIri = 4
-code_of_term FloatLiteral = 5
-code_of_term WideValue = 6
+code_of_term UnknownPrefix = UNKNOWN_PREFIX
+code_of_term BadIri = BAD_IRI
+code_of_term FloatLiteral = FLOAT_LITERAL
+code_of_term WideValue = WIDE_VALUE
 
 abbrev pub code_of : Cause → ℕ
-code_of (TooDeep at) = 7
-code_of NoStatement = 2
+code_of (TooDeep at) = TOO_DEEP
+code_of NoStatement = SYNTAX
 code_of (BadTerm fault) = code_of_term fault.kind
-code_of TooManyTriples = 8
-code_of TooManyTerms = 9
+code_of TooManyTriples = TEXT_TRIPLES
+code_of TooManyTerms = TEXT_TERMS
 
 abbrev pub place_of : ℕ → Cause → ℕ
 place_of start (TooDeep at) = at
@@ -139,5 +142,5 @@ pub record HasBadStatement (t : Setting) (x : Place) (code at : ℕ) : Type 0 wh
 -- has a fault
 abbrev pub HasFault : Setting → Scope → List ℕ → ℕ → ℕ → Type 0
 HasFault t scope base code at =
-    ((code ≡ 1) × (IsUtf8 t.text → ⊥) × IsValidUpTo t.text at)
+    ((code ≡ NOT_UTF8) × (IsUtf8 t.text → ⊥) × IsValidUpTo t.text at)
     ⊎ (IsUtf8 t.text × HasBadStatement t (start_of t.text scope base) code at)

@@ -1,6 +1,7 @@
 -- The term that begins at a token, for whoever knows what the text before it states (Turtle 1.1, sections
 -- 6.5 and 7.2).
 use Rattle.std.specs.Prelude.{◌≡◌, ℕ, ◌⊎◌, List, drop, Result, Ok, Err, true, false}
+use Rattle.shx_term.specs.declared.fault_codes.TheConstants.{SYNTAX, UNKNOWN_BLANK}
 use Rattle.shx_term.specs.declared.term.BlankName.{BlankName}
 use Rattle.shx_term.specs.declared.term.Term.{Term}
 use Rattle.shx_term.specs.declared.term.Term.TheVariants.{Iri, Blank}
@@ -38,7 +39,7 @@ IsNodeFound text token document answer =
     ((node : BlankName) × HasNode document node × (spelling_of (Blank node) ≡ token_text text token)
     × (answer ≡ A (Blank node) token.end))
     ⊎ (((node : BlankName) → HasNode document node → spelling_of (Blank node) ≡ token_text text token → ⊥)
-    × (answer ≡ No 57 token.start))
+    × (answer ≡ No UNKNOWN_BLANK token.start))
 
 -- a string that ends here, with this datatype
 abbrev pub found_typed : List ℕ → Token → Token → Result (List ℕ) TermFaultKind → Found
@@ -78,7 +79,7 @@ pub data IsFound (text : List ℕ) (token : Token) (document : Document) (answer
   AString : is_string token.kind ≡ true → IsStringFound text token document answer
       → IsFound text token document answer
   Other : is_iri token.kind ≡ false → is_blank_label token.kind ≡ false → is_bare_literal token.kind ≡ false
-      → is_string token.kind ≡ false → answer ≡ No 2 token.start → IsFound text token document answer
+      → is_string token.kind ≡ false → answer ≡ No SYNTAX token.start → IsFound text token document answer
 
 -- a fault that is found; want of memory is none
 abbrev pub IsFaultFound : List ℕ → Token → Document → TtlFault → Type 0

@@ -9,6 +9,7 @@ ghost use Rattle.ttl_read.specs.Stated.{FaultStands, States};
 use crate::fault::TtlFault;
 use crate::reader::{Reader, Tokens};
 use crate::statements::statements;
+use shx_term::fault_codes::NOT_UTF8;
 use shx_term::{IriText, Limits, Pool, Scope};
 use std::alloc::Global;
 use std::str;
@@ -41,7 +42,7 @@ pub fn read_document(
     match str::from_utf8(text) {
         Ok(text) => read_text(alloc, text, base, scope, limits, pool),
         Err(error) => Err(TtlFault::At {
-            code: 1,
+            code: NOT_UTF8,
             at: error.valid_up_to() as u64,
         }),
     }

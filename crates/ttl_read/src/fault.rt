@@ -1,6 +1,7 @@
 ghost use Rattle.std.specs.Prelude.{◌≡◌};
 ghost use Rattle.ttl_read.specs.Documents.{code_of_term};
 
+use shx_term::fault_codes::{BAD_IRI, FLOAT_LITERAL, UNKNOWN_PREFIX, WIDE_VALUE};
 use std::alloc::AllocError;
 use ttl_meaning::TermFaultKind;
 
@@ -18,7 +19,7 @@ pub enum TtlFault {
     /// | 5, 6 | `FloatLiteral` and `WideValue`, where the literal begins |
     /// | 7 | `TooDeep`, at the bracket that opens one too many |
     /// | 8, 9 | `TooManyTriples` and `TooManyTerms`, at the start of the statement |
-    /// | 57 | `UnknownBlankNode`, at the label; of a term alone |
+    /// | 57 | `UnknownBlank`, at the label; of a term alone |
     At { code: u32, at: u64 },
     Memory,
 }
@@ -39,9 +40,9 @@ pub(crate) fn code_of(kind: TermFaultKind) -> u32
     ensures { result ≡ code_of_term kind }
 {
     match kind {
-        TermFaultKind::UnknownPrefix => 3,
-        TermFaultKind::BadIri => 4,
-        TermFaultKind::FloatLiteral => 5,
-        TermFaultKind::WideValue => 6,
+        TermFaultKind::UnknownPrefix => UNKNOWN_PREFIX,
+        TermFaultKind::BadIri => BAD_IRI,
+        TermFaultKind::FloatLiteral => FLOAT_LITERAL,
+        TermFaultKind::WideValue => WIDE_VALUE,
     }
 }

@@ -10,6 +10,7 @@ use crate::depth::too_deep;
 use crate::fault::{TtlFault, code_of};
 use crate::reader::{Reader, Refused};
 use crate::statement::statement;
+use shx_term::fault_codes::{SYNTAX, TEXT_TERMS, TEXT_TRIPLES, TOO_DEEP};
 use shx_term::{Limits, Pool};
 use ttl_meaning::Excess;
 use ttl_tokens::TokenKind;
@@ -56,14 +57,14 @@ fn sound_statement(
     let start = reader.tokens.start();
     if let Some(at) = too_deep_here(text, reader, limits.turtle_depth) {
         return Err(TtlFault::At {
-            code: 7,
+            code: TOO_DEEP,
             at: at as u64,
         });
     }
     match statement(text, reader, pool, limits.turtle_depth) {
         Ok(()) => judge(reader, pool, start),
         Err(Refused::Syntax) => Err(TtlFault::At {
-            code: 2,
+            code: SYNTAX,
             at: start as u64,
         }),
         Err(Refused::Memory) => Err(TtlFault::Memory),
@@ -97,11 +98,11 @@ fn judge(reader: &Reader, pool: &Pool, start: usize) -> Result<(), TtlFault>
     match reader.reading.excess() {
         None => Ok(()),
         Some(Excess::Triples) => Err(TtlFault::At {
-            code: 8,
+            code: TEXT_TRIPLES,
             at: start as u64,
         }),
         Some(Excess::Terms) => Err(TtlFault::At {
-            code: 9,
+            code: TEXT_TERMS,
             at: start as u64,
         }),
     }

@@ -17,6 +17,7 @@ ghost use Rattle.ttl_read.specs.ReadTerm.{found, found_iri, found_typed};
 use crate::fault::{TtlFault, code_of};
 use crate::marks::{is_bare_literal, is_blank_label, is_carets, is_iri, is_lang_tag, is_string};
 use shx_term::Term;
+use shx_term::fault_codes::{SYNTAX, UNKNOWN_BLANK};
 use std::alloc::Global;
 use ttl_meaning::{
     Document, NoNode, NoTerm, bare_literal, plain_string, tagged_string, typed_string,
@@ -76,7 +77,7 @@ fn term_at(
         return string(alloc, text, token, document);
     }
     Err(TtlFault::At {
-        code: 2,
+        code: SYNTAX,
         at: token.start as u64,
     })
 }
@@ -106,7 +107,10 @@ fn node(alloc: Global, text: &str, token: &Token, document: &Document) -> Result
             term,
             end: token.end,
         }),
-        Err(NoNode::Unknown) => Err(TtlFault::At { code: 57, at }),
+        Err(NoNode::Unknown) => Err(TtlFault::At {
+            code: UNKNOWN_BLANK,
+            at,
+        }),
         Err(NoNode::Memory) => Err(TtlFault::Memory),
     }
 }

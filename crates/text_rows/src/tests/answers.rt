@@ -1,12 +1,9 @@
 ghost use Rattle.std.specs.Prelude.{◌<◌};
 
-use report_write::{
-    Answer, TEXT_TOO_LONG, WriteFault, Writer, add_answer, add_number, write_answer, write_term,
-};
+use report_write::{Answer, WriteFault, Writer, add_answer, add_number, write_answer, write_term};
 use shx_outside::{MemorySink, Role};
-use shx_term::{
-    BlankName, IriText, Label, Literal, LocalName, Memory, NOT_BUILT, Pieces, Scope, Term, Text,
-};
+use shx_term::fault_codes::{NOT_BUILT, TEXT_TOO_LONG};
+use shx_term::{BlankName, IriText, Label, Literal, LocalName, Memory, Pieces, Scope, Term, Text};
 use std::alloc::Global;
 use std::test::Fail;
 

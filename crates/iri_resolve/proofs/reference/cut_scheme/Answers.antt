@@ -1,5 +1,5 @@
 use Rattle.std.proofs.Common.{refl, arith}
-use Rattle.iri_resolve.specs.Characters.{is_colon}
+use Rattle.shx_term.specs.Characters.{is_colon}
 use Rattle.iri_resolve.proofs.CutLemmas.{list_any-none}
 use Rattle.iri_resolve.proofs.reference.cut_scheme.Goals as goal
 

@@ -1,4 +1,4 @@
-use Rattle.shacl_run.proofs.EditLemmas.{numbered-in_turn}
+use Rattle.shx_term.proofs.NumberedLemmas.{numbered-in_turn}
 use Rattle.shacl_run.proofs.edit.enter_terms.Goals as goal
 
 pub returns-clause-triple : goal.returns-clause-triple

@@ -2,7 +2,7 @@ use Rattle.std.proofs.Common.{◌≡◌, None, refl, subst}
 use Rattle.shx_term.specs.declared.term.Scope.TheVariants.{Shapes, Data}
 use Rattle.shx_term.specs.Vocabulary.{vocabulary}
 use Rattle.shx_outside.specs.declared.role.Role.TheVariants.{Shapes as shapes_role, Data as data_role}
-use Rattle.report_write.specs.declared.names.TheConstants.{TEXT_TOO_LONG}
+use Rattle.shx_term.specs.declared.fault_codes.TheConstants.{TEXT_TOO_LONG}
 use Rattle.shacl_run.specs.declared.refusal.Refusal.{Refusal}
 use Rattle.shacl_run.specs.Declares.{declarations}
 use Rattle.shacl_run.specs.Readings.{Faulty, IsReadAs}

@@ -1,6 +1,6 @@
 use Rattle.std.proofs.Common.{◌≡◌, ◌<◌, length, ap, arith}
 use Rattle.shx_outside.specs.declared.role.Role.TheVariants.{Script}
-use Rattle.shx_term.specs.declared.fault_code.TheConstants.{NOT_BUILT}
+use Rattle.shx_term.specs.declared.fault_codes.TheConstants.{NOT_BUILT}
 use Rattle.text_input.specs.ScriptReader.{left_of}
 use Rattle.shacl_run.specs.Script.{script_step, refusal}
 use Rattle.shacl_run.proofs.ServingLemmas.{step-too_long, TakesStep-line, end_met}

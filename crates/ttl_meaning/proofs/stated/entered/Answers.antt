@@ -1,5 +1,5 @@
 use Rattle.ttl_meaning.specs.IsStated.{triple_of}
-use Rattle.ttl_meaning.proofs.StatedLemmas.{numbered-in_turn}
+use Rattle.shx_term.proofs.NumberedLemmas.{numbered-in_turn}
 use Rattle.ttl_meaning.proofs.stated.entered.Goals as goal
 
 pub returns-clause-triple : goal.returns-clause-triple

@@ -1,20 +1,22 @@
 -- Agreement of graphs: in turn, on fewer keys, and after a term is entered or a triple inserted or removed.
-use Rattle.std.specs.Prelude.{◌≡◌, List, [], ◌++◌, flat_map, Contains, ◌↔◌}
-use Rattle.std.proofs.Common.{sym, ap, ◌∙◌, subst, inl, inr, append_assoc, append-nil}
+use Rattle.std.specs.Prelude.{◌≡◌, ℕ, ◌+◌, ◌<◌, List, [], ◌++◌, flat_map, length, slice_get, Contains, ◌↔◌}
+use Rattle.std.proofs.Common.{sym, ap, ◌∙◌, subst, inl, inr, append-nil}
+use Rattle.std.proofs.Common.{arith, length-append}
 use Rattle.std.proofs.lemmas.List.Elements.{Contains-append_left, Contains-append_right}
+use Rattle.std.proofs.lemmas.List.Elements.{Contains-append_cases}
 use Rattle.shx_term.specs.declared.term.Term.{Term}
 use Rattle.shx_term.specs.declared.triple.Triple.{Triple}
 use Rattle.shx_term.specs.Pool.{with_term}
 use Rattle.shx_term.proofs.HeldLemmas.{with_term_grows}
+use Rattle.shx_term.proofs.IdOrderLemmas.{slice_get-append}
 use Rattle.shx_term.proofs.MemberLemmas.{Contains-flat_map}
 use Rattle.graph_view.specs.declared.key.Key.{Key}
 use Rattle.graph_view.specs.Agree.{AgreeOn, Agree, IsAnyKey, IsUntouched}
-use Rattle.graph_view.specs.Graph.{Graph, HasAlso, HasNot}
+use Rattle.graph_view.specs.Graph.{Graph, HasTerms, HasAlso, IsWithout}
 use Rattle.graph_view.specs.Key.{Touches}
-use Rattle.graph_view.specs.Reads.{SameKeys}
-use Rattle.graph_view.specs.SameGraph.{HoldsSame}
+use Rattle.shx_term.specs.Members.{SameMembers}
 use Rattle.graph_view.proofs.KeyLemmas.{Contains-look}
-use Rattle.graph_view.proofs.SameGraphLemmas.{HoldsSame-itself, HoldsSame-sym, HoldsSame-then}
+use Rattle.shx_term.proofs.SetLemmas.{SameMembers-itself}
 
 module _ {K : Key → Type 0} where
   -- a triple that touches one of the keys is held by both or by none
@@ -41,33 +43,14 @@ module _ {K : Key → Type 0} where
     };
   }
 
-  pub AgreeOn-itself : (g : List Triple) → AgreeOn g g K
-  AgreeOn-itself g = AgreeOn-from (λ key k t touches. (λ c. c, λ c. c))
-
-  pub AgreeOn-sym : {g h : List Triple} → AgreeOn g h K → AgreeOn h g K
-  AgreeOn-sym agree = record { each = λ key k. HoldsSame-sym (agree.each key k) }
-
-  pub AgreeOn-then : {g h i : List Triple} → AgreeOn g h K → AgreeOn h i K → AgreeOn g i K
-  AgreeOn-then a b = record { each = λ key k. HoldsSame-then (a.each key k) (b.each key k) }
-
   -- on fewer keys
   pub AgreeOn-fewer : {g h : List Triple} (L : Key → Type 0) → ((key : Key) → L key → K key)
       → AgreeOn g h K → AgreeOn g h L
   AgreeOn-fewer L fewer agree = record { each = λ key l. agree.each key (fewer key l) }
 
   -- graphs that hold the same triples agree on all keys
-  pub AgreeOn-same : {g h : List Triple} → HoldsSame g h → AgreeOn g h K
+  pub AgreeOn-same : {g h : List Triple} → SameMembers g h → AgreeOn g h K
   AgreeOn-same same = AgreeOn-from (λ key k t touches. same.each t)
-
-  pub Agree-itself : (g : Graph) → Agree g g K
-  Agree-itself g = record { more = []; terms = sym (append-nil g.terms); triples = AgreeOn-itself g.triples }
-
-  pub Agree-then : {g h i : Graph} → Agree g h K → Agree h i K → Agree g i K
-  Agree-then {g} a b = record {
-    more = a.more ++ b.more;
-    terms = b.terms ∙ ap (λ terms. terms ++ b.more) a.terms ∙ append_assoc g.terms a.more b.more;
-    triples = AgreeOn-then a.triples b.triples;
-  }
 
   pub Agree-fewer : {g h : Graph} (L : Key → Type 0) → ((key : Key) → L key → K key)
       → Agree g h K → Agree g h L
@@ -98,9 +81,45 @@ module _ {g h : List Triple} where
   AgreeOn-part f xs x c agree =
       AgreeOn-fewer (Contains (f x)) (λ key d. Contains-flat_map f xs x key c d) agree
 
-  pub AgreeOn-same_keys : (xs ys : List Key) → SameKeys xs ys
-      → AgreeOn g h (Contains xs) → AgreeOn g h (Contains ys)
-  AgreeOn-same_keys xs ys same agree = AgreeOn-fewer (Contains ys) (λ key c. (same.each key).1 c) agree
+-- on the part of a list of keys that is made of one element
+pub Agree-part : {X : Type 0} (g h : Graph) (f : X → List Key) (xs : List X) (x : X) → Contains xs x
+    → Agree g h (Contains (flat_map f xs)) → Agree g h (Contains (f x))
+Agree-part g h f xs x c agree =
+    Agree-fewer (Contains (f x)) (λ key d. Contains-flat_map f xs x key c d) agree
+
+-- on two lists of keys
+pub Agree-both : (g h : Graph) (ks ls : List Key) → Agree g h (Contains (ks ++ ls))
+    ↔ (Agree g h (Contains ks) × Agree g h (Contains ls))
+Agree-both g h ks ls = (
+  λ agree. (
+    Agree-fewer (Contains ks) (λ key c. Contains-append_left ks ls key c) agree,
+    Agree-fewer (Contains ls) (λ key c. Contains-append_right ks ls key c) agree,
+  ),
+  λ both. record {
+    more = both.0.more;
+    terms = both.0.terms;
+    triples = record {
+      each = λ key c. elim (Contains-append_cases ks ls key c) [
+        | inl d ↦ both.0.triples.each key d
+        | inr d ↦ both.1.triples.each key d
+      ];
+    };
+  },
+)
+
+-- a number that has a term keeps it
+pub Agree-term : {K : Key → Type 0} (g h : Graph) (id : ℕ) → Agree g h K → id < length g.terms
+    → slice_get g.terms id ≡ slice_get h.terms id
+Agree-term g h id agree inside =
+    sym (slice_get-append g.terms agree.more id inside)
+    ∙ ap (λ terms. slice_get terms id) (sym agree.terms)
+
+pub Agree-known : {K : Key → Type 0} (g h : Graph) (ids : List ℕ) → Agree g h K → HasTerms g ids
+    → HasTerms h ids
+Agree-known g h ids agree known =
+    let longer = length-append g.terms agree.more in
+    let all : length h.terms ≡ length g.terms + length agree.more = ap length agree.terms ∙ longer in
+    λ k d inside. let within = known k d inside in omega (arith, all, within)
 
 -- after a term is entered all keys agree
 pub Agree-entered : {g h : Graph} (t : Term) → h.terms ≡ with_term g.terms t → h.triples ≡ g.triples
@@ -110,7 +129,7 @@ Agree-entered {g} {h} t terms triples =
     record {
       more = grown.0;
       terms = terms ∙ grown.1;
-      triples = AgreeOn-same (subst (HoldsSame g.triples) (sym triples) (HoldsSame-itself g.triples));
+      triples = AgreeOn-same (subst (SameMembers g.triples) (sym triples) (SameMembers-itself g.triples));
     }
 
 touching_other : (t u : Triple) (key : Key) → IsUntouched t key → Touches u key → u ≡ t → ⊥
@@ -125,8 +144,8 @@ AgreeOn-also t also = AgreeOn-from (λ key untouched u touches. (
   ],
 ))
 
-pub AgreeOn-not : {g h : List Triple} (t : Triple) → HasNot g h t → AgreeOn g h (IsUntouched t)
-AgreeOn-not t without = AgreeOn-from (λ key untouched u touches. (
+pub AgreeOn-without : {g h : List Triple} (t : Triple) → IsWithout g h t → AgreeOn g h (IsUntouched t)
+AgreeOn-without t without = AgreeOn-from (λ key untouched u touches. (
   λ c. (without.each u).1 (c, touching_other t u key untouched touches),
   λ c. ((without.each u).0 c).0,
 ))
@@ -135,6 +154,6 @@ pub Agree-inserted : {g h : Graph} (t : Triple) → h.terms ≡ g.terms → HasA
     → Agree g h (IsUntouched t)
 Agree-inserted t terms also = Agree-on_terms terms (AgreeOn-also t also)
 
-pub Agree-removed : {g h : Graph} (t : Triple) → h.terms ≡ g.terms → HasNot g.triples h.triples t
+pub Agree-removed : {g h : Graph} (t : Triple) → h.terms ≡ g.terms → IsWithout g.triples h.triples t
     → Agree g h (IsUntouched t)
-Agree-removed t terms without = Agree-on_terms terms (AgreeOn-not t without)
+Agree-removed t terms without = Agree-on_terms terms (AgreeOn-without t without)

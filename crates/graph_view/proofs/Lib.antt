@@ -1,9 +1,12 @@
 pub mod AgreeLemmas
+pub mod EditLemmas
+pub mod ExchangeLemmas
 pub mod KeyLemmas
+pub mod KeySetLemmas
 pub mod LookUpLemmas
 pub mod PatchedLemmas
-pub mod ReadsLemmas
 pub mod SameGraphLemmas
 pub mod SameLookUpLemmas
+pub mod SortedLemmas
 pub mod TripleSetLemmas
 pub mod ValidLemmas

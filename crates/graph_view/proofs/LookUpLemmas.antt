@@ -1,16 +1,19 @@
 -- What look-ups give: what is held, and nothing else.
-use Rattle.std.specs.Prelude.{◌≡◌, ℕ, ◌<◌, List, map, length, Contains, ◌↔◌}
-use Rattle.std.proofs.Common.{refl, sym, subst}
+use Rattle.std.specs.Prelude.{◌≡◌, ℕ, ◌<◌, List, map, length, All, Contains, ◌↔◌, Result, IfOk}
+use Rattle.std.proofs.Common.{refl, sym, ◌∙◌, subst}
+use Rattle.std.proofs.lemmas.Result.{IfOk-weaker}
+use Rattle.std.specs.List.Sorted.{IsStrictlySortedBy}
 use Rattle.shx_term.specs.declared.triple.Triple.{Triple}
-use Rattle.shx_term.specs.TripleLaws.{triple_is}
+use Rattle.shx_term.specs.IdOrder.{id_cmp}
+use Rattle.shx_term.specs.inner.TripleLaws.{triple_is}
 use Rattle.shx_term.specs.TripleOrder.{triple_cmp, in_triple_order}
 use Rattle.shx_term.proofs.IdOrderLemmas.{in_term_order_lists}
 use Rattle.shx_term.proofs.InOrderLemmas.{in_order_lists}
-use Rattle.shx_term.proofs.MemberLemmas.{Contains-map, Contains-from_map, each_of_All}
+use Rattle.shx_term.proofs.MemberLemmas.{Contains-map, Contains-from_map, each_of_All, All_of_each}
 use Rattle.shx_term.proofs.TripleOrderLemmas.{triple_order}
 use Rattle.graph_view.specs.declared.key.Key.{Key}
 use Rattle.graph_view.specs.declared.key.Key.TheVariants.{Out, In, Subject, Predicate}
-use Rattle.graph_view.specs.Graph.{Graph, IsKnownTriple, AllKnown}
+use Rattle.graph_view.specs.Graph.{Graph, IsKnownTriple, AllKnown, HasTerms}
 use Rattle.graph_view.specs.Graph.{objects_of, subjects_of, triples_of, triples_with}
 use Rattle.graph_view.specs.Key.{Touches, look}
 use Rattle.graph_view.proofs.KeyLemmas.{Contains-look}
@@ -75,9 +78,21 @@ pub Contains-triples_with : (g : Graph) (p : ℕ) (t : Triple)
     → Contains (triples_with g p) t ↔ (Contains g.triples t × (t.p ≡ p))
 Contains-triples_with g p t = Contains-ordered g (Predicate p) t
 
+-- what is found is in order
+pub sorted-objects_of : (g : Graph) (s p : ℕ) → IsStrictlySortedBy (id_cmp g.terms) (objects_of g s p)
+sorted-objects_of g s p = (in_term_order_lists g.terms (map (λ t. t.o) (look g.triples (Out s p)))).sorted
+
+pub sorted-subjects_of : (g : Graph) (p o : ℕ) → IsStrictlySortedBy (id_cmp g.terms) (subjects_of g p o)
+sorted-subjects_of g p o = (in_term_order_lists g.terms (map (λ t. t.s) (look g.triples (In p o)))).sorted
+
+pub sorted-ordered : (g : Graph) (key : Key)
+    → IsStrictlySortedBy (triple_cmp g.terms) (in_triple_order g.terms (look g.triples key))
+sorted-ordered g key =
+    (in_order_lists (triple_cmp g.terms) (triple_order g.terms) (look g.triples key)).sorted
+
 -- what is found has terms
 module _ (g : Graph) (known : AllKnown g) where
-  pub known_triple : (t : Triple) → Contains g.triples t → IsKnownTriple g.terms t
+  known_triple : (t : Triple) → Contains g.triples t → IsKnownTriple g.terms t
   known_triple = each_of_All (IsKnownTriple g.terms) g.triples known
 
   pub known_object : (s p o : ℕ) → Contains (objects_of g s p) o → o < length g.terms
@@ -87,3 +102,24 @@ module _ (g : Graph) (known : AllKnown g) where
   pub known_subject : (p o s : ℕ) → Contains (subjects_of g p o) s → s < length g.terms
   known_subject p o s c =
       (known_triple (record { s = s; p = p; o = o }) ((Contains-subjects_of g p o s).0 c)).s
+
+  pub HasTerms-objects_of : (s p : ℕ) → HasTerms g (objects_of g s p)
+  HasTerms-objects_of s p =
+      All_of_each (λ id. id < length g.terms) (objects_of g s p) (known_object s p)
+
+  pub HasTerms-subjects_of : (p o : ℕ) → HasTerms g (subjects_of g p o)
+  HasTerms-subjects_of p o =
+      All_of_each (λ id. id < length g.terms) (subjects_of g p o) (known_subject p o)
+
+  pub All-ordered : (key : Key) → All (IsKnownTriple g.terms) (in_triple_order g.terms (look g.triples key))
+  All-ordered key =
+      All_of_each (IsKnownTriple g.terms) (in_triple_order g.terms (look g.triples key))
+      (λ t c. known_triple t ((Contains-ordered g key t).0 c).0)
+
+-- where an answer is there, what is true of what it gives is true of it
+module _ {X Y E : Type 0} (r : Result X E) (f : X → Y) where
+  pub IfOk-gives : {y z : Y} → IfOk r (λ x. f x ≡ y) → y ≡ z → IfOk r (λ x. f x ≡ z)
+  IfOk-gives {y} {z} gives same = IfOk-weaker r (λ x. f x ≡ y) (λ x. f x ≡ z) (λ x e. e ∙ same) gives
+
+  pub IfOk-of : (Q : Y → Type 0) {y : Y} → IfOk r (λ x. f x ≡ y) → Q y → IfOk r (λ x. Q (f x))
+  IfOk-of Q {y} gives q = IfOk-weaker r (λ x. f x ≡ y) (λ x. Q (f x)) (λ x e. subst Q (sym e) q) gives

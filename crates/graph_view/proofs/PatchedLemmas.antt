@@ -1,10 +1,10 @@
 -- What a change leaves: the members of lists, a graph that is patched, and what look-ups find in it.
-use Rattle.std.specs.Prelude.{◌≡◌, ℕ, ◌+◌, ◌≤◌, Bool, true, false, not, nat_eq, List, [], ◌∷◌, ◌++◌}
+use Rattle.std.specs.Prelude.{◌≡◌, ℕ, ◌+◌, ◌≤◌, Bool, true, false, not, nat_eq, ◌==◌, List, [], ◌∷◌, ◌++◌}
 use Rattle.std.specs.Prelude.{map, length, All, Contains, ◌↔◌, ◌⊎◌}
 use Rattle.std.specs.Cmp.{IsEquivalence, nat_eq_equiv}
 use Rattle.std.specs.List.{list_any, IsDistinct, AllByRecursion}
-use Rattle.std.proofs.Common.{refl, sym, ◌∙◌, subst, inl, inr, true≢false, length-append, arith}
-use Rattle.std.proofs.lemmas.Bool.{not-true}
+use Rattle.std.proofs.Common.{refl, sym, ap, ◌∙◌, subst, inl, inr, true≢false, length-append, arith}
+use Rattle.std.proofs.lemmas.Bool.{not-true, eqb-true}
 use Rattle.std.proofs.lemmas.List.Elements.{All-append, All-filter, Contains-append_left}
 use Rattle.std.proofs.lemmas.List.Elements.{Contains-append_right, Contains-append_cases}
 use Rattle.std.proofs.lemmas.List.Sums.{length-filter, count_by-le-length}
@@ -13,7 +13,7 @@ use Rattle.std.proofs.lemmas.Map.Views.{exact_unsigned_eq}
 use Rattle.shx_term.specs.declared.triple.Triple.{Triple}
 use Rattle.shx_term.specs.IdOrder.{in_term_order}
 use Rattle.shx_term.specs.Triple.{same_triple}
-use Rattle.shx_term.specs.TripleLaws.{same_triple_equiv, same_triple_exact}
+use Rattle.shx_term.specs.inner.TripleLaws.{same_triple_equiv, same_triple_exact}
 use Rattle.shx_term.specs.TripleOrder.{triple_cmp, in_triple_order}
 use Rattle.shx_term.proofs.IdOrderLemmas.{in_term_order_same}
 use Rattle.shx_term.proofs.InOrderLemmas.{in_order_same}
@@ -26,7 +26,7 @@ use Rattle.graph_view.specs.Agree.{Agree, IsUntouched}
 use Rattle.graph_view.specs.Graph.{Graph, objects_of, subjects_of}
 use Rattle.graph_view.specs.Key.{look}
 use Rattle.graph_view.specs.Patched.{without, patched, IsBeside}
-use Rattle.graph_view.specs.SameGraph.{HoldsSame}
+use Rattle.shx_term.specs.Members.{SameMembers}
 use Rattle.graph_view.specs.Valid.{IsValidTriple, IsValidView}
 use Rattle.graph_view.proofs.AgreeLemmas.{AgreeOn-from, Agree-on_terms}
 use Rattle.graph_view.proofs.KeyLemmas.{Contains-look}
@@ -46,6 +46,16 @@ all_of_both : {K : Type 0} (P : K → Type 0) (xs ys : List K) → AllByRecursio
     → AllByRecursion P (xs ++ ys)
 all_of_both P [] ys all more = more
 all_of_both P (x ∷ xs) ys all more = (all.0, all_of_both P xs ys all.1 more)
+
+-- where nothing is gone all stays
+without-none : {K : Type 0} (same : K → K → Bool) (xs : List K) → xs ≡ without same xs []
+without-none same [] = refl
+without-none same (x ∷ xs) = ap (λ rest. x ∷ rest) (without-none same xs)
+
+pub without-empty : {K : Type 0} (same : K → K → Bool) (xs gone : List K) → (length gone == 0) ≡ true
+    → xs ≡ without same xs gone
+without-empty same xs [] e = without-none same xs
+without-empty same xs (y ∷ ys) e = absurd (omega (arith, eqb-true (length (y ∷ ys)) 0 e))
 
 module _ {K : Type 0} (same : K → K → Bool) (laws : IsEquivalence same)
     (exact : (x y : K) → same x y ≡ true → x ≡ y) where
@@ -128,7 +138,7 @@ module _ (triples gone : List Triple) where
       let parts = Contains-changed same_triple same_triple_equiv same_triple_exact triples gone gone in
       let back : (t : Triple) → Contains (left ++ gone) t → Contains triples t =
       λ t c. elim ((parts t).0 c) [ inl d ↦ d.0 | inr d ↦ each_of_All (Contains triples) gone held t d ] in
-      let whole : HoldsSame (left ++ gone) triples = record { each = λ t. (back t, whole_again t) } in
+      let whole : SameMembers (left ++ gone) triples = record { each = λ t. (back t, whole_again t) } in
       let disjoint : (t : Triple) → Contains left t → Contains gone t → ⊥ =
       λ t c. ((Contains-left t).0 c).1 in
       let distinct =

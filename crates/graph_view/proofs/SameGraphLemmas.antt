@@ -1,5 +1,5 @@
 -- Lists with the same triples, and graphs that are the same: laws, where they come from, and look-ups.
-use Rattle.std.specs.Prelude.{◌≡◌, ℕ, Bool, true, false, not, List, [], ◌∷◌, map, filter, length, All}
+use Rattle.std.specs.Prelude.{◌≡◌, ℕ, Bool, true, false, not, List, [], ◌∷◌, map, filter, length}
 use Rattle.std.specs.Prelude.{Contains, if◌then◌else◌, ◌⊎◌}
 use Rattle.std.specs.List.{list_any, IsDistinct, AllByRecursion}
 use Rattle.std.specs.Cmp.{both_ways}
@@ -10,69 +10,37 @@ use Rattle.shx_term.specs.declared.term.Term.{Term}
 use Rattle.shx_term.specs.declared.triple.Triple.{Triple}
 use Rattle.shx_term.specs.IdOrder.{in_term_order}
 use Rattle.shx_term.specs.Triple.{same_triple}
-use Rattle.shx_term.specs.TripleLaws.{same_triple_equiv, same_triple_exact}
+use Rattle.shx_term.specs.inner.TripleLaws.{same_triple_equiv, same_triple_exact}
 use Rattle.shx_term.specs.TripleOrder.{triple_cmp, in_triple_order}
 use Rattle.shx_term.proofs.IdOrderLemmas.{in_term_order_same}
 use Rattle.shx_term.proofs.InOrderLemmas.{in_order_same}
 use Rattle.shx_term.proofs.MemberLemmas.{none_in_empty, Contains-head, Contains-tail, Contains-cases}
-use Rattle.shx_term.proofs.MemberLemmas.{Contains-map, Contains-from_map, Contains-filter}
-use Rattle.shx_term.proofs.MemberLemmas.{Contains-from_filter, each_of_All, All_of_each}
+use Rattle.shx_term.proofs.MemberLemmas.{Contains-filter}
+use Rattle.shx_term.proofs.MemberLemmas.{Contains-from_filter}
 use Rattle.shx_term.proofs.TripleOrderLemmas.{triple_order}
-use Rattle.graph_view.specs.declared.key.Key.{Key}
-use Rattle.graph_view.specs.declared.key.Key.TheVariants.{Out, In, Subject, Predicate}
-use Rattle.graph_view.specs.Graph.{Graph, IsKnownTriple, IsGraph, HasAlso, HasNot, first_places, graph_of}
-use Rattle.graph_view.specs.Graph.{objects_of, subjects_of, triples_of, triples_with}
+use Rattle.graph_view.specs.declared.key.Key.TheVariants.{Out}
+use Rattle.graph_view.specs.Graph.{Graph, HasAlso, IsWithout, first_places, graph_of}
+use Rattle.graph_view.specs.Graph.{objects_of}
 use Rattle.graph_view.specs.Key.{look, is_touching}
-use Rattle.graph_view.specs.SameGraph.{HoldsSame, SameGraph}
+use Rattle.shx_term.specs.Members.{SameMembers}
+use Rattle.graph_view.specs.SameGraph.{SameGraph}
+use Rattle.shx_term.proofs.SetLemmas.{SameMembers-sym, SameMembers-then}
+use Rattle.shx_term.proofs.SetLemmas.{SameMembers-filter, SameMembers-map}
 use Rattle.graph_view.proofs.TripleSetLemmas.{triple_held}
 
-pub HoldsSame-itself : (triples : List Triple) → HoldsSame triples triples
-HoldsSame-itself triples = record { each = λ t. (λ c. c, λ c. c) }
-
-pub HoldsSame-sym : {triples others : List Triple} → HoldsSame triples others → HoldsSame others triples
-HoldsSame-sym same = record { each = λ t. ((same.each t).1, (same.each t).0) }
-
-pub HoldsSame-then : {triples others more : List Triple}
-    → HoldsSame triples others → HoldsSame others more → HoldsSame triples more
-HoldsSame-then a b = record {
-  each = λ t. (λ c. (b.each t).0 ((a.each t).0 c), λ c. (a.each t).1 ((b.each t).1 c));
-}
-
--- the same triples pass a test
-pub HoldsSame-filter : (p : Triple → Bool) (triples others : List Triple) → HoldsSame triples others
-    → HoldsSame (filter p triples) (filter p others)
-HoldsSame-filter p triples others same = record {
-  each = λ t. (
-    λ c.
-        let kept = Contains-from_filter p triples t c in
-        Contains-filter p others t ((same.each t).0 kept.0) kept.1,
-    λ c.
-        let kept = Contains-from_filter p others t c in
-        Contains-filter p triples t ((same.each t).1 kept.0) kept.1,
-  );
-}
-
--- what is made of the triples has the same members
-pub map_same : (triples others : List Triple) → HoldsSame triples others → (f : Triple → ℕ) (y : ℕ)
-    → Contains (map f triples) y → Contains (map f others) y
-map_same triples others same f y c =
-    let found = Contains-from_map f triples y c in
-    let there = (same.each found.0).0 found.1 in
-    subst (Contains (map f others)) (sym found.2) (Contains-map f others found.0 there)
-
--- and is the same in order
-module _ (terms : List Term) (triples others : List Triple) (same : HoldsSame triples others) where
+-- what is made of the same triples is the same in order
+module _ (terms : List Term) (triples others : List Triple) (same : SameMembers triples others) where
   pub numbers_same : (f : Triple → ℕ)
       → in_term_order terms (map f triples) ≡ in_term_order terms (map f others)
   numbers_same f =
       in_term_order_same terms (map f triples) (map f others)
-      (λ y. (map_same triples others same f y, map_same others triples (HoldsSame-sym same) f y))
+      (SameMembers-map f triples others same).each
 
   pub triples_same : in_triple_order terms triples ≡ in_triple_order terms others
   triples_same = in_order_same (triple_cmp terms) (triple_order terms) triples others same.each
 
 -- lists of distinct triples that hold the same are as long
-pub length-same : (triples others : List Triple) → HoldsSame triples others
+pub length-same : (triples others : List Triple) → SameMembers triples others
     → IsDistinct same_triple triples → IsDistinct same_triple others → length triples ≡ length others
 length-same triples others same distinct distinct' =
     length-from_same_keys same_triple_equiv triples others distinct distinct' (λ t.
@@ -134,7 +102,7 @@ kept_to (u ∷ us) t c =
       ]
     ]
 
-pub first_places_same : (triples : List Triple) → HoldsSame (first_places triples) triples
+pub first_places_same : (triples : List Triple) → SameMembers (first_places triples) triples
 first_places_same triples = record { each = λ t. (kept_from triples t, kept_to triples t) }
 
 -- and leaves them apart
@@ -157,33 +125,15 @@ first_places-distinct (t ∷ ts) =
     IsDistinct-cons same_triple t (filter others (first_places ts)) (others_differ t (first_places ts))
     (IsDistinct-filter others same_triple (first_places ts) (first_places-distinct ts))
 
-pub IsGraph-graph_of : (terms : List Term) (triples : List Triple) → All (IsKnownTriple terms) triples
-    → IsGraph (graph_of terms triples)
-IsGraph-graph_of terms triples known = record {
-  distinct = first_places-distinct triples;
-  known = All_of_each (IsKnownTriple terms) (first_places triples)
-      (λ t c. each_of_All (IsKnownTriple terms) triples known t (((first_places_same triples).each t).0 c));
-}
-
-pub SameGraph-itself : (g : Graph) → SameGraph g g
-SameGraph-itself g = record { terms = refl; triples = HoldsSame-itself g.triples; count = refl }
-
-pub SameGraph-sym : {g h : Graph} → SameGraph g h → SameGraph h g
-SameGraph-sym same = record {
-  terms = sym same.terms;
-  triples = HoldsSame-sym same.triples;
-  count = sym same.count;
-}
-
 pub SameGraph-then : {g h i : Graph} → SameGraph g h → SameGraph h i → SameGraph g i
 SameGraph-then a b = record {
   terms = a.terms ∙ b.terms;
-  triples = HoldsSame-then a.triples b.triples;
+  triples = SameMembers-then a.triples b.triples;
   count = a.count ∙ b.count;
 }
 
 -- graphs are the same where their triples are distinct and the same
-pub SameGraph-distinct : (g h : Graph) → g.terms ≡ h.terms → HoldsSame g.triples h.triples
+pub SameGraph-distinct : (g h : Graph) → g.terms ≡ h.terms → SameMembers g.triples h.triples
     → IsDistinct same_triple g.triples → IsDistinct same_triple h.triples → SameGraph g h
 SameGraph-distinct g h terms same distinct distinct' = record {
   terms = terms;
@@ -193,73 +143,41 @@ SameGraph-distinct g h terms same distinct distinct' = record {
 
 -- a graph that holds exactly the triples of a list is that of the list
 pub SameGraph-graph_of : (terms : List Term) (triples : List Triple) (g : Graph) → g.terms ≡ terms
-    → HoldsSame g.triples triples → IsDistinct same_triple g.triples → SameGraph (graph_of terms triples) g
+    → SameMembers g.triples triples → IsDistinct same_triple g.triples → SameGraph (graph_of terms triples) g
 SameGraph-graph_of terms triples g e same distinct =
     SameGraph-distinct (graph_of terms triples) g (sym e)
-    (HoldsSame-then (first_places_same triples) (HoldsSame-sym same))
+    (SameMembers-then (first_places_same triples) (SameMembers-sym same))
     (first_places-distinct triples) distinct
 
 -- the same triples and one more hold the same
-also_to : {g g' h h' : List Triple} (t : Triple) → HoldsSame g h → HasAlso g g' t → HasAlso h h' t
+also_to : {g g' h h' : List Triple} (t : Triple) → SameMembers g h → HasAlso g g' t → HasAlso h h' t
     → (u : Triple) → Contains g' u → Contains h' u
 also_to t same also also' u c = elim ((also.each u).0 c) [
   | inl held ↦ (also'.each u).1 (inl ((same.each u).0 held))
   | inr e ↦ (also'.each u).1 (inr e)
 ]
 
-pub HoldsSame-also : {g g' h h' : List Triple} (t : Triple) → HoldsSame g h → HasAlso g g' t → HasAlso h h' t
-    → HoldsSame g' h'
-HoldsSame-also t same also also' = record {
-  each = λ u. (also_to t same also also' u, also_to t (HoldsSame-sym same) also' also u);
+pub SameMembers-also : {g g' h h' : List Triple} (t : Triple) → SameMembers g h → HasAlso g g' t
+    → HasAlso h h' t → SameMembers g' h'
+SameMembers-also t same also also' = record {
+  each = λ u. (also_to t same also also' u, also_to t (SameMembers-sym same) also' also u);
 }
 
 -- and so do the same triples but one
-pub HoldsSame-not : {g g' h h' : List Triple} (t : Triple) → HoldsSame g h → HasNot g g' t → HasNot h h' t
-    → HoldsSame g' h'
-HoldsSame-not t same without without' = record {
+pub SameMembers-without : {g g' h h' : List Triple} (t : Triple) → SameMembers g h → IsWithout g g' t
+    → IsWithout h h' t → SameMembers g' h'
+SameMembers-without t same without without' = record {
   each = λ u. (
     λ c. let left = (without.each u).0 c in (without'.each u).1 ((same.each u).0 left.0, left.1),
     λ c. let left = (without'.each u).0 c in (without.each u).1 ((same.each u).1 left.0, left.1),
   );
 }
 
--- graphs that are the same stay so where a triple is inserted into both, or removed from both
-module _ {g h : Graph} (g' h' : Graph) (t : Triple) (same : SameGraph g h) (terms : g'.terms ≡ h'.terms) where
-  module _ (one : IsDistinct same_triple g'.triples) (other : IsDistinct same_triple h'.triples) where
-    pub SameGraph-inserted : HasAlso g.triples g'.triples t → HasAlso h.triples h'.triples t → SameGraph g' h'
-    SameGraph-inserted also also' =
-        SameGraph-distinct g' h' terms (HoldsSame-also t same.triples also also') one other
-
-    pub SameGraph-removed : HasNot g.triples g'.triples t → HasNot h.triples h'.triples t → SameGraph g' h'
-    SameGraph-removed without without' =
-        SameGraph-distinct g' h' terms (HoldsSame-not t same.triples without without') one other
-
--- look-ups in graphs that are the same give the same
-module _ (g h : Graph) (same : SameGraph g h) where
-  found_same : (key : Key) → HoldsSame (look g.triples key) (look h.triples key)
-  found_same key = HoldsSame-filter (λ t. is_touching t key) g.triples h.triples same.triples
-
-  numbers_found : (key : Key) (f : Triple → ℕ)
-      → in_term_order g.terms (map f (look g.triples key))
-      ≡ in_term_order h.terms (map f (look h.triples key))
-  numbers_found key f =
-      numbers_same g.terms (look g.triples key) (look h.triples key) (found_same key) f
-      ∙ ap (λ terms. in_term_order terms (map f (look h.triples key))) same.terms
-
-  triples_found : (key : Key)
-      → in_triple_order g.terms (look g.triples key) ≡ in_triple_order h.terms (look h.triples key)
-  triples_found key =
-      triples_same g.terms (look g.triples key) (look h.triples key) (found_same key)
-      ∙ ap (λ terms. in_triple_order terms (look h.triples key)) same.terms
-
-  pub objects_of-same : (s p : ℕ) → objects_of g s p ≡ objects_of h s p
-  objects_of-same s p = numbers_found (Out s p) (λ t. t.o)
-
-  pub subjects_of-same : (p o : ℕ) → subjects_of g p o ≡ subjects_of h p o
-  subjects_of-same p o = numbers_found (In p o) (λ t. t.s)
-
-  pub triples_of-same : (s : ℕ) → triples_of g s ≡ triples_of h s
-  triples_of-same s = triples_found (Subject s)
-
-  pub triples_with-same : (p : ℕ) → triples_with g p ≡ triples_with h p
-  triples_with-same p = triples_found (Predicate p)
+-- a look-up in graphs that are the same gives the same
+pub objects_of-same : (g h : Graph) → SameGraph g h → (s p : ℕ) → objects_of g s p ≡ objects_of h s p
+objects_of-same g h same s p =
+    let one = look g.triples (Out s p) in
+    let other = look h.triples (Out s p) in
+    let found = SameMembers-filter (λ t. is_touching t (Out s p)) g.triples h.triples same.triples in
+    numbers_same g.terms one other found (λ t. t.o)
+    ∙ ap (λ terms. in_term_order terms (map (λ t. t.o) other)) same.terms

@@ -4,9 +4,9 @@ use Rattle.std.specs.List.{list_any}
 use Rattle.std.proofs.Common.{sym, ◌∙◌, subst, inl, inr}
 use Rattle.shx_term.specs.declared.triple.Triple.{Triple}
 use Rattle.shx_term.specs.Triple.{same_triple}
-use Rattle.shx_term.specs.TripleLaws.{same_triple_equiv, same_triple_exact}
+use Rattle.shx_term.specs.inner.TripleLaws.{same_triple_equiv, same_triple_exact}
 use Rattle.shx_term.proofs.MemberLemmas.{Contains-test, Contains-insert, Contains-remove}
-use Rattle.graph_view.specs.Graph.{HasAlso, HasNot}
+use Rattle.graph_view.specs.Graph.{HasAlso, IsWithout}
 
 -- an answer of the test decides whether the triple is held
 pub triple_held : (triples : List Triple) (t : Triple) (answer : Bool)
@@ -27,10 +27,10 @@ HasAlso-insert triples t = record {
   each = Contains-insert same_triple same_triple_equiv same_triple_exact triples t;
 }
 
-pub HasNot-remove : (triples left : List Triple) (t : Triple)
+pub IsWithout-remove : (triples left : List Triple) (t : Triple)
     → ((u : Triple) → list_any (same_triple u) left
     ≡ (if same_triple t u then false else list_any (same_triple u) triples))
-    → HasNot triples left t
-HasNot-remove triples left t removed = record {
+    → IsWithout triples left t
+IsWithout-remove triples left t removed = record {
   each = Contains-remove same_triple same_triple_equiv same_triple_exact triples left t removed;
 }

@@ -1,20 +1,27 @@
 -- Valid triples by their numbers, and views that stay valid as terms are entered and triples come and go.
-use Rattle.std.specs.Prelude.{◌≡◌, ℕ, List, ◌++◌, All, Contains, Option, Some, None}
-use Rattle.std.proofs.Common.{sym, ap, ◌∙◌, subst, inl, inr}
+use Rattle.std.specs.Prelude.{◌≡◌, ℕ, ◌<◌, List, ◌++◌, length, take, slice_get, All, Contains}
+use Rattle.std.specs.Prelude.{Option, Some, None}
+use Rattle.std.proofs.Common.{drop, sym, ap, ◌∙◌, subst, inl, inr}
+use Rattle.std.proofs.lemmas.List.{take-append-drop}
+use Rattle.std.proofs.lemmas.List.Elements.{All-take}
+use Rattle.std.proofs.lemmas.Option.{slice_get_within}
 use Rattle.shx_term.specs.declared.term.Term.{Term}
 use Rattle.shx_term.specs.declared.triple.Triple.{Triple}
 use Rattle.shx_term.specs.declared.triple.TermTriple.{TermTriple}
+use Rattle.shx_term.specs.Members.{SameMembers}
 use Rattle.shx_term.specs.Pool.{with_term}
 use Rattle.shx_term.specs.TermOrder.{same_term}
-use Rattle.shx_term.specs.TermOrderLaws.{same_term_equiv, same_term_exact}
+use Rattle.shx_term.specs.inner.TermOrderLaws.{same_term_equiv, same_term_exact}
 use Rattle.shx_term.specs.TripleTerms.{number_in, triple_of_numbers, numbered}
 use Rattle.shx_term.specs.ValidTriples.{IsNotWide, IsValidTermTriple}
 use Rattle.shx_term.proofs.HeldLemmas.{with_term_grows}
 use Rattle.shx_term.proofs.IdOrderLemmas.{slice_get-append}
 use Rattle.shx_term.proofs.MemberLemmas.{Contains-insert, each_of_All, All_of_each}
 use Rattle.shx_term.proofs.PlaceLemmas.{slice_get-position}
-use Rattle.graph_view.specs.Graph.{Graph, IsKnownTriple, AllKnown, HasAlso, HasNot}
+use Rattle.graph_view.specs.Graph.{Graph, IsKnownTriple, AllKnown, HasAlso, IsWithout}
+use Rattle.graph_view.specs.Patched.{patched}
 use Rattle.graph_view.specs.Valid.{IsValidTriple, IsValidView}
+use Rattle.graph_view.proofs.PatchedLemmas.{IsValidView-patched}
 
 -- a triple has the numbers that it was made of
 pub made_of : (s p o : Option ℕ) (t : Triple) → triple_of_numbers s p o ≡ Some t
@@ -50,10 +57,40 @@ IsValidTriple-append terms more t known valid = record {
   valid = valid.valid;
 }
 
+-- its numbers have terms
+pub IsKnownTriple-valid : (terms : List Term) (t : Triple) → IsValidTriple terms t → IsKnownTriple terms t
+IsKnownTriple-valid terms t valid = record {
+  s = slice_get_within terms t.s valid.stated.s valid.s;
+  p = slice_get_within terms t.p valid.stated.p valid.p;
+  o = slice_get_within terms t.o valid.stated.o valid.o;
+}
+
+pub AllKnown-valid : (g : Graph) → IsValidView g → AllKnown g
+AllKnown-valid g valid = All_of_each (IsKnownTriple g.terms) g.triples (λ t c.
+    IsKnownTriple-valid g.terms t (each_of_All (IsValidTriple g.terms) g.triples valid.triples t c))
+
+-- a triple stays valid where the terms behind its own are cut off
+slice_get-take : (terms : List Term) (n id : ℕ) → id < length (take n terms)
+    → slice_get (take n terms) id ≡ slice_get terms id
+slice_get-take terms n id inside =
+    sym (slice_get-append (take n terms) (drop n terms) id inside)
+    ∙ ap (λ ts. slice_get ts id) (take-append-drop n terms)
+
+IsValidTriple-take : (terms : List Term) (n : ℕ) (t : Triple) → IsKnownTriple (take n terms) t
+    → IsValidTriple terms t → IsValidTriple (take n terms) t
+IsValidTriple-take terms n t known valid = record {
+  stated = valid.stated;
+  s = slice_get-take terms n t.s known.s ∙ valid.s;
+  p = slice_get-take terms n t.p known.p ∙ valid.p;
+  o = slice_get-take terms n t.o known.o ∙ valid.o;
+  valid = valid.valid;
+}
+
 -- entering a term that is no wide literal leaves a view valid
-pub IsValidView-entered : (g h : Graph) (t : Term) → AllKnown g → IsValidView g → IsNotWide t
+pub IsValidView-entered : (g h : Graph) (t : Term) → IsValidView g → IsNotWide t
     → h.terms ≡ with_term g.terms t → h.triples ≡ g.triples → IsValidView h
-IsValidView-entered g h t known valid narrow terms triples =
+IsValidView-entered g h t valid narrow terms triples =
+    let known = AllKnown-valid g valid in
     let grown = with_term_grows g.terms t in
     record {
       triples = All_of_each (IsValidTriple h.terms) h.triples (λ u c.
@@ -85,11 +122,38 @@ IsValidView-inserted g h t valid fit terms also = record {
 
 -- so does removing one
 pub IsValidView-removed : (g h : Graph) (t : Triple) → IsValidView g → h.terms ≡ g.terms
-    → HasNot g.triples h.triples t → IsValidView h
+    → IsWithout g.triples h.triples t → IsValidView h
 IsValidView-removed g h t valid terms without = record {
   triples = All_of_each (IsValidTriple h.terms) h.triples (λ u c.
       let held = ((without.each u).0 c).0 in
       subst (λ ts. IsValidTriple ts u) (sym terms)
       (each_of_All (IsValidTriple g.terms) g.triples valid.triples u held));
   terms = subst (All IsNotWide) (sym terms) valid.terms;
+}
+
+-- so does exchanging triples for valid ones
+pub IsValidView-exchanged : (g h : Graph) (added removed : List Triple) → IsValidView g
+    → All (IsValidTriple g.terms) added → h.terms ≡ g.terms
+    → SameMembers h.triples (patched g added removed).triples → IsValidView h
+IsValidView-exchanged g h added removed valid fit terms same =
+    let changed = IsValidView-patched g added removed valid fit in
+    record {
+      triples = subst (λ ts. All (IsValidTriple ts) h.triples) (sym terms)
+          (All_of_each (IsValidTriple g.terms) h.triples (λ t c.
+          each_of_All (IsValidTriple g.terms) (patched g added removed).triples changed.triples t
+          ((same.each t).0 c)));
+      terms = subst (All IsNotWide) (sym terms) valid.terms;
+    }
+
+-- and cutting terms off that no triple has
+pub IsValidView-cut : (g h : Graph) (n : ℕ) → IsValidView g → h.terms ≡ take n g.terms
+    → h.triples ≡ g.triples → All (IsKnownTriple h.terms) h.triples → IsValidView h
+IsValidView-cut g h n valid terms triples known = record {
+  triples = All_of_each (IsValidTriple h.terms) h.triples (λ t c.
+      let here = each_of_All (IsKnownTriple h.terms) h.triples known t c in
+      let held = subst (λ us. Contains us t) triples c in
+      let fit = each_of_All (IsValidTriple g.terms) g.triples valid.triples t held in
+      subst (λ ts. IsValidTriple ts t) (sym terms)
+      (IsValidTriple-take g.terms n t (subst (λ ts. IsKnownTriple ts t) terms here) fit));
+  terms = subst (All IsNotWide) (sym terms) (All-take IsNotWide n g.terms valid.terms);
 }

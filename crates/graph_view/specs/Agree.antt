@@ -5,11 +5,11 @@ use Rattle.shx_term.specs.declared.triple.Triple.{Triple}
 use Rattle.graph_view.specs.declared.key.Key.{Key}
 use Rattle.graph_view.specs.Graph.{Graph}
 use Rattle.graph_view.specs.Key.{Touches, look}
-use Rattle.graph_view.specs.SameGraph.{HoldsSame}
+use Rattle.shx_term.specs.Members.{SameMembers}
 
 -- looking up each of the keys finds the same triples
 pub record AgreeOn (g h : List Triple) (K : Key → Type 0) : Type 0 where
-  pub each : (key : Key) → K key → HoldsSame (look g key) (look h key)
+  pub each : (key : Key) → K key → SameMembers (look g key) (look h key)
 
 -- the terms of h begin with those of g, and their triples agree on the keys
 pub record Agree (g h : Graph) (K : Key → Type 0) : Type 0 where

@@ -1,6 +1,5 @@
 -- A graph: terms, each numbered by its place, and triples of numbers.
 use Rattle.std.specs.Prelude.{◌≡◌, ℕ, ◌<◌, not, List, [], ◌∷◌, map, filter, length, Contains, ◌↔◌, ◌⊎◌, All}
-use Rattle.std.specs.List.{IsDistinct}
 use Rattle.shx_term.specs.declared.term.Term.{Term}
 use Rattle.shx_term.specs.declared.triple.Triple.{Triple}
 use Rattle.shx_term.specs.Triple.{same_triple}
@@ -28,10 +27,9 @@ pub record IsKnownTriple (terms : List Term) (t : Triple) : Type 0 where
 abbrev pub AllKnown : Graph → Type 0
 AllKnown g = All (IsKnownTriple g.terms) g.triples
 
--- the triples are a set of triples of numbers that have terms
-pub record IsGraph (g : Graph) : Type 0 where
-  pub distinct : IsDistinct same_triple g.triples
-  pub known : AllKnown g
+-- the numbers have terms
+abbrev pub HasTerms : Graph → List ℕ → Type 0
+HasTerms g ids = All (λ id. id < length g.terms) ids
 
 -- each triple of a list at its first place
 abbrev pub first_places : List Triple → List Triple
@@ -63,7 +61,7 @@ pub record HasAlso (g h : List Triple) (t : Triple) : Type 0 where
   pub each : (u : Triple) → Contains h u ↔ (Contains g u ⊎ (u ≡ t))
 
 -- h holds the triples of g other than t, and no others
-pub record HasNot (g h : List Triple) (t : Triple) : Type 0 where
+pub record IsWithout (g h : List Triple) (t : Triple) : Type 0 where
   pub each : (u : Triple) → Contains h u ↔ (Contains g u × (u ≡ t → ⊥))
 
 -- as many triples as the limit are held, and t is none of them

@@ -1,5 +1,5 @@
 -- Keys: the parts of a graph that look-ups read.
-use Rattle.std.specs.Prelude.{◌≡◌, ℕ, Bool, ◌&&◌, ◌==◌, List, ◌++◌, filter}
+use Rattle.std.specs.Prelude.{◌≡◌, ℕ, Bool, ◌&&◌, ◌==◌, List, [], ◌∷◌, ◌++◌, filter}
 use Rattle.std.specs.declared.cmp.Ordering.{Ordering}
 use Rattle.std.specs.Hash as fed
 use Rattle.std.specs.Ordering.{nat_cmp, ordering_then}
@@ -20,6 +20,10 @@ is_touching t (Out s p) = (t.s == s) && (t.p == p)
 is_touching t (In p o) = (t.p == p) && (t.o == o)
 is_touching t (Subject s) = t.s == s
 is_touching t (Predicate p) = t.p == p
+
+-- the keys that a triple touches
+abbrev pub keys_of : Triple → List Key
+keys_of t = Out t.s t.p ∷ In t.p t.o ∷ Subject t.s ∷ Predicate t.p ∷ []
 
 -- the triples that touch the key
 abbrev pub look : List Triple → Key → List Triple

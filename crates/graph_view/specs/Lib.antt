@@ -1,10 +1,10 @@
 pub mod Agree
 pub mod Graph
 pub mod Key
-pub mod KeyLaws
 pub mod ListGraph
 pub mod Patched
 pub mod Reads
 pub mod SameGraph
 pub mod StoreFault
 pub mod Valid
+pub mod inner

@@ -1,11 +1,9 @@
--- Lists of keys seen as sets.
-use Rattle.std.specs.Prelude.{List, Contains, ◌↔◌, ◌⊎◌}
+-- Keys that were read, and triples that touch them.
+use Rattle.std.specs.Prelude.{List, Contains}
+use Rattle.shx_term.specs.declared.triple.Triple.{Triple}
 use Rattle.graph_view.specs.declared.key.Key.{Key}
+use Rattle.graph_view.specs.Key.{Touches}
 
--- new has the keys of old and those of more, and no others
-pub record Adds (old new more : List Key) : Type 0 where
-  pub each : (key : Key) → Contains new key ↔ (Contains old key ⊎ Contains more key)
-
--- the same keys, in whatever order and however often
-pub record SameKeys (xs ys : List Key) : Type 0 where
-  pub each : (key : Key) → Contains xs key ↔ Contains ys key
+-- the triple touches one of the keys
+abbrev pub IsTouchedBy : Triple → List Key → Type 0
+IsTouchedBy t keys = (key : Key) × (Contains keys key × Touches t key)

@@ -1,12 +1,14 @@
-ghost use Rattle.std.specs.Prelude.{◌≡◌, ◌≤◌, ◌+◌, ◌↔◌, ℕ, Some, length, position, Contains, if◌then◌else◌};
-ghost use Rattle.std.specs.Prelude.{IsTrue, IfOk, IfErr, OnOk, OnErr};
+ghost use Rattle.std.specs.Prelude.{◌≡◌, ◌≤◌, ◌<◌, ◌+◌, ◌↔◌, ℕ, Some, length, position, slice_get, take};
+ghost use Rattle.std.specs.Prelude.{All, Contains, if◌then◌else◌, IsTrue, IfOk, IfErr, OnOk, OnErr};
 ghost use Rattle.shx_term.specs.Pool.{with_term, IsFullFor, HasRoomFor};
 ghost use Rattle.shx_term.specs.TermOrder.{same_term};
 ghost use Rattle.shx_term.specs.declared.term.Term.{Term};
 ghost use Rattle.shx_term.specs.declared.triple.Triple.{Triple};
 ghost use Rattle.graph_view.specs.Agree.{Agree, IsAnyKey, IsUntouched};
-ghost use Rattle.graph_view.specs.Graph.{Graph, pooled, IsKnownTriple, HasAlso, HasNot};
+ghost use Rattle.graph_view.specs.Graph.{Graph, pooled, IsKnownTriple, HasAlso, IsWithout};
 ghost use Rattle.graph_view.specs.Graph.{IsAtLimit, HasRoomForTriple};
+ghost use Rattle.graph_view.specs.Patched.{patched, IsPatch};
+ghost use Rattle.shx_term.specs.Members.{SameMembers};
 
 use crate::GraphView;
 use shx_term::{Id, PoolFault, Term, Triple};
@@ -76,6 +78,7 @@ pub trait GraphEdit: GraphView {
             ((Self.graph self.new).terms ≡ with_term (Self.graph self.old).terms term.now) }
         ensures found { IfOk result (λ id.
             position (same_term term.now) (Self.graph self.new).terms ≡ Some id) }
+        ensures id { IfOk result (λ id. slice_get (Self.graph self.new).terms id ≡ Some term.now) }
         ensures triples { (Self.graph self.new).triples ≡ (Self.graph self.old).triples }
         ensures term_limit { Self.term_limit self.new ≡ Self.term_limit self.old }
         ensures triple_limit { triple_limit self.new ≡ triple_limit self.old }
@@ -109,10 +112,40 @@ pub trait GraphEdit: GraphView {
         ensures terms { (Self.graph self.new).terms ≡ (Self.graph self.old).terms }
         ensures term_limit { Self.term_limit self.new ≡ Self.term_limit self.old }
         ensures triple_limit { triple_limit self.new ≡ triple_limit self.old }
-        ensures removed { HasNot (Self.graph self.old).triples (Self.graph self.new).triples t.now }
+        ensures removed { IsWithout (Self.graph self.old).triples (Self.graph self.new).triples t.now }
         ensures held { IsTrue result ↔ Contains (Self.graph self.old).triples t.now }
         ensures count { length (Self.graph self.new).triples + (if result then 1 else 0)
             ≡ length (Self.graph self.old).triples };
+
+    /// Removes these triples and adds those, all or none: the limit holds for what is left in the end. It
+    /// takes memory for the added ones alone.
+    fn exchange(&mut self, removed: &[Triple], added: &[Triple]) -> Result<(), StoreFault>
+        requires patch { IsPatch (Self.graph self.old) added.now removed.now }
+        ensures terms { (Self.graph self.new).terms ≡ (Self.graph self.old).terms }
+        ensures term_limit { Self.term_limit self.new ≡ Self.term_limit self.old }
+        ensures triple_limit { triple_limit self.new ≡ triple_limit self.old }
+        ensures exchanged { OnOk result (SameMembers (Self.graph self.new).triples
+            (patched (Self.graph self.old) added.now removed.now).triples) }
+        ensures count { OnOk result (length (Self.graph self.new).triples
+            ≡ length (patched (Self.graph self.old) added.now removed.now).triples) }
+        ensures refused { OnErr result (Self.graph self.new ≡ Self.graph self.old) }
+        ensures full { IfErr result (λ fault. fault ≡ StoreFault.TooMany → triple_limit self.old
+            < length (patched (Self.graph self.old) added.now removed.now).triples) }
+        ensures memory { IfErr result (λ fault. fault ≡ StoreFault.Memory
+            → length (patched (Self.graph self.old) added.now removed.now).triples ≤ triple_limit self.old) }
+        ensures room { OnOk result (length (patched (Self.graph self.old) added.now removed.now).triples
+            ≤ triple_limit self.old) };
+
+    /// Takes the terms from this number on out of the pool; the triples stay. It takes no memory.
+    fn cut(&mut self, len: u32)
+        requires vocabulary { 62 ≤ len }
+        requires within { len ≤ length (Self.graph self.old).terms }
+        requires unused { All (IsKnownTriple (take len (Self.graph self.old).terms))
+            (Self.graph self.old).triples }
+        ensures terms { (Self.graph self.new).terms ≡ take len (Self.graph self.old).terms }
+        ensures triples { (Self.graph self.new).triples ≡ (Self.graph self.old).triples }
+        ensures term_limit { Self.term_limit self.new ≡ Self.term_limit self.old }
+        ensures triple_limit { triple_limit self.new ≡ triple_limit self.old };
 }
 
 /// Edits change no more than they say. After a term is entered the graph agrees with what it was on every
@@ -122,6 +155,6 @@ pub fn edits_agree()
         → Agree g h IsAnyKey }
     ensures inserted { (g h : Graph) (t : Triple) → h.terms ≡ g.terms → HasAlso g.triples h.triples t
         → Agree g h (IsUntouched t) }
-    ensures removed { (g h : Graph) (t : Triple) → h.terms ≡ g.terms → HasNot g.triples h.triples t
+    ensures removed { (g h : Graph) (t : Triple) → h.terms ≡ g.terms → IsWithout g.triples h.triples t
         → Agree g h (IsUntouched t) }
 {}

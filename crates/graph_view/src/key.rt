@@ -1,5 +1,6 @@
-ghost use Rattle.std.specs.Prelude.{◌≡◌, ◌↔◌, IsTrue};
-ghost use Rattle.graph_view.specs.Key.{Touches, is_touching, key_kind, key_first, key_second};
+ghost use Rattle.std.specs.Prelude.{◌≡◌, ◌↔◌, Contains, IsTrue};
+ghost use Rattle.graph_view.specs.declared.key.Key.{Key};
+ghost use Rattle.graph_view.specs.Key.{Touches, is_touching, keys_of, key_kind, key_first, key_second};
 
 use shx_term::{Id, Triple};
 use std::cmp::Ordering;
@@ -51,7 +52,7 @@ fn second(key: &Key) -> Id
 impl PartialEq for Key {
     ghost use Rattle.std.specs.Cmp;
     ghost use Rattle.graph_view.specs.Key.{same_key};
-    ghost use Rattle.graph_view.specs.KeyLaws.{same_key_equiv};
+    ghost use Rattle.graph_view.specs.inner.KeyLaws.{same_key_equiv};
 
     ghost eq = { same_key };
 
@@ -63,7 +64,7 @@ impl PartialEq for Key {
 }
 
 impl Eq for Key {
-    ghost use Rattle.graph_view.specs.KeyLaws.{same_key_equiv};
+    ghost use Rattle.graph_view.specs.inner.KeyLaws.{same_key_equiv};
 
     ghost laws = { same_key_equiv };
 }
@@ -72,7 +73,7 @@ impl PartialOrd for Key {
     ghost use Rattle.std.specs.Prelude.{Some};
     ghost use Rattle.std.specs.Cmp.{po};
     ghost use Rattle.graph_view.specs.Key.{key_cmp};
-    ghost use Rattle.graph_view.specs.KeyLaws.{key_cmp_total, key_cmp_ties};
+    ghost use Rattle.graph_view.specs.inner.KeyLaws.{key_cmp_total, key_cmp_ties};
 
     ghost partial_cmp = { λ a b. Some (key_cmp a b) };
 
@@ -87,7 +88,7 @@ impl PartialOrd for Key {
 impl Ord for Key {
     ghost use Rattle.std.specs.Prelude.{refl};
     ghost use Rattle.graph_view.specs.Key.{key_cmp};
-    ghost use Rattle.graph_view.specs.KeyLaws.{key_cmp_total, key_cmp_ties};
+    ghost use Rattle.graph_view.specs.inner.KeyLaws.{key_cmp_total, key_cmp_ties};
 
     ghost cmp = { key_cmp };
 
@@ -108,7 +109,7 @@ impl Ord for Key {
 impl Hash for Key {
     ghost use Rattle.std.proofs.Common.{ap};
     ghost use Rattle.graph_view.specs.Key.{key_hash_input};
-    ghost use Rattle.graph_view.specs.KeyLaws.{same_key_exact};
+    ghost use Rattle.graph_view.specs.inner.KeyLaws.{same_key_exact};
 
     ghost hash_input = { key_hash_input };
 
@@ -132,4 +133,17 @@ pub fn touches(t: &Triple, key: &Key) -> bool
         Key::Subject(s) => t.s == *s,
         Key::Predicate(p) => t.p == *p,
     }
+}
+
+/// The keys that the triple touches, and no others. It takes no memory.
+pub fn keys_of(t: &Triple) -> [Key; 4]
+    ensures keys { result ≡ keys_of t.now }
+    ensures touched { (key : Key) → Contains (keys_of t.now) key ↔ Touches t.now key }
+{
+    [
+        Key::Out(t.s, t.p),
+        Key::In(t.p, t.o),
+        Key::Subject(t.s),
+        Key::Predicate(t.p),
+    ]
 }

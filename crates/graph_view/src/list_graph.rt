@@ -1,7 +1,9 @@
-ghost use Rattle.std.specs.Prelude.{◌≡◌, []};
+ghost use Rattle.std.specs.Prelude.{◌≡◌, ◌≤◌, ◌↔◌, [], length, IsTrue};
+ghost use Rattle.graph_view.specs.ListGraph.{plain_graph};
+ghost use Rattle.graph_view.specs.Patched.{patched, IsPatch};
 
-use crate::among::{objects_among, subjects_among, triples_among};
-use crate::{GraphEdit, GraphView, Key, Reads, StoreFault};
+use crate::triple_set::{insert_all, remove_all};
+use crate::{GraphEdit, GraphView, Lent, Reads, StoreFault};
 use indexmap::IndexSet;
 use shx_term::{Id, Memory, Pool, PoolFault, Term, Triple};
 use std::alloc::Global;
@@ -44,6 +46,22 @@ impl ListGraph {
         self.triples.as_slice()
     }
 
+    // Whether the limit allows what an exchange would leave.
+    fn has_room_for(&self, removed: &[Triple], added: &[Triple]) -> bool
+        requires patch { IsPatch (plain_graph self.now) added.now removed.now }
+        ensures { IsTrue result
+            ↔ (length (patched (plain_graph self.now) added.now removed.now).triples ≤ self.now.limit) }
+    {
+        let left = self.triples.len() as u64 - removed.len() as u64;
+        added.len() as u64 <= self.limit - left
+    }
+
+    fn lent<'a>(&'a self) -> Lent<'a>
+        ensures { ⟦<Lent<'a> as GraphView>⟧.graph result ≡ plain_graph self.now }
+    {
+        Lent::new(&self.pool, self.triples.as_slice())
+    }
+
     /// The pool, without the triples. It takes no memory.
     pub fn into_pool(self) -> Pool
         ensures { result ≡ self.pool }
@@ -77,31 +95,19 @@ impl GraphView for ListGraph {
     }
 
     fn objects(&self, alloc: Global, s: Id, p: Id, reads: &mut Reads) -> Result<Vec<Id>, Memory> {
-        let key = Key::Out(s, p);
-        let found = objects_among(alloc, self.triples.as_slice(), &key)?;
-        reads.add(key)?;
-        Ok(self.pool.in_order(found))
+        self.lent().objects(alloc, s, p, reads)
     }
 
     fn subjects(&self, alloc: Global, p: Id, o: Id, reads: &mut Reads) -> Result<Vec<Id>, Memory> {
-        let key = Key::In(p, o);
-        let found = subjects_among(alloc, self.triples.as_slice(), &key)?;
-        reads.add(key)?;
-        Ok(self.pool.in_order(found))
+        self.lent().subjects(alloc, p, o, reads)
     }
 
     fn triples_of(&self, alloc: Global, s: Id, reads: &mut Reads) -> Result<Vec<Triple>, Memory> {
-        let key = Key::Subject(s);
-        let found = triples_among(alloc, self.triples.as_slice(), &key)?;
-        reads.add(key)?;
-        Ok(self.pool.triples_in_order(found))
+        self.lent().triples_of(alloc, s, reads)
     }
 
     fn triples_with(&self, alloc: Global, p: Id, reads: &mut Reads) -> Result<Vec<Triple>, Memory> {
-        let key = Key::Predicate(p);
-        let found = triples_among(alloc, self.triples.as_slice(), &key)?;
-        reads.add(key)?;
-        Ok(self.pool.triples_in_order(found))
+        self.lent().triples_with(alloc, p, reads)
     }
 }
 
@@ -129,5 +135,26 @@ impl GraphEdit for ListGraph {
 
     fn remove(&mut self, t: &Triple) -> bool {
         self.triples.swap_remove(t)
+    }
+
+    fn exchange(&mut self, removed: &[Triple], added: &[Triple]) -> Result<(), StoreFault> {
+        if !self.has_room_for(removed, added) {
+            return Err(StoreFault::TooMany);
+        }
+        let held = self.triples.len();
+        match insert_all(&mut self.triples, added) {
+            Ok(()) => {
+                remove_all(&mut self.triples, removed);
+                Ok(())
+            }
+            Err(_) => {
+                self.triples.truncate(held);
+                Err(StoreFault::Memory)
+            }
+        }
+    }
+
+    fn cut(&mut self, len: u32) {
+        self.pool.cut(len);
     }
 }

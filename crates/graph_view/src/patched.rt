@@ -1,24 +1,25 @@
-ghost use Rattle.std.specs.Prelude.{◌≡◌, ◌+◌, ◌<◌, ◌^◌, List, length, All, Contains};
+ghost use Rattle.std.specs.Prelude.{◌≡◌, ◌+◌, ◌<◌, ◌^◌, List, length, All};
 ghost use Rattle.std.specs.List.{IsDistinct};
 ghost use Rattle.std.proofs.lemmas.Map.Keys.{IsDistinct-prop};
 ghost use Rattle.shx_term.specs.Triple.{same_triple};
 ghost use Rattle.shx_term.specs.declared.triple.Triple.{Triple};
 ghost use Rattle.graph_view.specs.Agree.{Agree};
-ghost use Rattle.graph_view.specs.Graph.{Graph, IsKnownTriple, AllKnown};
-ghost use Rattle.graph_view.specs.Patched.{without, patched, IsBeside};
+ghost use Rattle.graph_view.specs.Graph.{Graph, AllKnown};
+ghost use Rattle.graph_view.specs.Patched.{without, patched, IsPatch, IsBeside};
 ghost use Rattle.graph_view.specs.Valid.{IsValidTriple, IsValidView};
 
-use crate::among::{changed, objects_among, subjects_among, triples_among};
-use crate::{GraphView, Key, Reads};
+use crate::changed::changed;
+use crate::{GraphView, Key, Reads, objects_among, subjects_among, triples_among};
 use shx_term::{Id, Memory, Pool, Triple};
 use std::alloc::Global;
 
 /// A base graph without some triples and with others, so that an edit is evaluated before it is made. The
 /// base stays as it is.
 ///
-/// A look-up costs that of the base and one pass over the changed triples; what it finds is compared with the
-/// removed triples under its key, and sorted again. It is meant for a change of a few triples. For many an
-/// overlay with an index of its own is better, since each look-up passes the whole change.
+/// A look-up costs that of the base and one pass over the changed triples. Where none of them touches its key
+/// it gives what the base gives; else what is removed is left out, and each added triple is put at its place,
+/// which a binary search finds. It is meant for a change of a few triples. For many an overlay with an index
+/// of its own is better, since each look-up passes the whole change.
 #[derive(Drop)]
 pub struct Patched<'a, V: GraphView> {
     base: &'a V,
@@ -35,11 +36,7 @@ pub struct Patched<'a, V: GraphView> {
 impl<'a, V: GraphView> Patched<'a, V> {
     /// The base without the removed triples and with the added ones. It takes no memory.
     pub fn new(base: &'a V, added: &'a [Triple], removed: &'a [Triple]) -> Patched<'a, V>
-        requires added_once { IsDistinct same_triple added.now }
-        requires added_absent { All (λ t. Contains (V.graph base.now).triples t → ⊥) added.now }
-        requires added_known { All (IsKnownTriple (V.graph base.now).terms) added.now }
-        requires removed_once { IsDistinct same_triple removed.now }
-        requires removed_held { All (Contains (V.graph base.now).triples) removed.now }
+        requires patch { IsPatch (V.graph base.now) added.now removed.now }
         requires countable { length (patched (V.graph base.now) added.now removed.now).triples < 2 ^ 64 }
         ensures graph { ⟦<Patched<'a, V> as GraphView>⟧.graph result
             ≡ patched (V.graph base.now) added.now removed.now }
@@ -77,8 +74,7 @@ impl<'a, V: GraphView> GraphView for Patched<'a, V> {
         let found = self.base.objects(alloc, s, p, reads)?;
         let gone = objects_among(alloc, self.removed, &key)?;
         let new = objects_among(alloc, self.added, &key)?;
-        let objects = changed(found, &gone, &new)?;
-        Ok(self.base.pool().in_order(objects))
+        changed(self.base.pool(), found, &gone, &new)
     }
 
     fn subjects(&self, alloc: Global, p: Id, o: Id, reads: &mut Reads) -> Result<Vec<Id>, Memory> {
@@ -86,8 +82,7 @@ impl<'a, V: GraphView> GraphView for Patched<'a, V> {
         let found = self.base.subjects(alloc, p, o, reads)?;
         let gone = subjects_among(alloc, self.removed, &key)?;
         let new = subjects_among(alloc, self.added, &key)?;
-        let subjects = changed(found, &gone, &new)?;
-        Ok(self.base.pool().in_order(subjects))
+        changed(self.base.pool(), found, &gone, &new)
     }
 
     fn triples_of(&self, alloc: Global, s: Id, reads: &mut Reads) -> Result<Vec<Triple>, Memory> {
@@ -95,8 +90,7 @@ impl<'a, V: GraphView> GraphView for Patched<'a, V> {
         let found = self.base.triples_of(alloc, s, reads)?;
         let gone = triples_among(alloc, self.removed, &key)?;
         let new = triples_among(alloc, self.added, &key)?;
-        let triples = changed(found, &gone, &new)?;
-        Ok(self.base.pool().triples_in_order(triples))
+        changed(self.base.pool(), found, &gone, &new)
     }
 
     fn triples_with(&self, alloc: Global, p: Id, reads: &mut Reads) -> Result<Vec<Triple>, Memory> {
@@ -104,8 +98,7 @@ impl<'a, V: GraphView> GraphView for Patched<'a, V> {
         let found = self.base.triples_with(alloc, p, reads)?;
         let gone = triples_among(alloc, self.removed, &key)?;
         let new = triples_among(alloc, self.added, &key)?;
-        let triples = changed(found, &gone, &new)?;
-        Ok(self.base.pool().triples_in_order(triples))
+        changed(self.base.pool(), found, &gone, &new)
     }
 }
 

@@ -2,18 +2,21 @@ ghost use Rattle.std.specs.Prelude.{◌≡◌, ◌<◌, ◌↔◌, ℕ, [], ◌�
 ghost use Rattle.std.specs.Prelude.{Contains, IsTrue, OnOk, OnErr};
 ghost use Rattle.std.specs.List.{IsDistinct};
 ghost use Rattle.graph_view.specs.Key.{same_key};
-ghost use Rattle.graph_view.specs.Reads.{Adds};
+ghost use Rattle.shx_term.specs.Members.{Adds};
+ghost use Rattle.graph_view.specs.Reads.{IsTouchedBy};
 
 use crate::Key;
-use indexmap::IndexSet;
-use shx_term::Memory;
+use crate::keys::Keys;
+use shx_term::{Memory, Triple};
 use std::alloc::Global;
 use std::marker::Model;
 
 /// The keys that were read, each once. Contracts see them as a list, and speak of its members alone.
+///
+/// Up to 16 keys take 12 bytes each in one allocation, and are searched; more are found by hash.
 #[derive(Drop)]
 pub struct Reads {
-    keys: IndexSet<Key>,
+    keys: Keys,
 }
 
 impl Model for Reads {
@@ -22,7 +25,13 @@ impl Model for Reads {
 
     ghost Value = { List Key };
 
-    ghost view = { λ a. a.keys.keys };
+    ghost use Rattle.std.specs.List.{IsDistinct};
+    ghost use Rattle.graph_view.specs.Key.{same_key};
+    ghost use Rattle.graph_view.specs.inner.HeldKeys.{held_keys};
+
+    ghost view = { λ a. held_keys a.keys };
+
+    ghost invariant = { λ a. IsDistinct same_key (held_keys a.keys) };
 }
 
 impl Reads {
@@ -31,15 +40,23 @@ impl Reads {
         ensures { result ≡ [] }
     {
         Reads {
-            keys: IndexSet::new(alloc),
+            keys: Keys::new(alloc),
         }
     }
 
-    /// Whether the key was read. It takes no memory, and one look-up by hash.
+    /// Whether the key was read. It takes no memory, and at most one look-up by hash.
     pub fn has(&self, key: &Key) -> bool
         ensures { IsTrue result ↔ Contains self.now key.now }
     {
         self.keys.contains(key)
+    }
+
+    /// Whether a key was read that the triple touches. It takes no memory, and a walk over a few keys or four
+    /// look-ups by hash.
+    pub fn is_touched_by(&self, t: &Triple) -> bool
+        ensures { IsTrue result ↔ IsTouchedBy t.now self.now }
+    {
+        self.keys.is_touched_by(t)
     }
 
     /// Adds one key.
@@ -47,8 +64,7 @@ impl Reads {
         ensures added { OnOk result (Adds self.old self.new (key ∷ [])) }
         ensures refused { OnErr result (self.new ≡ self.old) }
     {
-        self.keys.insert(key)?;
-        Ok(())
+        self.keys.insert(key)
     }
 
     /// Adds all keys of another set, with one look-up by hash for each. Where it is refused, some of the
@@ -57,7 +73,7 @@ impl Reads {
         ensures added { OnOk result (Adds self.old self.new other.now) }
         ensures refused { OnErr result ((n : ℕ) × Adds self.old self.new (take n other.now)) }
     {
-        for key in other.keys.as_slice() {
+        for key in other.keys() {
             self.add(*key)?;
         }
         Ok(())
@@ -68,7 +84,15 @@ impl Reads {
         ensures count { result ≡ length self.now }
         ensures distinct { IsDistinct same_key self.now }
     {
-        self.keys.len()
+        self.keys().len()
+    }
+
+    /// The keys, in the order in which they were first added. They are distinct.
+    pub fn keys(&self) -> &[Key]
+        ensures keys { result.now ≡ self.now }
+        ensures distinct { IsDistinct same_key self.now }
+    {
+        self.keys.as_slice()
     }
 
     /// The key at a place, in the order in which the keys were first added.
@@ -76,6 +100,13 @@ impl Reads {
         requires { at < length self.now }
         ensures { slice_get self.now at ≡ Some result.now }
     {
-        &self.keys.as_slice()[at]
+        &self.keys()[at]
+    }
+
+    /// Takes all keys out, and keeps the memory.
+    pub fn clear(&mut self)
+        ensures { self.new ≡ [] }
+    {
+        self.keys.clear();
     }
 }

@@ -1,18 +1,23 @@
-ghost use Rattle.std.specs.Prelude.{◌≡◌, ◌↔◌, ℕ, [], ◌∷◌, length, Contains, IsTrue, IfOk, OnOk};
+ghost use Rattle.std.specs.Prelude.{◌≡◌, ◌<◌, ◌↔◌, ℕ, [], ◌∷◌, Some, length, slice_get, All, Contains};
+ghost use Rattle.std.specs.Prelude.{IsTrue, IfOk, OnOk};
 ghost use Rattle.std.specs.List.{IsDistinct};
 ghost use Rattle.shx_term.specs.Triple.{same_triple};
 ghost use Rattle.shx_term.specs.declared.triple.Triple.{Triple};
+ghost use Rattle.shx_term.specs.ValidTriples.{IsNotWide};
 ghost use Rattle.graph_view.specs.Agree.{Agree};
-ghost use Rattle.graph_view.specs.Graph.{Graph, AllKnown, objects_of, subjects_of, triples_of, triples_with};
-ghost use Rattle.graph_view.specs.Reads.{Adds};
+ghost use Rattle.graph_view.specs.Graph.{Graph, IsKnownTriple, AllKnown, HasTerms};
+ghost use Rattle.graph_view.specs.Graph.{objects_of, subjects_of, triples_of, triples_with};
+ghost use Rattle.shx_term.specs.Members.{Adds};
+ghost use Rattle.graph_view.specs.Valid.{IsValidView};
 
 use crate::{Key, Reads};
-use shx_term::{Id, Memory, Pool, Triple};
+use shx_term::{Id, Memory, Pool, Term, Triple};
 use std::alloc::Global;
 
 /// A graph that can be looked up. Which triples it holds is told; their order is not.
 ///
-/// A look-up gives its answer in the order of terms, and adds to `reads` the one key that it read.
+/// A look-up gives its answer in the order of terms, each number or triple once, and adds to `reads` the one
+/// key that it read. All numbers in an answer have terms.
 pub trait GraphView {
     /// The terms and triples of the graph.
     ghost graph: { Self → Graph };
@@ -38,22 +43,36 @@ pub trait GraphView {
     /// The objects of a subject and predicate, in term order. It reads `Out(s, p)`.
     fn objects(&self, alloc: Global, s: Id, p: Id, reads: &mut Reads) -> Result<Vec<Id>, Memory>
         ensures objects { IfOk result (λ found. found.items ≡ objects_of (graph self.now) s p) }
+        ensures known { IfOk result (λ found. HasTerms (graph self.now) found.items) }
         ensures reads { OnOk result (Adds reads.old reads.new (Key.Out s p ∷ [])) };
 
     /// The subjects of a predicate and object, in term order. It reads `In(p, o)`.
     fn subjects(&self, alloc: Global, p: Id, o: Id, reads: &mut Reads) -> Result<Vec<Id>, Memory>
         ensures subjects { IfOk result (λ found. found.items ≡ subjects_of (graph self.now) p o) }
+        ensures known { IfOk result (λ found. HasTerms (graph self.now) found.items) }
         ensures reads { OnOk result (Adds reads.old reads.new (Key.In p o ∷ [])) };
 
     /// The triples of a subject, by predicate and object in term order. It reads `Subject(s)`.
     fn triples_of(&self, alloc: Global, s: Id, reads: &mut Reads) -> Result<Vec<Triple>, Memory>
         ensures triples { IfOk result (λ found. found.items ≡ triples_of (graph self.now) s) }
+        ensures known { IfOk result (λ found. All (IsKnownTriple (graph self.now).terms) found.items) }
         ensures reads { OnOk result (Adds reads.old reads.new (Key.Subject s ∷ [])) };
 
     /// The triples of a predicate, by subject and object in term order. It reads `Predicate(p)`.
     fn triples_with(&self, alloc: Global, p: Id, reads: &mut Reads) -> Result<Vec<Triple>, Memory>
         ensures triples { IfOk result (λ found. found.items ≡ triples_with (graph self.now) p) }
+        ensures known { IfOk result (λ found. All (IsKnownTriple (graph self.now).terms) found.items) }
         ensures reads { OnOk result (Adds reads.old reads.new (Key.Predicate p ∷ [])) };
+}
+
+/// The term of a number in a valid view. It takes no memory, and constant time.
+pub fn term_of<V: GraphView>(view: &V, id: Id) -> &Term
+    requires valid { IsValidView (V.graph view.now) }
+    requires known { id < length (V.graph view.now).terms }
+    ensures term { slice_get (V.graph view.now).terms id ≡ Some result.now }
+    ensures narrow { IsNotWide result.now }
+{
+    view.pool().term(id)
 }
 
 /// What look-ups give is what is held, and nothing else: a number is given exactly where its triple is

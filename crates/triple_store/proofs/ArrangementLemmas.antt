@@ -6,7 +6,7 @@ use Rattle.std.proofs.Common.{refl, sym, ap, ◌∙◌}
 use Rattle.std.proofs.lemmas.Map.Lookups.{CmpEqualImpliesEq, exact_pairs, exact_unsigned}
 use Rattle.shx_term.specs.InOrder.{IsExactOrder}
 use Rattle.shx_term.specs.declared.triple.Triple.{Triple}
-use Rattle.triple_store.specs.Arrangement.{entry_of, triple_at, entry_cmp, arranged_cmp}
+use Rattle.triple_store.specs.inner.Arrangement.{entry_of, triple_at, entry_cmp, arranged_cmp}
 use Rattle.triple_store.specs.declared.arrangement.Arrangement.{Arrangement}
 use Rattle.triple_store.specs.declared.arrangement.Arrangement.TheVariants.{SubjectPredicateObject}
 use Rattle.triple_store.specs.declared.arrangement.Arrangement.TheVariants.{PredicateObjectSubject}

@@ -1,6 +1,6 @@
 -- Indexes as lists of triples: what their entries hold, their order, what is added and removed, and ranges.
 use Rattle.std.specs.Prelude.{◌≡◌, ℕ, Bool, true, false, not, ◌&&◌, ◌==◌, List, [], ◌∷◌, map, filter, All}
-use Rattle.std.specs.Prelude.{if◌then◌else◌, Contains, ◌↔◌, ◌⊎◌}
+use Rattle.std.specs.Prelude.{if◌then◌else◌, Contains, ◌↔◌}
 use Rattle.std.specs.Cmp.{IsEquivalence, eq_by_cmp_equiv}
 use Rattle.std.specs.List.{list_any, AllByRecursion}
 use Rattle.std.specs.List.Sorted.{IsStrictlySortedBy}
@@ -12,11 +12,11 @@ use Rattle.shx_term.specs.declared.triple.Triple.{Triple}
 use Rattle.shx_term.proofs.MemberLemmas.{Contains-head, Contains-tail, Contains-map, Contains-from_map}
 use Rattle.shx_term.proofs.MemberLemmas.{Contains-test, Contains-entered, Contains-remove}
 use Rattle.shx_term.proofs.MemberLemmas.{each_of_All}
-use Rattle.graph_view.specs.Graph.{HasAlso, HasNot}
+use Rattle.graph_view.specs.Graph.{HasAlso, IsWithout}
 use Rattle.triple_store.proofs.ArrangementLemmas.{triple_back, entry_back, entry_cmp_total, entry_cmp_exact}
 use Rattle.triple_store.proofs.RangeLemmas.{greatest, is_between, between_first, between_pair}
-use Rattle.triple_store.specs.Arrangement.{entry_of, triple_at, entry_cmp, arranged_cmp, HasNumbers}
-use Rattle.triple_store.specs.Index.{led_by, led_by_pair, third_of}
+use Rattle.triple_store.specs.inner.Arrangement.{entry_of, triple_at, entry_cmp, arranged_cmp, HasNumbers}
+use Rattle.triple_store.specs.inner.Index.{led_by, led_by_pair, third_of}
 use Rattle.triple_store.specs.declared.arrangement.Arrangement.{Arrangement}
 use Rattle.triple_store.specs.declared.arrangement.Entry.{Entry}
 
@@ -87,7 +87,8 @@ module _ (a : Arrangement) where
       → HasAlso (map (triple_at a) old) (map (triple_at a) new) t
   HasAlso-entered old new t e made entered = record {
     each = λ u.
-        let there = Contains-entered same_entry same_entry_equiv same_entry_exact old new e entered (entry_of a u) in
+        let there =
+        Contains-entered same_entry same_entry_equiv same_entry_exact old new e entered (entry_of a u) in
         let before = held_at old u in
         let after = held_at new u in (
           λ c. elim (there.0 (after.0 c)) [
@@ -102,11 +103,11 @@ module _ (a : Arrangement) where
   }
 
   -- and removing it removes the triple
-  pub HasNot-entry : (old new : List Entry) (t : Triple) (e : Entry) → e ≡ entry_of a t
+  pub IsWithout-entry : (old new : List Entry) (t : Triple) (e : Entry) → e ≡ entry_of a t
       → ((d : Entry) → list_any (same_entry d) new
       ≡ (if same_entry e d then false else list_any (same_entry d) old))
-      → HasNot (map (triple_at a) old) (map (triple_at a) new) t
-  HasNot-entry old new t e made removed = record {
+      → IsWithout (map (triple_at a) old) (map (triple_at a) new) t
+  IsWithout-entry old new t e made removed = record {
     each = λ u.
         let there =
         Contains-remove same_entry same_entry_equiv same_entry_exact old new e removed (entry_of a u) in

@@ -1,6 +1,6 @@
 -- Indexes of some triples: as one is added or removed, taken back, and what they give under a number or two.
 use Rattle.std.specs.Prelude.{◌≡◌, ℕ, true, ◌&&◌, ◌==◌, List, [], ◌∷◌, ◌++◌, map, filter}
-use Rattle.std.specs.Prelude.{take, length, Contains, ◌<◌, ◌+◌}
+use Rattle.std.specs.Prelude.{take, length, All, Contains, ◌<◌, ◌+◌}
 use Rattle.std.specs.List.{IsDistinct}
 use Rattle.std.specs.Cmp.{both_ways}
 use Rattle.std.specs.List.Sorted.{IsStrictlySortedBy}
@@ -13,25 +13,29 @@ use Rattle.std.proofs.lemmas.Map.Views.{tells_apart}
 use Rattle.std.specs.Cmp.{eq_by_cmp_equiv}
 use Rattle.shx_term.specs.InOrder.{Lists}
 use Rattle.shx_term.specs.Triple.{same_triple}
-use Rattle.shx_term.specs.TripleLaws.{same_triple_equiv, same_triple_exact}
+use Rattle.shx_term.specs.inner.TripleLaws.{same_triple_equiv, same_triple_exact}
 use Rattle.shx_term.specs.declared.triple.Triple.{Triple}
 use Rattle.shx_term.proofs.InOrderLemmas.{same_lists}
-use Rattle.graph_view.specs.Graph.{HasAlso, HasNot}
-use Rattle.graph_view.specs.SameGraph.{HoldsSame}
-use Rattle.graph_view.proofs.SameGraphLemmas.{HoldsSame-sym, HoldsSame-filter, HoldsSame-also, HoldsSame-not}
-use Rattle.graph_view.proofs.SameGraphLemmas.{map_same}
+use Rattle.graph_view.specs.Graph.{HasAlso, IsWithout}
+use Rattle.shx_term.specs.Members.{SameMembers, Adds}
+use Rattle.shx_term.proofs.MemberLemmas.{Contains-one, each_of_All}
+use Rattle.graph_view.specs.Patched.{without}
+use Rattle.graph_view.proofs.PatchedLemmas.{Contains-left}
+use Rattle.shx_term.proofs.SetLemmas.{SameMembers-sym, SameMembers-filter, SameMembers-map}
+use Rattle.graph_view.proofs.SameGraphLemmas.{SameMembers-also, SameMembers-without}
 use Rattle.triple_store.proofs.ArrangementLemmas.{arranged_order}
-use Rattle.triple_store.specs.Arrangement.{entry_of, arranged_cmp}
-use Rattle.triple_store.specs.Index.{Arranged, IsArranged, IsIndex, AreIndexes, SameNumbers}
-use Rattle.triple_store.specs.Index.{led_by, led_by_pair, third_of}
+use Rattle.triple_store.specs.inner.Arrangement.{entry_of, arranged_cmp}
+use Rattle.triple_store.specs.inner.Index.{Arranged, IsArranged, IsIndex, AreIndexes, AreInOrder}
+use Rattle.triple_store.specs.declared.arrangement.Arrangement.TheVariants.{SubjectPredicateObject}
+use Rattle.triple_store.specs.inner.Index.{led_by, led_by_pair, third_of}
 use Rattle.triple_store.specs.declared.arrangement.Arrangement.{Arrangement}
 
 module _ {triples : List Triple} {a : Arrangement} {index : Arranged} where
-  IsIndex-holds : IsIndex triples a index → HoldsSame index.triples triples
+  IsIndex-holds : IsIndex triples a index → SameMembers index.triples triples
   IsIndex-holds is = record { each = is.lists.each }
 
   -- whatever holds the same triples and ascends is an index of them
-  IsIndex-from : index.arrangement ≡ a → HoldsSame index.triples triples → IsArranged index
+  IsIndex-from : index.arrangement ≡ a → SameMembers index.triples triples → IsArranged index
       → IsIndex triples a index
   IsIndex-from arranged same ordered = record {
     arranged = arranged;
@@ -52,15 +56,16 @@ module _ {triples others : List Triple} {a : Arrangement} {old new : Arranged} (
   where
     pub IsIndex-also : HasAlso triples others t → HasAlso old.triples new.triples t → IsIndex others a new
     IsIndex-also also also' =
-        IsIndex-from (kept ∙ index.arranged) (HoldsSame-also t (IsIndex-holds index) also' also) ordered
+        IsIndex-from (kept ∙ index.arranged) (SameMembers-also t (IsIndex-holds index) also' also) ordered
 
-    pub IsIndex-not : HasNot triples others t → HasNot old.triples new.triples t → IsIndex others a new
+    pub IsIndex-not : IsWithout triples others t → IsWithout old.triples new.triples t → IsIndex others a new
     IsIndex-not without without' =
-        IsIndex-from (kept ∙ index.arranged) (HoldsSame-not t (IsIndex-holds index) without' without) ordered
+        IsIndex-from (kept ∙ index.arranged)
+        (SameMembers-without t (IsIndex-holds index) without' without) ordered
 
 -- a new triple that is taken out again leaves what was there
 also_not : {old added left : List Triple} (t : Triple) → HasAlso old added t → (Contains old t → ⊥)
-    → HasNot added left t → HoldsSame left old
+    → IsWithout added left t → SameMembers left old
 also_not {old} t also absent without = record {
   each = λ u. (
     λ c.
@@ -72,8 +77,8 @@ also_not {old} t also absent without = record {
 
 pub taken_back : {triples : List Triple} {a : Arrangement} (index added left : Arranged) (t : Triple)
     → IsIndex triples a index → added.arrangement ≡ index.arrangement → left.arrangement ≡ added.arrangement
-    → HasAlso index.triples added.triples t → (Contains triples t → ⊥) → HasNot added.triples left.triples t
-    → IsArranged left → left ≡ index
+    → HasAlso index.triples added.triples t → (Contains triples t → ⊥)
+    → IsWithout added.triples left.triples t → IsArranged left → left ≡ index
 taken_back {triples} {a} index added left t is kept kept' also absent without ordered =
     let same = kept' ∙ kept in
     let before = also_not t also (λ c. absent ((is.lists.each t).0 c)) without in
@@ -109,44 +114,36 @@ IsDistinct-arranged index ordered =
     (IsDistinct-from_sorted (arranged_cmp index.arrangement) index.triples ordered)
 
 module _ {triples : List Triple} {a : Arrangement} (index : Arranged) (is : IsIndex triples a index) where
-  holds : HoldsSame triples index.triples
-  holds = HoldsSame-sym (IsIndex-holds is)
+  holds : SameMembers triples index.triples
+  holds = SameMembers-sym (IsIndex-holds is)
 
   -- what an index gives under a first number holds the same as the filter of the triples
   pub led_same : (first : ℕ)
-      → HoldsSame (led_by (record { arrangement = a; triples = triples }) first) (led_by index first)
+      → SameMembers (led_by (record { arrangement = a; triples = triples }) first) (led_by index first)
   led_same first =
       let led = led_by index first in
-      subst (λ b. HoldsSame (led_by (record { arrangement = b; triples = triples }) first) led) is.arranged
-      (HoldsSame-filter (λ t. (entry_of index.arrangement t).first == first) triples index.triples holds)
+      subst (λ b. SameMembers (led_by (record { arrangement = b; triples = triples }) first) led) is.arranged
+      (SameMembers-filter (λ t. (entry_of index.arrangement t).first == first) triples index.triples holds)
 
   -- and so do the third numbers under a first and a second
   pub thirds_same : (first second : ℕ)
-      → SameNumbers (map (third_of (record { arrangement = a; triples = triples }))
+      → SameMembers (map (third_of (record { arrangement = a; triples = triples }))
       (led_by_pair (record { arrangement = a; triples = triples }) first second))
       (map (third_of index) (led_by_pair index first second))
   thirds_same first second =
       let p = λ (t : Triple). ((entry_of index.arrangement t).first == first)
       && ((entry_of index.arrangement t).second == second) in
-      let found = HoldsSame-filter p triples index.triples holds in
-      let f = third_of index in
-      let there = filter p triples in
-      let here = filter p index.triples in
-      subst (λ b. SameNumbers (map (third_of (record { arrangement = b; triples = triples }))
+      let found = SameMembers-filter p triples index.triples holds in
+      subst (λ b. SameMembers (map (third_of (record { arrangement = b; triples = triples }))
       (led_by_pair (record { arrangement = b; triples = triples }) first second))
       (map (third_of index) (led_by_pair index first second)))
       is.arranged
-      (record {
-        each = λ y. (
-          map_same there here found f y,
-          map_same here there (HoldsSame-sym found) f y,
-        );
-      })
+      (SameMembers-map (third_of index) (filter p triples) (filter p index.triples) found)
 
 -- one triple more of a list that is gone over
-pub HoldsSame-take_more : (ts : List Triple) (i : ℕ) (d : Triple) → i < length ts → {old new : List Triple}
-    → HoldsSame (take i ts) old → HasAlso old new (get_or ts i d) → HoldsSame (take (i + 1) ts) new
-HoldsSame-take_more ts i d inside {old} {new} before also =
+pub SameMembers-take_more : (ts : List Triple) (i : ℕ) (d : Triple) → i < length ts → {old new : List Triple}
+    → SameMembers (take i ts) old → HasAlso old new (get_or ts i d) → SameMembers (take (i + 1) ts) new
+SameMembers-take_more ts i d inside {old} {new} before also =
     let t = get_or ts i d in
     let pushed : HasAlso (take i ts) (take i ts ++ t ∷ []) t = record {
       each = λ u. (
@@ -157,5 +154,38 @@ HoldsSame-take_more ts i d inside {old} {new} before also =
         ],
       );
     } in
-    subst (λ us. HoldsSame us new) (sym (take_more ts i d inside))
-    (HoldsSame-also t before pushed also)
+    subst (λ us. SameMembers us new) (sym (take_more ts i d inside))
+    (SameMembers-also t before pushed also)
+
+-- new triples that are all taken out again leave the very list
+pub back_in_order : (old added left some : List Triple) → All (λ t. Contains old t → ⊥) some
+    → Adds old added some → SameMembers left (without same_triple added some) → AreInOrder old
+    → AreInOrder left → left ≡ old
+back_in_order old added left some absent adds leaves before after =
+    let there : Lists (arranged_cmp SubjectPredicateObject) (Contains old) left = record {
+      sorted = after;
+      each = λ t.
+          let kept = Contains-left added some t in (
+            λ c.
+                let held = kept.0 ((leaves.each t).0 c) in
+                elim ((adds.each t).0 held.0) [ inl was ↦ was | inr new ↦ absurd (held.1 new) ],
+            λ c. (leaves.each t).1
+                (kept.1 (
+                  (adds.each t).1 (inl c),
+                  λ e. each_of_All (λ u. Contains old u → ⊥) some absent t e c,
+                )),
+          );
+    } in
+    let here : Lists (arranged_cmp SubjectPredicateObject) (Contains old) old =
+    record { sorted = before; each = λ t. (λ c. c, λ c. c) } in
+    let order = arranged_order SubjectPredicateObject in
+    same_lists (arranged_cmp SubjectPredicateObject) order left old there here
+
+-- a triple that is held now too was added
+pub Adds-also : {old new : List Triple} (t : Triple) → HasAlso old new t → Adds old new (t ∷ [])
+Adds-also t also = record {
+  each = λ u. (
+    λ c. elim ((also.each u).0 c) [ inl held ↦ inl held | inr same ↦ inr ((Contains-one t u).1 same) ],
+    λ h. (also.each u).1 (elim h [ inl held ↦ inl held | inr one ↦ inr ((Contains-one t u).0 one) ]),
+  );
+}

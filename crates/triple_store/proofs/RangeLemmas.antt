@@ -11,7 +11,7 @@ use Rattle.std.proofs.lemmas.Bool.{eqb-true, eq-eqb, and_from}
 use Rattle.std.proofs.lemmas.Cmp.{ranked}
 use Rattle.std.proofs.lemmas.Map.Views.{IsInRange-from_range_contains, range_contains-from_IsInRange}
 use Rattle.triple_store.proofs.ArrangementLemmas.{entry_cmp_total}
-use Rattle.triple_store.specs.Arrangement.{entry_cmp, HasNumbers}
+use Rattle.triple_store.specs.inner.Arrangement.{entry_cmp, HasNumbers}
 use Rattle.triple_store.specs.declared.arrangement.Entry.{Entry}
 
 -- two numbers that were compared, and what is compared after them

@@ -1,2 +1,1 @@
-pub mod Arrangement
-pub mod Index
+pub mod inner

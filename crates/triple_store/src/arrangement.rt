@@ -1,5 +1,5 @@
 ghost use Rattle.std.specs.Prelude.{◌≡◌};
-ghost use Rattle.triple_store.specs.Arrangement.{HasNumbers, entry_of, triple_at};
+ghost use Rattle.triple_store.specs.inner.Arrangement.{HasNumbers, entry_of, triple_at};
 
 use shx_term::{Id, Triple};
 

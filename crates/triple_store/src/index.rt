@@ -1,8 +1,8 @@
 ghost use Rattle.std.specs.Prelude.{◌≡◌, ◌↔◌, [], ◌+◌, map, length, Contains, if◌then◌else◌};
 ghost use Rattle.std.specs.Prelude.{IsTrue, IfOk, OnOk, OnErr};
 ghost use Rattle.std.specs.Bool.{OnFalse};
-ghost use Rattle.graph_view.specs.Graph.{HasAlso, HasNot};
-ghost use Rattle.triple_store.specs.Index.{IsArranged, led_by, led_by_pair, third_of};
+ghost use Rattle.graph_view.specs.Graph.{HasAlso, IsWithout};
+ghost use Rattle.triple_store.specs.inner.Index.{IsArranged, led_by, led_by_pair, third_of};
 
 use crate::arrangement::{Arrangement, Entry};
 use shx_term::{Id, Memory, Triple};
@@ -20,8 +20,8 @@ pub(crate) struct Index {
 
 impl Model for Index {
     ghost use Rattle.std.specs.Prelude.{map, All};
-    ghost use Rattle.triple_store.specs.Arrangement.{triple_at, HasNumbers};
-    ghost use Rattle.triple_store.specs.Index.{Arranged};
+    ghost use Rattle.triple_store.specs.inner.Arrangement.{triple_at, HasNumbers};
+    ghost use Rattle.triple_store.specs.inner.Index.{Arranged};
 
     ghost Value = { Arranged };
 
@@ -78,7 +78,7 @@ impl Index {
     /// Removes a triple; `true` says that it was held. It takes no memory, and logarithmic time.
     pub(crate) fn remove(&mut self, t: &Triple) -> bool
         ensures arrangement { self.new.arrangement ≡ self.old.arrangement }
-        ensures removed { HasNot self.old.triples self.new.triples t.now }
+        ensures removed { IsWithout self.old.triples self.new.triples t.now }
         ensures held { IsTrue result ↔ Contains self.old.triples t.now }
         ensures count { length self.new.triples + (if result then 1 else 0) ≡ length self.old.triples }
         ensures ordered { IsArranged self.new }

@@ -7,8 +7,9 @@
 //! | `indexes.rt` | `Indexes`: three of them, with the same triples |
 //! | `store.rt` | `Store`: a pool and the indexes; both traits of `graph_view` |
 //!
-//! It stands on `shx_term` and `graph_view`. Start with `store.rt`; `specs/Arrangement.antt` says how triples
-//! are arranged, and `specs/Index.antt` what an index of some triples is.
+//! It stands on `shx_term` and `graph_view`. Start with `store.rt`; what it is to its callers is said by the
+//! definitions of `graph_view`. `specs/inner/Arrangement.antt` says how triples are arranged, and
+//! `specs/inner/Index.antt` what an index of some triples is.
 #![tactic(auto)]
 
 mod arrangement;

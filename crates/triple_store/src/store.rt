@@ -115,12 +115,9 @@ impl GraphEdit for Store {
         self.pool.enter(term)
     }
 
-    /// It takes logarithmic time.
+    /// It takes logarithmic time. Whether the triple is held is looked up beforehand only at the limit.
     fn insert(&mut self, t: Triple) -> Result<bool, StoreFault> {
-        if self.indexes.contains(&t) {
-            return Ok(false);
-        }
-        if self.indexes.len() as u64 >= self.limit {
+        if self.indexes.len() as u64 >= self.limit && !self.indexes.contains(&t) {
             return Err(StoreFault::TooMany);
         }
         Ok(self.indexes.insert(t)?)
@@ -129,5 +126,21 @@ impl GraphEdit for Store {
     /// It takes logarithmic time.
     fn remove(&mut self, t: &Triple) -> bool {
         self.indexes.remove(t)
+    }
+
+    /// It takes logarithmic time for each triple.
+    fn exchange(&mut self, removed: &[Triple], added: &[Triple]) -> Result<(), StoreFault> {
+        let left = self.indexes.len() as u64 - removed.len() as u64;
+        if added.len() as u64 > self.limit - left {
+            return Err(StoreFault::TooMany);
+        }
+        self.indexes.insert_all(added)?;
+        self.indexes.remove_all(removed);
+        let _ = self.indexes.len();
+        Ok(())
+    }
+
+    fn cut(&mut self, len: u32) {
+        self.pool.cut(len);
     }
 }

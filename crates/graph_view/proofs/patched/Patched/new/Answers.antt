@@ -9,10 +9,10 @@ invariant_of-result g c =
     let removed = c.args.removed.now in
     record {
       known = All-patched graph added removed (IsKnownTriple graph.terms) c.pool.ensures.known
-          c.requires.added_known;
-      distinct = IsDistinct-patched graph added removed c.len.ensures.distinct c.requires.added_once
-          c.requires.added_absent;
-      all_held = length-without graph.triples removed c.len.ensures.distinct c.requires.removed_once
-          c.requires.removed_held;
+          c.requires.patch.added_known;
+      distinct = IsDistinct-patched graph added removed c.len.ensures.distinct c.requires.patch.added_once
+          c.requires.patch.added_absent;
+      all_held = length-without graph.triples removed c.len.ensures.distinct c.requires.patch.removed_once
+          c.requires.patch.removed_held;
       countable = c.requires.countable;
     }

@@ -1,7 +1,7 @@
 use Rattle.std.proofs.Common.{sym, ◌∙◌, inl, inr, true≢false}
 use Rattle.std.proofs.lemmas.Bool.{not-true}
 use Rattle.shx_term.specs.Triple.{same_triple}
-use Rattle.shx_term.specs.TripleLaws.{same_triple_equiv, same_triple_exact}
+use Rattle.shx_term.specs.inner.TripleLaws.{same_triple_equiv, same_triple_exact}
 use Rattle.graph_view.proofs.PatchedLemmas.{Contains-patched, gone_test, is_not}
 use Rattle.graph_view.proofs.patched.PatchedGraphView.contains.Goals as goal
 

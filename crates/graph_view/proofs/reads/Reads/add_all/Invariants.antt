@@ -1,5 +1,5 @@
 use Rattle.std.specs.Prelude.{take}
-use Rattle.graph_view.specs.Reads.{Adds}
+use Rattle.shx_term.specs.Members.{Adds}
 use Rattle.graph_view.proofs.reads.Reads.add_all.Given as goal
 
 abbrev pub invariant-loop-key : goal.invariant-loop-key

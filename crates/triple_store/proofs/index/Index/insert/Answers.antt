@@ -2,7 +2,7 @@ use Rattle.std.specs.Prelude.{Contains}
 use Rattle.std.proofs.Common.{rules}
 use Rattle.std.proofs.lemmas.Map.Views.{All-insert_key}
 use Rattle.triple_store.proofs.IndexLemmas.{HasAlso-entered, sorted_at, new_at, absent_at}
-use Rattle.triple_store.specs.Arrangement.{HasNumbers, entry_cmp}
+use Rattle.triple_store.specs.inner.Arrangement.{HasNumbers, entry_cmp}
 use Rattle.triple_store.proofs.index.Index.insert.Goals as goal
 
 pub returns-in_err-new-clause-absent : goal.returns-in_err-new-clause-absent

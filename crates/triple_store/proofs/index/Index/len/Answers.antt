@@ -1,6 +1,6 @@
 use Rattle.std.proofs.Common.{subst}
 use Rattle.triple_store.proofs.IndexLemmas.{sorted_at}
-use Rattle.triple_store.specs.Index.{IsArranged}
+use Rattle.triple_store.specs.inner.Index.{IsArranged}
 use Rattle.triple_store.proofs.index.Index.len.Goals as goal
 
 pub returns-clause-ordered : goal.returns-clause-ordered

@@ -1,6 +1,6 @@
 use Rattle.std.proofs.lemmas.Map.Views.{All-remove_key}
-use Rattle.triple_store.proofs.IndexLemmas.{HasNot-entry, same_entry, sorted_at, tested_at}
-use Rattle.triple_store.specs.Arrangement.{HasNumbers}
+use Rattle.triple_store.proofs.IndexLemmas.{IsWithout-entry, same_entry, sorted_at, tested_at}
+use Rattle.triple_store.specs.inner.Arrangement.{HasNumbers}
 use Rattle.triple_store.proofs.index.Index.remove.Goals as goal
 
 pub invariant_of-self : goal.invariant_of-self
@@ -11,7 +11,7 @@ invariant_of-self c =
 pub returns-clause-removed : goal.returns-clause-removed
 returns-clause-removed c =
     rw (← c.self.view_is)
-    (HasNot-entry c.self.inside.arrangement c.self.inside.entries.keys c.remove.new.self.keys c.args.t.now
+    (IsWithout-entry c.self.inside.arrangement c.self.inside.entries.keys c.remove.new.self.keys c.args.t.now
     c.entry.result c.entry.ensures.entry c.remove.ensures.updates.0)
 
 pub returns-clause-held : goal.returns-clause-held

@@ -4,7 +4,7 @@ use Rattle.std.proofs.lemmas.Iterator.{YieldsList-from_map, items_from_collect}
 use Rattle.std.proofs.lemmas.Iterator.Consumers.{YieldsList-at, YieldsList-from_rest}
 use Rattle.triple_store.proofs.IndexLemmas.{led_at}
 use Rattle.triple_store.proofs.RangeLemmas.{is_between}
-use Rattle.triple_store.specs.Arrangement.{triple_at}
+use Rattle.triple_store.specs.inner.Arrangement.{triple_at}
 use Rattle.triple_store.proofs.index.Index.triples_under.Goals as goal
 
 pub returns : goal.returns

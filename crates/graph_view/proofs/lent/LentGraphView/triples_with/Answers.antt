@@ -1,0 +1,11 @@
+use Rattle.graph_view.specs.Graph.{Graph}
+use Rattle.graph_view.specs.declared.key.Key.{Key}
+use Rattle.graph_view.proofs.LookUpLemmas.{All-ordered}
+use Rattle.graph_view.proofs.lent.LentGraphView.triples_with.Goals as goal
+
+pub returns-clause-known : goal.returns-clause-known
+returns-clause-known c =
+    let view = c.args.self.now in
+    let graph : Graph = record { terms = view.pool.now.terms; triples = view.triples.now } in
+    rw (c.triples_in_order.ensures, c.in_ok-found.ensures)
+    (All-ordered graph view.known (Key.Predicate c.args.p))

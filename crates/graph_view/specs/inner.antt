@@ -1,0 +1,2 @@
+pub mod HeldKeys
+pub mod KeyLaws

@@ -12,7 +12,7 @@ import sys
 HERE = os.path.dirname(os.path.abspath(__file__))
 PROGRAM = os.path.join(HERE, "..", "crates", "graph_figures", "out", "graph_figures")
 LOOK_UPS = [(task, 100_000) for task in ("contains", "objects", "subjects", "triples_of", "triples_with")]
-WALKS = [("chain", 1), ("star", 1)]
+WALKS = [(task, 1) for task in ("chain", "nested", "star", "loops", "classes", "is_instance")]
 # Tasks over declarations, how many triples each cell or shape has, and how many there may be.
 DECLARATIONS = [("list", 2, 1_000_000), ("collect", 3, 100_000), ("check", 3, 100_000)]
 

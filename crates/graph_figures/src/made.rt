@@ -3,8 +3,8 @@
 use crate::task::Task;
 use graph_view::{GraphEdit, GraphView, ListGraph};
 use shx_term::vocabulary::{
-    RDF_FIRST, RDF_NIL, RDF_REST, RDF_TYPE, SH_IRI, SH_NODE_KIND, SH_PATH, SH_PROPERTY_SHAPE,
-    VOCABULARY_LEN,
+    RDF_FIRST, RDF_NIL, RDF_REST, RDF_TYPE, RDFS_SUB_CLASS_OF, SH_IRI, SH_NODE_KIND, SH_PATH,
+    SH_PROPERTY_SHAPE, VOCABULARY_LEN,
 };
 use shx_term::{Id, IriText, Limits, Memory, Pool, Term, Triple};
 use std::alloc::{AllocError, Global};
@@ -13,7 +13,10 @@ use triple_store::Store;
 // How many triples stand under one subject, and about how many under one predicate.
 const UNDER_ONE: u32 = 10;
 
-// How many triples a cell of a list has, and how many a shape.
+// How many triples are between two nodes that a path goes around, how many a cell of a list has, and how
+// many a shape.
+const OF_A_LOOP: u32 = 2;
+
 const OF_A_CELL: u32 = 2;
 
 const OF_A_SHAPE: u32 = 3;
@@ -26,7 +29,10 @@ pub fn node(at: u32) -> Id {
 /// How many nodes the graph of a task with so many triples has.
 pub fn nodes(task: Task, count: u32) -> u32 {
     match task {
-        Task::Chain | Task::Star => count.saturating_add(1),
+        Task::Chain | Task::Nested | Task::Star | Task::Classes | Task::IsInstance => {
+            count.saturating_add(1)
+        }
+        Task::Loops => (count / OF_A_LOOP).saturating_add(1),
         Task::List => count / OF_A_CELL,
         Task::Collect | Task::Check => count / OF_A_SHAPE,
         _ => (count / UNDER_ONE).saturating_add(UNDER_ONE),
@@ -36,7 +42,9 @@ pub fn nodes(task: Task, count: u32) -> u32 {
 /// The triple at a place of the graph of a task that has so many nodes.
 pub fn triple_at(task: Task, at: u32, nodes: u32) -> Triple {
     match task {
-        Task::Chain => of_nodes(at, 0, at.saturating_add(1)),
+        Task::Chain | Task::Nested => of_nodes(at, 0, at.saturating_add(1)),
+        Task::Loops => of_loop(at / OF_A_LOOP, at % OF_A_LOOP),
+        Task::Classes | Task::IsInstance => of_class(at),
         Task::Star => of_nodes(0, 0, at.saturating_add(1)),
         Task::List => of_cell(at / OF_A_CELL, at % OF_A_CELL, nodes),
         Task::Collect | Task::Check => of_shape(at / OF_A_SHAPE, at % OF_A_SHAPE),
@@ -52,6 +60,26 @@ fn of_nodes(s: u32, p: u32, o: u32) -> Triple {
         s: node(s),
         p: node(p),
         o: node(o),
+    }
+}
+
+// A triple between two nodes of a chain: back along the first predicate, or on along the second.
+fn of_loop(at: u32, place: u32) -> Triple {
+    let next = at.saturating_add(1);
+    if place == 0 {
+        of_nodes(at, 1, next)
+    } else {
+        of_nodes(next, 0, at)
+    }
+}
+
+// The type of the first node, or the next class of a class.
+fn of_class(at: u32) -> Triple {
+    let p = if at == 0 { RDF_TYPE } else { RDFS_SUB_CLASS_OF };
+    Triple {
+        s: node(at),
+        p,
+        o: node(at.saturating_add(1)),
     }
 }
 

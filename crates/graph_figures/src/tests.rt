@@ -13,7 +13,11 @@ subjects 30 triples 1000 found 273
 triples_of 30 triples 1000 found 300
 triples_with 30 triples 1000 found 273
 chain 1 triples 1000 found 1001
+nested 1 triples 1000 found 1001
 star 1 triples 1000 found 1001
+loops 1 triples 1000 found 501
+classes 1 triples 1000 found 1000
+is_instance 1 triples 1000 found 1
 list 1 triples 1000 found 500
 collect 1 triples 999 found 333
 check 1 triples 999 found 333";

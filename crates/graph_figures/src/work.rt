@@ -2,11 +2,14 @@
 use crate::made::{node, nodes, store_for, triple_at};
 use crate::task::Task;
 use graph_view::{GraphView, Reads};
-use path_eval::{Path, values};
+use path_eval::{Path, classes, is_instance, values};
 use shape_check::check;
 use shape_decl::{collect, read_list};
 use shx_term::{Limits, Memory, Triple};
 use std::alloc::Global;
+
+// How many closures stand around a step.
+const CLOSURES: u32 = 8;
 
 // How far the look-ups are from one another.
 const STEP: u32 = 11;
@@ -37,7 +40,11 @@ fn found_under<V: GraphView>(
         Task::Subjects => graph.subjects(alloc, triple.p, triple.o, &mut reads)?.len(),
         Task::TriplesOf => graph.triples_of(alloc, triple.s, &mut reads)?.len(),
         Task::TriplesWith => graph.triples_with(alloc, triple.p, &mut reads)?.len(),
-        Task::Chain | Task::Star => walked(alloc, graph, &mut reads)?,
+        Task::Chain | Task::Star => walked(alloc, graph, &any_times(alloc, first())?)?,
+        Task::Nested => walked(alloc, graph, &nested(alloc)?)?,
+        Task::Loops => walked(alloc, graph, &back_and_on(alloc)?)?,
+        Task::Classes => classes(alloc, graph, node(0), &mut reads)?.len(),
+        Task::IsInstance => usize::from(is_instance(alloc, graph, node(0), node(1), &mut reads)?),
         Task::List => members(alloc, graph)?,
         Task::Collect => collect(alloc, graph, &Limits::program())?.len(),
         Task::Check => checked(alloc, graph)?,
@@ -45,10 +52,35 @@ fn found_under<V: GraphView>(
     Ok(found as u64)
 }
 
-// How many nodes are reached from the first.
-fn walked<V: GraphView>(alloc: Global, graph: &V, reads: &mut Reads) -> Result<usize, Memory> {
-    let path = Path::ZeroOrMore(Box::new(alloc, Path::Pred(node(0)))?);
-    Ok(values(alloc, graph, &path, node(0), reads)?.len())
+// How many nodes the path reaches from the first.
+fn walked<V: GraphView>(alloc: Global, graph: &V, path: &Path) -> Result<usize, Memory> {
+    Ok(values(alloc, graph, path, node(0), &mut Reads::new(alloc))?.len())
+}
+
+// The step along the first predicate.
+fn first() -> Path {
+    Path::Pred(node(0))
+}
+
+fn any_times(alloc: Global, inner: Path) -> Result<Path, Memory> {
+    Ok(Path::ZeroOrMore(Box::new(alloc, inner)?))
+}
+
+// The step, once or more, in eight closures.
+fn nested(alloc: Global) -> Result<Path, Memory> {
+    let mut path = Path::OneOrMore(Box::new(alloc, first())?);
+    for _closure in 0..CLOSURES {
+        path = any_times(alloc, path)?;
+    }
+    Ok(path)
+}
+
+// The step any number of times and then one along the second predicate, any number of times.
+fn back_and_on(alloc: Global) -> Result<Path, Memory> {
+    let mut parts = Vec::with_capacity(alloc, 2)?;
+    parts.push(any_times(alloc, first())?)?;
+    parts.push(Path::Pred(node(1)))?;
+    any_times(alloc, Path::Seq(parts))
 }
 
 // How many members the list has that begins at the first node.

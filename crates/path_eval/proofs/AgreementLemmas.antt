@@ -1,6 +1,6 @@
 -- A path does the same in graphs that agree on what it reads; so an edit beside it makes no difference.
 use Rattle.std.specs.Prelude.{◌≡◌, ℕ, ◌<◌, [], ◌∷◌, ◌++◌, flat_map, length, Contains}
-use Rattle.std.proofs.Common.{refl, sym, ap, ◌∙◌, subst, inl, inr}
+use Rattle.std.proofs.Common.{refl, sym, ap, ◌∙◌}
 use Rattle.shx_term.specs.declared.triple.Triple.{Triple}
 use Rattle.shx_term.specs.IdOrder.{in_term_order}
 use Rattle.shx_term.proofs.IdOrderLemmas.{in_term_order_same, in_term_order-append}
@@ -8,7 +8,7 @@ use Rattle.shx_term.proofs.MemberLemmas.{Contains-head}
 use Rattle.graph_view.specs.declared.key.Key.{Key}
 use Rattle.graph_view.specs.declared.key.Key.TheVariants.{Out, In}
 use Rattle.graph_view.specs.Agree.{Agree, AgreeOn, IsUntouched}
-use Rattle.graph_view.specs.Graph.{Graph, AllKnown, HasAlso, HasNot}
+use Rattle.graph_view.specs.Graph.{Graph, AllKnown, HasAlso, IsWithout}
 use Rattle.graph_view.specs.Key.{Touches}
 use Rattle.graph_view.proofs.AgreeLemmas.{AgreeOn-at, AgreeOn-left, AgreeOn-right, AgreeOn-part}
 use Rattle.graph_view.proofs.AgreeLemmas.{Agree-fewer, Agree-inserted, Agree-removed}
@@ -20,8 +20,9 @@ use Rattle.path_eval.specs.Route.{Route, along, here, first_then, none, one_or_o
 use Rattle.path_eval.specs.Route.{some_times, perhaps}
 use Rattle.path_eval.specs.Values.{IsSamePath, path_reads}
 use Rattle.path_eval.specs.Way.{Way, way, stay, nowhere, closed, one_step}
-use Rattle.path_eval.proofs.MeetsLemmas.{path_within}
-use Rattle.path_eval.proofs.SameLemmas.{SameMembers-itself, SameWay, SameWay-itself, SameWay-either}
+use Rattle.path_eval.proofs.MeetsLemmas.{path_known, path_within}
+use Rattle.shx_term.proofs.SetLemmas.{SameMembers-itself}
+use Rattle.path_eval.proofs.SameLemmas.{SameWay, SameWay-itself, SameWay-either}
 use Rattle.path_eval.proofs.SameLemmas.{SameWay-then, SameWay-repeated, SameWay-closed}
 
 module _ (g h : Graph) where
@@ -111,10 +112,7 @@ module _ (g h : Graph) where
         record {
           nodes = in_term_order_same g.terms here there same.to.each
               ∙ in_term_order-append g.terms agree.more there (λ y c.
-              elim (path_within g known d route x y ((same.to.each y).1 c)) [
-                | inl e ↦ subst (λ z. z < length g.terms) (sym e) inside
-                | inr known ↦ known
-              ])
+              path_known g known d route x y inside ((same.to.each y).1 c))
               ∙ ap (λ terms. in_term_order terms there) (sym agree.terms);
           reads = record { each = same.reads.each };
         }
@@ -129,5 +127,5 @@ module _ (g h : Graph) where
       pub path_inserted : HasAlso g.triples h.triples t → IsSamePath g h d route x
       path_inserted also = beside_agrees (Agree-inserted t terms also)
 
-      pub path_removed : HasNot g.triples h.triples t → IsSamePath g h d route x
+      pub path_removed : IsWithout g.triples h.triples t → IsSamePath g h d route x
       path_removed without = beside_agrees (Agree-removed t terms without)

@@ -89,3 +89,12 @@ module _ (R S : ℕ → ℕ → Type 0) (x : ℕ) (same : (z : ℕ) → Chain R 
         let walk = walk_from (longer.0 ∷ longer.2.0) x y (chain_here R x) (longer.1, longer.2.1) in
         (longer.0, walk.0, (longer.2.0, walk.1)),
   )
+
+-- what each step keeps, a chain keeps
+module _ (R : ℕ → ℕ → Type 0) (P : ℕ → Type 0) (keeps : (x y : ℕ) → P x → R x y → P y) where
+  walk_keeps : (ns : List ℕ) (x y : ℕ) → Walk R x ns y → P x → P y
+  walk_keeps [] x y e p = subst P e p
+  walk_keeps (n ∷ ns) x y walk p = walk_keeps ns n y walk.1 (keeps x n p walk.0)
+
+  pub Chain-keeps : (x y : ℕ) → Chain R x y → P x → P y
+  Chain-keeps x y chain p = walk_keeps chain.0 x y chain.1 p

@@ -177,6 +177,14 @@ module _ (g : Graph) (known : AllKnown g) where
   pub path_within : (d : Direction) (route : Route) → IsWithin (length g.terms) (way g d route)
   path_within d route = (path_meets d route).within
 
+  -- so where the start has a term, it leads to numbers that have terms
+  pub path_known : (d : Direction) (route : Route) (x y : ℕ) → x < length g.terms
+      → Contains ((way g d route).to x) y → y < length g.terms
+  path_known d route x y inside c = elim (path_within d route x y c) [
+    | inl e ↦ subst (λ z. z < length g.terms) (sym e) inside
+    | inr more ↦ more
+  ]
+
   -- so the list of where it leads is right
   pub path_lists : (d : Direction) (route : Route) (x : ℕ)
       → ListsReached g d route x (nodes_reached g d route x)

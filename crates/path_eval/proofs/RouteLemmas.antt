@@ -1,15 +1,12 @@
 -- What a sequence and an alternative say, by the lists of their parts.
-use Rattle.std.specs.Prelude.{◌≡◌, List, map}
-use Rattle.std.proofs.Common.{Vec, Global, refl, sym, ap, ◌∙◌}
+use Rattle.std.specs.Prelude.{◌≡◌, map}
+use Rattle.std.proofs.Common.{Vec, Global, refl, ap, ◌∙◌}
 use mathlib.Core.Former.{Count}
-use Rattle.graph_view.specs.Graph.{Graph}
-use Rattle.path_eval.specs.declared.direction.Direction.{Direction}
 use Rattle.path_eval.specs.declared.path.Path.{Path, Row_of-Path, end_of-Path, more_of-Path, Seq', Alt'}
 use Rattle.path_eval.specs.declared.path.Path.{items-the_row-Path, items_hidden-the_row-Path-0}
 use Rattle.path_eval.specs.declared.path.Path.TheViews.{Seq, Alt}
 use Rattle.path_eval.specs.Route.{first_then, one_or_other, sequence, alternative}
 use Rattle.path_eval.specs.Route.{route_of, in_sequence, among}
-use Rattle.path_eval.specs.Way.{way}
 
 abbrev row_of : Path → (n : Count) × Row_of-Path n
 row_of (Seq' _ row) = (_, row)
@@ -38,19 +35,3 @@ route_Alt members =
     let row = row_of (Alt members) in
     alternative_items row.0 row.1
     ∙ ap (λ paths. alternative (map route_of paths)) (items_hidden-the_row-Path-0 members)
-
--- so a sequence that was matched goes the way of its parts
-pub way_Seq : (g : Graph) (d known : Direction) (p : Path) (parts : Vec Path Global) (items : List Path)
-    → p ≡ Seq parts → d ≡ known → items ≡ parts.items
-    → way g d (route_of p) ≡ way g known (sequence (map route_of items))
-way_Seq g d known p parts items is same held =
-    ap (λ q. way g d (route_of q)) is ∙ ap (λ e. way g e (route_of (Seq parts))) same
-    ∙ ap (way g known) (route_Seq parts)
-    ∙ ap (λ paths. way g known (sequence (map route_of paths))) (sym held)
-
-pub way_Alt : (g : Graph) (d : Direction) (p : Path) (members : Vec Path Global) (items : List Path)
-    → p ≡ Alt members → items ≡ members.items
-    → way g d (route_of p) ≡ way g d (alternative (map route_of items))
-way_Alt g d p members items is held =
-    ap (λ q. way g d (route_of q)) is ∙ ap (way g d) (route_Alt members)
-    ∙ ap (λ paths. way g d (alternative (map route_of paths))) (sym held)

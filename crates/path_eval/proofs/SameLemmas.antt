@@ -1,57 +1,12 @@
--- Lists with the same members, and ways that do the same from a node.
-use Rattle.std.specs.Prelude.{ℕ, List, ◌++◌, flat_map, Contains, ◌↔◌}
-use Rattle.shx_term.proofs.MemberLemmas.{Contains-flat_map, Contains-from_flat_map}
+-- Ways that do the same from a node.
+use Rattle.std.specs.Prelude.{ℕ, flat_map, Contains, ◌↔◌}
+use Rattle.shx_term.specs.Members.{SameMembers}
+use Rattle.shx_term.proofs.SetLemmas.{SameMembers-itself, SameMembers-append, SameMembers-flat_map}
 use Rattle.path_eval.specs.Relation.{Chain}
 use Rattle.path_eval.specs.Way.{Way, stay, either, then_by, repeated, closed}
 use Rattle.path_eval.proofs.ChainLemmas.{Longer-same}
-use Rattle.path_eval.proofs.FlatMapLemmas.{append_told}
 use Rattle.path_eval.proofs.MeetsLemmas.{Meets, meets_closed}
 use Rattle.path_eval.proofs.ThroughLemmas.{IsWithin, Leads, repeated_chain}
-
--- the same members, in whatever order and however often
-pub record SameMembers {X : Type 0} (xs ys : List X) : Type 0 where
-  pub each : (x : X) → Contains xs x ↔ Contains ys x
-
-module _ {X : Type 0} where
-  pub SameMembers-itself : (xs : List X) → SameMembers xs xs
-  SameMembers-itself xs = record { each = λ x. (λ c. c, λ c. c) }
-
-  pub SameMembers-sym : {xs ys : List X} → SameMembers xs ys → SameMembers ys xs
-  SameMembers-sym same = record { each = λ x. ((same.each x).1, (same.each x).0) }
-
-  pub SameMembers-then : {xs ys zs : List X} → SameMembers xs ys → SameMembers ys zs → SameMembers xs zs
-  SameMembers-then a b = record {
-    each = λ x. (λ c. (b.each x).0 ((a.each x).0 c), λ c. (a.each x).1 ((b.each x).1 c));
-  }
-
-  pub SameMembers-append : (xs ys xs' ys' : List X) → SameMembers xs xs' → SameMembers ys ys'
-      → SameMembers (xs ++ ys) (xs' ++ ys')
-  SameMembers-append xs ys xs' ys' a b = record {
-    each = λ x.
-        let here = append_told xs ys x (a.each x) (b.each x) in
-        let there = append_told xs' ys' x (λ c. c, λ c. c) (λ c. c, λ c. c) in
-        (λ c. there.1 (here.0 c), λ c. here.1 (there.0 c));
-  }
-
-module _ {X : Type 0} where
-  flat_map_to : (f g : ℕ → List X) (xs ys : List ℕ) → SameMembers xs ys
-      → ((z : ℕ) → Contains xs z → SameMembers (f z) (g z))
-      → (x : X) → Contains (flat_map f xs) x → Contains (flat_map g ys) x
-  flat_map_to f g xs ys same each x c =
-      let found = Contains-from_flat_map f xs x c in
-      let z = found.0 in
-      Contains-flat_map g ys z x ((same.each z).0 found.1) (((each z found.1).each x).0 found.2)
-
-  pub SameMembers-flat_map : (f g : ℕ → List X) (xs ys : List ℕ) → SameMembers xs ys
-      → ((z : ℕ) → Contains xs z → SameMembers (f z) (g z))
-      → SameMembers (flat_map f xs) (flat_map g ys)
-  SameMembers-flat_map f g xs ys same each = record {
-    each = λ x. (
-      flat_map_to f g xs ys same each x,
-      flat_map_to g f ys xs (SameMembers-sym same)
-          (λ z c. SameMembers-sym (each z ((same.each z).1 c))) x,
-    );
-  }
 
 -- from x both ways lead to the same nodes, and read the same
 pub record SameWay (a b : Way) (x : ℕ) : Type 0 where

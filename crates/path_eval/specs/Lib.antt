@@ -1,7 +1,6 @@
 pub mod Instances
-pub mod Nodes
 pub mod Relation
 pub mod Route
-pub mod Through
 pub mod Values
 pub mod Way
+pub mod inner

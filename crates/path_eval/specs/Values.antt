@@ -1,22 +1,15 @@
 -- The values of a path, and what is read for them.
-use Rattle.std.specs.Prelude.{◌≡◌, ℕ, List, flat_map}
+use Rattle.std.specs.Prelude.{◌≡◌, ℕ, List}
 use Rattle.shx_term.specs.IdOrder.{id_cmp, in_term_order}
 use Rattle.shx_term.specs.InOrder.{Lists}
 use Rattle.graph_view.specs.declared.key.Key.{Key}
 use Rattle.graph_view.specs.Graph.{Graph}
-use Rattle.graph_view.specs.Reads.{SameKeys}
+use Rattle.shx_term.specs.Members.{SameMembers}
 use Rattle.path_eval.specs.declared.direction.Direction.{Direction}
 use Rattle.path_eval.specs.declared.direction.Direction.TheVariants.{Forward}
 use Rattle.path_eval.specs.Relation.{PathRelates, Reaches}
 use Rattle.path_eval.specs.Route.{Route}
-use Rattle.path_eval.specs.Way.{Way, way}
-
--- the nodes that are reached from any of these, in term order, each once
-abbrev pub reached_from : Graph → Way → List ℕ → List ℕ
-reached_from g w from = in_term_order g.terms (flat_map w.to from)
-
-abbrev pub read_from : Way → List ℕ → List Key
-read_from w from = flat_map w.reads from
+use Rattle.path_eval.specs.Way.{way}
 
 -- the nodes that a path reaches from x
 abbrev pub nodes_reached : Graph → Direction → Route → ℕ → List ℕ
@@ -36,4 +29,4 @@ ListsReached g d route x ys = Lists (id_cmp g.terms) (Reaches d (PathRelates g.t
 -- the path does the same from x in both graphs
 pub record IsSamePath (g h : Graph) (d : Direction) (route : Route) (x : ℕ) : Type 0 where
   pub nodes : nodes_reached g d route x ≡ nodes_reached h d route x
-  pub reads : SameKeys (path_reads g d route x) (path_reads h d route x)
+  pub reads : SameMembers (path_reads g d route x) (path_reads h d route x)

@@ -7,7 +7,7 @@ use Rattle.path_eval.specs.declared.direction.Direction.TheVariants.{Forward, Ba
 use Rattle.path_eval.specs.Relation.{opposite, pick, step_key}
 use Rattle.path_eval.specs.Route.{Route, along, here, first_then, none, one_or_other, turned, any_times}
 use Rattle.path_eval.specs.Route.{some_times, perhaps}
-use Rattle.path_eval.specs.Through.{through}
+use Rattle.path_eval.specs.inner.Through.{through}
 
 -- the nodes that a node leads to, and the keys that are read for it
 pub record Way : Type 0 where

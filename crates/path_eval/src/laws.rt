@@ -3,7 +3,7 @@ ghost use Rattle.std.specs.Prelude.{◌≡◌, ◌<◌, ◌↔◌, ℕ, length, 
 ghost use Rattle.shx_term.specs.declared.triple.Triple.{Triple};
 ghost use Rattle.graph_view.specs.declared.key.Key.{Key};
 ghost use Rattle.graph_view.specs.Agree.{Agree};
-ghost use Rattle.graph_view.specs.Graph.{Graph, AllKnown, HasAlso, HasNot};
+ghost use Rattle.graph_view.specs.Graph.{Graph, AllKnown, HasAlso, IsWithout};
 ghost use Rattle.graph_view.specs.Key.{Touches};
 ghost use Rattle.path_eval.specs.declared.direction.Direction.{Direction};
 ghost use Rattle.path_eval.specs.Relation.{PathReads};
@@ -32,6 +32,6 @@ pub fn edits_beside_a_path()
         → HasAlso g.triples h.triples t → (d : Direction) (route : Route) (x : ℕ) → x < length g.terms
         → ((k : Key) → Contains (path_reads g d route x) k → Touches t k → ⊥) → IsSamePath g h d route x }
     ensures removed { (g h : Graph) (t : Triple) → AllKnown g → AllKnown h → h.terms ≡ g.terms
-        → HasNot g.triples h.triples t → (d : Direction) (route : Route) (x : ℕ) → x < length g.terms
+        → IsWithout g.triples h.triples t → (d : Direction) (route : Route) (x : ℕ) → x < length g.terms
         → ((k : Key) → Contains (path_reads g d route x) k → Touches t k → ⊥) → IsSamePath g h d route x }
 {}

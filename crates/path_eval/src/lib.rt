@@ -3,30 +3,45 @@
 //! | file | what it holds |
 //! |---|---|
 //! | `path.rt` | `Path`: the seven forms of a path |
+//! | `path_equality.rt` | paths that say the same are equal |
 //! | `path_values.rt` | `values`: the nodes that a path leads to from a node, and the keys that were read |
+//! | `instance_values.rt` | SHACL instances: the classes of a node, the instances of a class, and the test |
 //! | `direction.rt` | `Direction`: a path is followed forward or backward |
-//! | `walks.rt` | one function a form of path, over sets of nodes |
-//! | `steps.rt` | one step along a predicate |
-//! | `nodes.rt` | `Nodes`: the nodes that a walk has seen |
-//! | `instances.rt` | the path of SHACL instances |
+//! | `edge.rt` | `Edge` and `State`: places of a path, and nodes at them |
+//! | `lay.rt` | a path laid as edges between places |
+//! | `rows.rt` | edges by the places that they begin at |
+//! | `search.rt` | the search over states, and one step along a predicate |
+//! | `states.rt` | `States`: the states that a search has met |
 //! | `laws.rt` | what a path relates and reads, and that nothing else matters to it |
+//! | `instance_laws.rt` | what an instance is, and what it depends on |
+//! | `place_laws.rt` | places lead where paths do, and few states are reached |
 //!
-//! It stands on `graph_view` for what a graph gives and what it notes as read. Start with
-//! `path_values.rt`; `specs/Relation.antt` says what a path relates and reads, `specs/Way.antt` the same as
-//! lists.
+//! It stands on `graph_view` for what a graph gives and what it notes as read. Start with `path_values.rt`
+//! and `instance_values.rt`; `specs/Relation.antt` says what a path relates and reads, `specs/Way.antt` the
+//! same as lists. `specs/inner` has the words of contracts that no caller meets.
 #![tactic(auto)]
 
 mod direction;
-mod instances;
+mod edge;
+mod instance_laws;
+mod instance_values;
 mod laws;
-mod nodes;
+mod lay;
 mod path;
+mod path_equality;
 mod path_values;
-mod steps;
-mod walks;
+mod place_laws;
+mod rows;
+mod search;
+mod states;
 
 pub use direction::Direction;
-pub use instances::instance_path;
+pub use instance_laws::{
+    a_type_tells_of_its_node_alone, instances_are_told, instances_depend_on_their_reads,
+};
+pub use instance_values::{classes, instance_path, instances, is_instance};
 pub use laws::{edits_beside_a_path, paths_depend_on_their_reads, paths_lead_to_what_they_relate};
 pub use path::Path;
+pub use path_equality::equal_paths_have_one_route;
 pub use path_values::values;
+pub use place_laws::{few_states_are_reached, places_lead_where_paths_do};

@@ -4,8 +4,9 @@ ghost use Rattle.path_eval.specs.Route.{route_of};
 use shx_term::{Id, Memory};
 use std::alloc::Global;
 
-/// A property path (SHACL, section 2.3.1).
-#[derive(Debug, PartialEq, Eq)]
+/// A property path (SHACL, section 2.3.1). Two of them are equal if they say the same, wherever they stand in
+/// memory (`equal_paths_have_one_route`).
+#[derive(Debug)]
 pub enum Path {
     /// The predicate of a triple.
     Pred(Id),

@@ -1,22 +1,35 @@
 //! The values of a path.
-ghost use Rattle.std.specs.Prelude.{◌≡◌, IfOk, OnOk};
-ghost use Rattle.graph_view.specs.Reads.{Adds};
+ghost use Rattle.std.specs.Prelude.{◌≡◌, ◌<◌, length, IfOk, OnOk};
+ghost use Rattle.shx_term.specs.Members.{Adds};
+ghost use Rattle.graph_view.specs.Graph.{HasTerms};
 ghost use Rattle.path_eval.specs.declared.direction.Direction.{Direction};
-ghost use Rattle.path_eval.specs.Route.{route_of};
+ghost use Rattle.path_eval.specs.inner.Laid.{laid};
+ghost use Rattle.path_eval.specs.Route.{Route, route_of};
+ghost use Rattle.path_eval.specs.inner.Rows.{IsByPlace};
 ghost use Rattle.path_eval.specs.Values.{nodes_reached, path_reads};
 
-use crate::walks::reach;
+use crate::edge::{Edge, State};
+use crate::lay::{Edges, lay};
+use crate::rows::by_place;
+use crate::search::{search, step};
 use crate::{Direction, Path};
 use graph_view::{GraphView, Reads};
 use shx_term::{Id, Memory};
 use std::alloc::Global;
 
+/// The place at which a path begins.
+pub(crate) const START: u32 = 0;
+
+/// The place at which it ends.
+pub(crate) const END: u32 = 1;
+
 /// The nodes that a path leads to from a node, in term order, each once (SHACL, section 2.3.1). It adds the
-/// keys that it reads to `reads`, and no others; they are the same whatever is found.
+/// keys that it reads to `reads`, and no others. Where memory is refused, some of them may have been added.
 ///
-/// It recurses as deep as the path nests. A closure walks a frontier, so that each node goes through the
-/// path inside it once, but for the start of one-or-more where a cycle leads back to it. A closure inside a
-/// closure is walked anew at each turn of the outer one.
+/// It answers for every number; where the start has a term, so has each node that is given.
+///
+/// It recurses as deep as the path nests, to lay its edges. Then it takes each place of the path at most once
+/// with each node, however closures nest.
 pub fn values<V: GraphView>(
     alloc: Global,
     view: &V,
@@ -26,9 +39,45 @@ pub fn values<V: GraphView>(
 ) -> Result<Vec<Id>, Memory>
     ensures values { IfOk result (λ found.
         found.items ≡ nodes_reached (V.graph view.now) Direction.Forward (route_of path.now) start) }
+    ensures known { IfOk result (λ found. start < length (V.graph view.now).terms
+        → HasTerms (V.graph view.now) found.items) }
     ensures reads { OnOk result (Adds reads.old reads.new
         (path_reads (V.graph view.now) Direction.Forward (route_of path.now) start)) }
 {
-    let found = reach(alloc, view, path, Direction::Forward, &[start], reads)?;
-    Ok(found)
+    if let Path::Pred(p) = path {
+        let _ = view.pool();
+        let found = step(alloc, view, Direction::Forward, *p, start, reads)?;
+        return Ok(found);
+    }
+    let mut edges = Edges::new(alloc, 2);
+    lay(path, Direction::Forward, START, END, &mut edges)?;
+    let rows = by_place(alloc, &edges.edges, edges.places)?;
+    follow_laid(alloc, view, &rows, &edges.edges, start, reads)
+}
+
+/// The nodes to which the edges lead, as they are laid for a path, in term order. `rows` has them by place.
+pub(crate) fn follow_laid<V: GraphView>(
+    alloc: Global,
+    view: &V,
+    rows: &[Vec<Edge>],
+    edges: &[Edge],
+    start: Id,
+    reads: &mut Reads,
+) -> Result<Vec<Id>, Memory>
+    requires { IsByPlace rows.now edges.now }
+    ensures values { (d : Direction) (route : Route) → edges.now ≡ laid d route 0 1 2
+        → IfOk result (λ found. found.items ≡ nodes_reached (V.graph view.now) d route start) }
+    ensures known { (d : Direction) (route : Route) → edges.now ≡ laid d route 0 1 2
+        → IfOk result (λ found. start < length (V.graph view.now).terms
+        → HasTerms (V.graph view.now) found.items) }
+    ensures reads { (d : Direction) (route : Route) → edges.now ≡ laid d route 0 1 2
+        → OnOk result (Adds reads.old reads.new (path_reads (V.graph view.now) d route start)) }
+{
+    let pool = view.pool();
+    let first = State {
+        place: START,
+        node: start,
+    };
+    let nodes = search(alloc, view, rows, edges, first, END, reads)?;
+    Ok(pool.in_order(nodes))
 }

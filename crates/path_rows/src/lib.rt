@@ -2,10 +2,13 @@
 //!
 //! | file | what it holds |
 //! |---|---|
-//! | `tests/rows.rt` | the table: a graph, a path, a start, the values, the keys that are read |
+//! | `tests/rows.rt` | the tables: paths, their values and keys; paths that nest; paths that are equal |
 //! | `tests/values.rt` | the rows, and a path longer than any call may be deep |
-//! | `tests/paths.rt` | a path as the table writes it |
-//! | `tests/graphs.rt` | the graphs of the table, and terms of one letter |
+//! | `tests/instances.rt` | classes, instances and the test of an instance |
+//! | `tests/due.rt` | a graph that gives nothing at a key that is not due |
+//! | `tests/cells.rt` | nodes and keys as rows say them |
+//! | `tests/paths.rt` | a path as the tables write it |
+//! | `tests/graphs.rt` | the graphs of the tables, and terms of one letter |
 //!
 //! It stands on `path_eval`, `graph_view` and `shx_term`. Start with `tests/rows.rt`.
 #![tactic(auto)]

@@ -18,6 +18,7 @@ fork: apb apc bpd cpd
 many: apy apx apc apb dpx
 odd: apb pqb
 types: aTb bCc cCd dCb eTe
+kinds: aTb aTc bCd cCd dCf eTf gTb
 ";
 
 /// The number of a letter. The letters are entered from `z` down, so that the higher the number, the lower

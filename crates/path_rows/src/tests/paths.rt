@@ -116,3 +116,26 @@ pub(super) fn path(alloc: Global, text: &str) -> Result<Path, Memory> {
     }
     bracket.close(alloc)
 }
+
+const DEPTH: u32 = 60;
+
+/// A path inside itself, `(_/q)* p`: what is written around each, at `_`, and what is inside them all.
+pub(super) fn nested(alloc: Global, form: &str) -> Result<String, Memory> {
+    let (around, inside) = match form.split_once(' ') {
+        Some(parts) => parts,
+        None => (form, ""),
+    };
+    let (before, behind) = match around.split_once('_') {
+        Some(parts) => parts,
+        None => (around, ""),
+    };
+    let mut text = String::new(alloc);
+    for _level in 0..DEPTH {
+        text.push_str(before)?;
+    }
+    text.push_str(inside)?;
+    for _level in 0..DEPTH {
+        text.push_str(behind)?;
+    }
+    Ok(text)
+}

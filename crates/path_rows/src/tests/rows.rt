@@ -131,6 +131,8 @@ two : ^n+ : a : ab : In(n,ab)
 mesh : p+ : a : abc : Out(abc,p)
 mesh : (p|q)+ : d : abcde : Out(abcde,p) Out(abcde,q)
 mesh : ^(p|q)* : e : abcde : In(p,abcde) In(q,abcde)
+steps : (p*/q)* : a : ace : Out(abcde,p) Out(abcde,q)
+steps : ^((p*/q)*) : e : abcde : In(q,abcde) In(p,abcd)
 mesh : (p*/q)* : a : acde : Out(abcde,p) Out(abcde,q)
 mesh : ^((p*/q)*) : d : abcde : In(q,abcde) In(p,abcde)
 mesh : (p+/q+)+ : a : cde : Out(abcde,p) Out(abcde,q)
@@ -168,4 +170,44 @@ types : @ : a : bcd : Out(a,T) Out(bcd,C)
 types : ^@ : d : a : In(C,bcd) In(T,bcd)
 types : @ : b : - : Out(b,T)
 types : @ : e : e : Out(e,T) Out(e,C)
+";
+
+/// Paths with one path inside the other, 60 deep: a graph; what is written
+/// around each, at `_`, and what is inside them all; then as above.
+pub const NESTED: &str = "line : _* p : a : abcd : Out(abcd,p)
+line : _* p : c : cd : Out(cd,p)
+line : _+ p : a : bcd : Out(abcd,p)
+line : _? p : b : bc : Out(b,p)
+line : (^_)* p : b : bcd : Out(bcd,p)
+line : (^_)+ (^p) : c : ab : In(p,abc)
+steps : (_/q?)* p : a : abcde : Out(abcde,p) Out(abcde,q)
+mesh : (_/q?)* p : a : abcde : Out(abcde,p) Out(abcde,q)
+mesh : (_/q)* p : a : a : Out(a,p) Out(ab,q)
+mesh : (_/q)* p : c : cde : Out(cde,p) Out(acde,q)
+two : (_|n)+ n : a : ab : Out(ab,n)
+";
+
+/// Two paths, and whether they are the same.
+pub const PAIRS: &str = "p : p : same
+p : q : other
+p : ^p : other
+^(^p) : p : other
+p/q : p/q : same
+p/q : q/p : other
+p/q : p/q/p : other
+p/q/p : p/q : other
+p/q/p : p/(q/p) : other
+p|q : p|q : same
+p|q : q|p : other
+p|q : p/q : other
+() : () : same
+() : [] : other
+p* : p* : same
+p* : p+ : other
+p+ : p? : other
+p? : p* : other
+(p/q)* : (p/q)* : same
+(p/q)* : (p/p)* : other
+^(p|q*) : ^(p|q*) : same
+^(p|q*) : ^(p|q+) : other
 ";

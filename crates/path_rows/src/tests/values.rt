@@ -1,102 +1,49 @@
-use super::graphs::{graph, insert, number};
-use super::paths::path;
-use super::rows::ROWS;
-use graph_view::{GraphEdit, Key, ListGraph, Reads};
+use super::cells::{are_nodes, are_same_keys, cut, keys, node};
+use super::due::Due;
+use super::graphs::{graph, insert};
+use super::paths::{nested, path};
+use super::rows::{NESTED, PAIRS, ROWS};
+use graph_view::{GraphEdit, ListGraph, Reads};
 use path_eval::{
-    Path, edits_beside_a_path, paths_depend_on_their_reads, paths_lead_to_what_they_relate, values,
+    Path, edits_beside_a_path, equal_paths_have_one_route, paths_depend_on_their_reads,
+    paths_lead_to_what_they_relate, values,
 };
 use shx_term::vocabulary::{RDF_REST, VOCABULARY_LEN};
-use shx_term::{BlankName, Id, LocalName, Memory, Pool, Scope, Term, Triple};
+use shx_term::{BlankName, LocalName, Memory, Pool, Scope, Term, Triple};
 use std::alloc::Global;
 use std::process::Abort;
 use std::test::Fail;
 
-// What stands before the first colon, and what stands behind it.
-fn cut(row: &str) -> (&str, &str) {
-    match row.split_once(" : ") {
-        Some(parts) => parts,
-        None => (row, ""),
-    }
-}
-
-// The key along a predicate from a node, or to it.
-fn key(mark: &str, node: u8, p: u8) -> Key {
-    if mark == "Out" {
-        Key::Out(number(node), number(p))
-    } else {
-        Key::In(number(p), number(node))
-    }
-}
-
-// Keys of several nodes, `Out(ab,p)` or `In(p,ab)`.
-fn add_keys(reads: &mut Reads, text: &str) -> Result<(), Memory> {
-    let (mark, rest) = match text.split_once('(') {
-        Some(parts) => parts,
-        None => (text, ""),
+// Whether a path leads as the rest of a row says, and looks up nothing but the keys of the row.
+fn leads(alloc: Global, graph: &ListGraph, path: &Path, rest: &str) -> Result<bool, Memory> {
+    let (start, rest) = cut(rest);
+    let (wanted, read) = cut(rest);
+    let due = keys(alloc, read)?;
+    let view = Due {
+        base: graph,
+        due: &due,
     };
-    let (first, second) = match rest.trim_end_matches(')').split_once(',') {
-        Some(parts) => parts,
-        None => (rest, ""),
-    };
-    let (nodes, predicate) = if mark == "Out" {
-        (first, second)
-    } else {
-        (second, first)
-    };
-    for p in predicate.bytes() {
-        for node in nodes.bytes() {
-            reads.add(key(mark, node, p))?;
-        }
-    }
-    Ok(())
-}
-
-fn keys(alloc: Global, text: &str) -> Result<Reads, Memory> {
     let mut reads = Reads::new(alloc);
-    for word in text.split_whitespace() {
-        add_keys(&mut reads, word)?;
+    match values(alloc, &view, path, node(start), &mut reads) {
+        Ok(found) => Ok(are_nodes(&found, wanted) && are_same_keys(&reads, &due)),
+        Err(_) => Ok(false),
     }
-    Ok(reads)
 }
 
-fn are_same_keys(reads: &Reads, wanted: &Reads) -> bool {
-    for at in 0..wanted.len() {
-        if !reads.has(wanted.key_at(at)) {
-            return false;
-        }
-    }
-    reads.len() == wanted.len()
-}
-
-// Whether these are the nodes of these letters, in this order.
-fn are_nodes(found: &[Id], letters: &str) -> bool {
-    let nodes = letters.as_bytes();
-    found.len() == nodes.len()
-        && found
-            .iter()
-            .zip(nodes)
-            .all(|(id, letter)| *id == number(*letter))
-}
-
-// Whether a copy of the row's path leads from the row's start to its values, and reads its keys.
+// Whether a copy of the row's path leads as the row says.
 fn is_as_said(rt: &impl Abort, alloc: Global, row: &str) -> Result<bool, Fail> {
     let (name, rest) = cut(row);
     let (written, rest) = cut(rest);
-    let (start, rest) = cut(rest);
-    let (wanted, read) = cut(rest);
     let graph = graph(rt, alloc, name)?;
     let path = path(alloc, written)?;
     let copy = path.copy(alloc)?;
     assert_eq!(rt; copy, path);
-    let start = start.bytes().next().map_or(0, number);
-    let mut reads = Reads::new(alloc);
-    let found = values(alloc, &graph, &copy, start, &mut reads)?;
-    Ok(are_nodes(&found, wanted.trim_matches('-')) && are_same_keys(&reads, &keys(alloc, read)?))
+    Ok(leads(alloc, &graph, &copy, rest)?)
 }
 
 // The first row that is met otherwise. A line with `#` is a heading.
-fn first_other(rt: &impl Abort, alloc: Global, rows: &'static str) -> Result<&'static str, Fail> {
-    for row in rows.lines() {
+fn first_other(rt: &impl Abort, alloc: Global) -> Result<&'static str, Fail> {
+    for row in ROWS.lines() {
         if !row.starts_with('#') && !is_as_said(rt, alloc, row)? {
             return Ok(row);
         }
@@ -106,7 +53,52 @@ fn first_other(rt: &impl Abort, alloc: Global, rows: &'static str) -> Result<&'s
 
 #[test]
 fn paths_lead_and_read_as_said(rt: HostRuntime) -> Result<(), Fail> {
-    assert_eq!(rt; first_other(&rt, rt.alloc(), ROWS)?, "");
+    assert_eq!(rt; first_other(&rt, rt.alloc())?, "");
+    Ok(())
+}
+
+// The same where a path is nested.
+fn is_nested_as_said(rt: &impl Abort, alloc: Global, row: &str) -> Result<bool, Fail> {
+    let (name, rest) = cut(row);
+    let (form, rest) = cut(rest);
+    let graph = graph(rt, alloc, name)?;
+    let path = path(alloc, &nested(alloc, form)?)?;
+    Ok(leads(alloc, &graph, &path, rest)?)
+}
+
+fn first_other_nested(rt: &impl Abort, alloc: Global) -> Result<&'static str, Fail> {
+    for row in NESTED.lines() {
+        if !is_nested_as_said(rt, alloc, row)? {
+            return Ok(row);
+        }
+    }
+    Ok("")
+}
+
+#[test]
+fn nested_paths_lead_as_said(rt: HostRuntime) -> Result<(), Fail> {
+    assert_eq!(rt; first_other_nested(&rt, rt.alloc())?, "");
+    Ok(())
+}
+
+fn is_equal_as_said(alloc: Global, row: &str) -> Result<bool, Memory> {
+    let (first, rest) = cut(row);
+    let (second, said) = cut(rest);
+    Ok((path(alloc, first)? == path(alloc, second)?) == (said == "same"))
+}
+
+fn first_other_pair(alloc: Global) -> Result<&'static str, Memory> {
+    for row in PAIRS.lines() {
+        if !is_equal_as_said(alloc, row)? {
+            return Ok(row);
+        }
+    }
+    Ok("")
+}
+
+#[test]
+fn paths_are_equal_as_said(rt: HostRuntime) -> Result<(), Fail> {
+    assert_eq!(rt; first_other_pair(rt.alloc())?, "");
     Ok(())
 }
 
@@ -159,4 +151,5 @@ fn laws_of_paths_are_at_hand() {
     paths_lead_to_what_they_relate();
     paths_depend_on_their_reads();
     edits_beside_a_path();
+    equal_paths_have_one_route();
 }

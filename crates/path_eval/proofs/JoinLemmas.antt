@@ -1,0 +1,108 @@
+-- Members that are added to those that were seen.
+use Rattle.std.specs.Prelude.{◌≡◌, ℕ, ◌+◌, ◌<◌, true, false, List, [], ◌∷◌, ◌++◌, map, flat_map, take, length}
+use Rattle.std.specs.Prelude.{if◌then◌else◌, ◌==◌}
+use Rattle.std.specs.List.{list_any}
+use Rattle.std.proofs.Common.{refl, sym, ap, ◌∙◌, subst, inl, inr, get_or, append_assoc, append-nil}
+use Rattle.std.proofs.lemmas.Grind.{flat_map-append}
+use Rattle.std.proofs.lemmas.List.{take_more, map_push, get_or_default}
+use Rattle.std.proofs.lemmas.Bool.{eqb-true}
+use Rattle.std.proofs.lemmas.List.Elements.{Contains-append_left, Contains-append_right}
+use Rattle.std.proofs.lemmas.List.Elements.{Contains-append_cases}
+use Rattle.shx_term.proofs.MemberLemmas.{Contains-insert, Contains-one, none_in_empty}
+use Rattle.indexmap.specs.IndexSet.{insert_key}
+use Rattle.graph_view.specs.declared.key.Key.{Key}
+use Rattle.shx_term.specs.Members.{Adds}
+use Rattle.shx_term.proofs.SetLemmas.{Adds-take_item}
+use Rattle.path_eval.specs.declared.edge.State.{State}
+use Rattle.path_eval.specs.inner.Reached.{Joins}
+use Rattle.path_eval.specs.inner.StateLaws.{same_state, same_state_equiv, same_state_exact}
+
+-- an insertion adds the one state
+pub Joins-insert : (seen : List State) (t : State) → Joins seen (t ∷ []) (insert_key same_state seen t)
+Joins-insert seen t =
+    let same = λ (u : State). Contains-insert same_state same_state_equiv same_state_exact seen t u in
+    let added = elim (list_any (same_state t) seen) as
+    (λ b. (more : List State) × ((if b then seen else seen ++ t ∷ []) ≡ seen ++ more)) [
+      | true ↦ ([], sym (append-nil seen))
+      | false ↦ (t ∷ [], refl)
+    ] in
+    record {
+      rest = added.0;
+      begins = added.1;
+      each = λ u. (
+        λ c. elim ((same u).0 c) [ inl held ↦ inl held | inr e ↦ inr ((Contains-one t u).1 e) ],
+        λ h. (same u).1 (elim h [ inl held ↦ inl held | inr one ↦ inr ((Contains-one t u).0 one) ]),
+      );
+    }
+
+module _ {X : Type 0} where
+  pub Joins-none : (seen : List X) → Joins seen [] seen
+  Joins-none seen = record {
+    rest = [];
+    begins = sym (append-nil seen);
+    each = λ x. (λ c. inl c, λ h. elim h [ inl c ↦ c | inr c ↦ absurd (none_in_empty x c) ]);
+  }
+
+  pub Joins-then : {old mid new : List X} (xs ys : List X) → Joins old xs mid → Joins mid ys new
+      → Joins old (xs ++ ys) new
+  Joins-then {old} xs ys a b = record {
+    rest = a.rest ++ b.rest;
+    begins = b.begins ∙ ap (λ ns. ns ++ b.rest) a.begins ∙ append_assoc old a.rest b.rest;
+    each = λ x. (
+      λ c. elim ((b.each x).0 c) [
+        | inl held ↦ elim ((a.each x).0 held) [
+          | inl first ↦ inl first
+          | inr one ↦ inr (Contains-append_left xs ys x one)
+        ]
+        | inr other ↦ inr (Contains-append_right xs ys x other)
+      ],
+      λ h. (b.each x).1 (elim h [
+        | inl first ↦ inl ((a.each x).1 (inl first))
+        | inr more ↦ elim (Contains-append_cases xs ys x more) [
+          | inl one ↦ inl ((a.each x).1 (inr one))
+          | inr other ↦ inr other
+        ]
+      ]),
+    );
+  }
+
+module _ {A X : Type 0} where
+  -- a step of a loop that adds the image of one element after the other
+  pub Joins-take_image : (f : A → X) (xs : List A) (i : ℕ) (d : A) → i < length xs → {old mid new : List X}
+      → Joins old (map f (take i xs)) mid → Joins mid (f (get_or xs i d) ∷ []) new
+      → Joins old (map f (take (i + 1) xs)) new
+  Joins-take_image f xs i d inside {old} {mid} {new} before step =
+      let x = get_or xs i d in
+      subst (λ ys. Joins old ys new)
+      (sym (ap (map f) (take_more xs i d inside) ∙ map_push f (take i xs) x))
+      (Joins-then (map f (take i xs)) (f x ∷ []) before step)
+
+  -- a step of a loop that adds the list of one element after the other
+  pub Joins-take_list : (f : A → List X) (xs : List A) (i : ℕ) (d : A) → i < length xs
+      → {old mid new : List X}
+      → Joins old (flat_map f (take i xs)) mid → Joins mid (f (get_or xs i d)) new
+      → Joins old (flat_map f (take (i + 1) xs)) new
+  Joins-take_list f xs i d inside {old} {mid} {new} before step =
+      let x = get_or xs i d in
+      subst (λ ys. Joins old ys new)
+      (sym (ap (flat_map f) (take_more xs i d inside) ∙ flat_map-append f (take i xs) (x ∷ [])
+      ∙ ap (λ ys. flat_map f (take i xs) ++ ys) (append-nil (f x))))
+      (Joins-then (flat_map f (take i xs)) (f x) before step)
+
+module _ {X : Type 0} where
+  -- what is given where numbers are one is nothing where they are not
+  pub Joins-elsewhere : (m n : ℕ) → (m ≡ n → ⊥) → (xs seen : List X)
+      → Joins seen (if m == n then xs else []) seen
+  Joins-elsewhere m n other xs seen =
+      elim (m == n) as (λ b. (m == n) ≡ b → Joins seen (if b then xs else []) seen) [
+        | true ↦ λ h. absurd (other (eqb-true m n h))
+        | false ↦ λ h. Joins-none seen
+      ] refl
+
+-- a step of a loop that adds the keys of one element after the other
+pub Adds-take_list : {A : Type 0} (f : A → List Key) (xs : List A) (i : ℕ) (d : A) → i < length xs
+    → {old mid new : List Key} → Adds old mid (flat_map f (take i xs)) → Adds mid new (f (get_or xs i d))
+    → Adds old new (flat_map f (take (i + 1) xs))
+Adds-take_list f xs i d inside before step =
+    let x = get_or xs i d in
+    Adds-take_item f xs i x inside (sym (get_or_default xs i x d inside)) before step

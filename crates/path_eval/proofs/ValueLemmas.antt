@@ -1,0 +1,75 @@
+-- What a search over the places of a path gives is what the path gives.
+use Rattle.std.specs.Prelude.{◌≡◌, ◌<◌, ℕ, List, map, length, All, Contains}
+use Rattle.std.proofs.Common.{ap, ◌∙◌, subst, inl, inr}
+use Rattle.std.proofs.lemmas.List.Elements.{All-same, All-weaker, All-contains_itself}
+use Rattle.shx_term.specs.declared.term.Term.{Term}
+use Rattle.shx_term.specs.IdOrder.{in_term_order}
+use Rattle.shx_term.proofs.IdOrderLemmas.{in_term_order_lists, in_term_order_same}
+use Rattle.graph_view.specs.declared.key.Key.{Key}
+use Rattle.graph_view.specs.declared.key.Key.TheVariants.{Out, In}
+use Rattle.graph_view.specs.Key.{look}
+use Rattle.graph_view.specs.Graph.{Graph, AllKnown}
+use Rattle.shx_term.specs.Members.{Adds}
+use Rattle.path_eval.specs.declared.direction.Direction.{Direction}
+use Rattle.path_eval.specs.declared.direction.Direction.TheVariants.{Forward, Backward}
+use Rattle.path_eval.specs.Route.{Route, along}
+use Rattle.path_eval.specs.Values.{nodes_reached, path_reads}
+use Rattle.path_eval.specs.Way.{way, step_to}
+use Rattle.path_eval.specs.declared.edge.Edge.{Edge}
+use Rattle.path_eval.specs.inner.Laid.{laid}
+use Rattle.path_eval.specs.inner.Reached.{AddsThose, HasThose}
+use Rattle.path_eval.specs.inner.States.{IsLookedUp, IsReached, next_states, state_at}
+use Rattle.path_eval.proofs.MeetsLemmas.{path_known}
+use Rattle.path_eval.proofs.StateLemmas.{states_nodes, states_keys}
+
+ordered_again : (terms : List Term) (xs : List ℕ)
+    → in_term_order terms xs ≡ in_term_order terms (in_term_order terms xs)
+ordered_again terms xs =
+    in_term_order_same terms xs (in_term_order terms xs) (λ y.
+    let told = (in_term_order_lists terms xs).each y in
+    (told.1, told.0))
+
+module _ (g : Graph) (known : AllKnown g) (d : Direction) (route : Route) (x : ℕ) (edges : List Edge)
+    (same : edges ≡ laid d route 0 1 2) where
+  pub found_nodes : (nodes : List ℕ)
+      → HasThose nodes (λ y. IsReached (next_states g edges) (state_at 0 x) (state_at 1 y))
+      → (held : List Term) (answer : List ℕ) → held ≡ g.terms → answer ≡ in_term_order held nodes
+      → answer ≡ nodes_reached g d route x
+  found_nodes nodes has held answer terms e =
+      let those : HasThose nodes
+      (λ y. IsReached (next_states g (laid d route 0 1 2)) (state_at 0 x) (state_at 1 y)) =
+      subst (λ es. HasThose nodes (λ y. IsReached (next_states g es) (state_at 0 x) (state_at 1 y))) same
+      has in
+      e ∙ ap (λ ts. in_term_order ts nodes) terms
+      ∙ in_term_order_same g.terms nodes ((way g d route).to x) (λ y.
+      let told = states_nodes g known d route x y in
+      (λ c. told.0 ((those.each y).0 c), λ c. (those.each y).1 (told.1 c)))
+
+  pub found_reads : (a b : List Key) → AddsThose a b (IsLookedUp g edges (state_at 0 x))
+      → Adds a b (path_reads g d route x)
+  found_reads a b adds =
+      let those : AddsThose a b (IsLookedUp g (laid d route 0 1 2) (state_at 0 x)) =
+      subst (λ es. AddsThose a b (IsLookedUp g es (state_at 0 x))) same adds in
+      record {
+        each = λ k.
+            let told = states_keys g known d route x k in (
+              λ c. elim ((those.each k).0 c) [ inl old ↦ inl old | inr new ↦ inr (told.0 new) ],
+              λ h. (those.each k).1 (elim h [ inl old ↦ inl old | inr new ↦ inr (told.1 new) ]),
+            );
+      }
+
+-- what is given has terms, where the start has one
+pub found_known : (g : Graph) → AllKnown g → (d : Direction) (route : Route) (x : ℕ) (answer : List ℕ)
+    → answer ≡ nodes_reached g d route x → x < length g.terms → All (λ id. id < length g.terms) answer
+found_known g known d route x answer e inside =
+    let nodes = nodes_reached g d route x in
+    let has_term = λ (id : ℕ). id < length g.terms in
+    All-same has_term answer nodes e
+    (All-weaker (Contains nodes) has_term (λ y c.
+    path_known g known d route x y inside (((in_term_order_lists g.terms ((way g d route).to x)).each y).0 c))
+    nodes (All-contains_itself nodes))
+
+-- one step is in term order as it is found
+pub step_nodes : (g : Graph) (d : Direction) (p x : ℕ) → step_to g d p x ≡ nodes_reached g d (along p) x
+step_nodes g Forward p x = ordered_again g.terms (map (λ t. t.o) (look g.triples (Out x p)))
+step_nodes g Backward p x = ordered_again g.terms (map (λ t. t.s) (look g.triples (In p x)))

@@ -1,0 +1,14 @@
+use Rattle.path_eval.specs.Instances.{instance_route}
+use Rattle.path_eval.proofs.instance_values.follow.Goals as goal
+
+pub returns-clause-nodes : goal.returns-clause-nodes
+returns-clause-nodes g c =
+    c.follow_laid.ensures.values c.args.direction instance_route c.instance_edges-edges.ensures
+
+pub returns-clause-known : goal.returns-clause-known
+returns-clause-known g c =
+    c.follow_laid.ensures.known c.args.direction instance_route c.instance_edges-edges.ensures
+
+pub returns-clause-reads : goal.returns-clause-reads
+returns-clause-reads g c =
+    c.follow_laid.ensures.reads c.args.direction instance_route c.instance_edges-edges.ensures

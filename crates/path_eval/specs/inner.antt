@@ -1,0 +1,10 @@
+-- Words of contracts inside the crate, and the laws that its types cite; no caller needs them.
+pub mod Laid
+pub mod Laying
+pub mod Reached
+pub mod Rows
+pub mod SameRoute
+pub mod SameRouteLaws
+pub mod StateLaws
+pub mod States
+pub mod Through

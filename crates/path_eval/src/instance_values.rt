@@ -1,0 +1,136 @@
+//! SHACL instances.
+ghost use Rattle.std.specs.Prelude.{◌≡◌, ◌<◌, length, IfOk, OnOk};
+ghost use Rattle.shx_term.specs.Members.{Adds};
+ghost use Rattle.graph_view.specs.Graph.{HasTerms};
+ghost use Rattle.path_eval.specs.declared.direction.Direction.{Direction};
+ghost use Rattle.path_eval.specs.Instances.{instance_route, is_instance};
+ghost use Rattle.path_eval.specs.inner.Laid.{edge_by, laid};
+ghost use Rattle.path_eval.specs.Route.{route_of};
+ghost use Rattle.path_eval.specs.Values.{nodes_reached, path_reads};
+
+use crate::edge::{Edge, Label};
+use crate::path_values::{END, START, follow_laid};
+use crate::{Direction, Path};
+use graph_view::{GraphView, Reads};
+use shx_term::vocabulary::{RDF_TYPE, RDFS_SUB_CLASS_OF};
+use shx_term::{Id, Memory};
+use std::alloc::Global;
+
+/// The path from a node to the classes of which it is a SHACL instance (SHACL, section 1.3): `rdf:type`, and
+/// then `rdfs:subClassOf` none or more times.
+pub fn instance_path(alloc: Global) -> Result<Path, Memory>
+    ensures { IfOk result (λ path. route_of path ≡ instance_route) }
+{
+    let kind = Path::Pred(RDF_TYPE);
+    let wider = Path::ZeroOrMore(Box::new(alloc, Path::Pred(RDFS_SUB_CLASS_OF))?);
+    let mut parts = Vec::with_capacity(alloc, 2)?;
+    parts.push(kind)?;
+    parts.push(wider)?;
+    Ok(Path::Seq(parts))
+}
+
+/// The classes of which a node is a SHACL instance, in term order, each once: its types, and the classes of
+/// which these are subclasses. It looks up the types of the node, and each class once, however they lead to
+/// each other. Where memory is refused, some of the keys may have been added to `reads`.
+pub fn classes<V: GraphView>(
+    alloc: Global,
+    view: &V,
+    node: Id,
+    reads: &mut Reads,
+) -> Result<Vec<Id>, Memory>
+    ensures classes { IfOk result (λ found.
+        found.items ≡ nodes_reached (V.graph view.now) Direction.Forward instance_route node) }
+    ensures known { IfOk result (λ found. node < length (V.graph view.now).terms
+        → HasTerms (V.graph view.now) found.items) }
+    ensures reads { OnOk result (Adds reads.old reads.new
+        (path_reads (V.graph view.now) Direction.Forward instance_route node)) }
+{
+    follow(alloc, view, Direction::Forward, node, reads)
+}
+
+/// The SHACL instances of a class, in term order, each once. It looks up each subclass once, and the nodes of
+/// each. Where memory is refused, some of the keys may have been added to `reads`.
+pub fn instances<V: GraphView>(
+    alloc: Global,
+    view: &V,
+    class: Id,
+    reads: &mut Reads,
+) -> Result<Vec<Id>, Memory>
+    ensures instances { IfOk result (λ found.
+        found.items ≡ nodes_reached (V.graph view.now) Direction.Backward instance_route class) }
+    ensures known { IfOk result (λ found. class < length (V.graph view.now).terms
+        → HasTerms (V.graph view.now) found.items) }
+    ensures reads { OnOk result (Adds reads.old reads.new
+        (path_reads (V.graph view.now) Direction.Backward instance_route class)) }
+{
+    follow(alloc, view, Direction::Backward, class, reads)
+}
+
+/// Whether a node is a SHACL instance of a class. It costs what `classes` costs, and adds the same keys, also
+/// where the class is found at once: so what was read does not depend on the class. Where memory is refused,
+/// some of the keys may have been added to `reads`.
+pub fn is_instance<V: GraphView>(
+    alloc: Global,
+    view: &V,
+    node: Id,
+    class: Id,
+    reads: &mut Reads,
+) -> Result<bool, Memory>
+    ensures is { IfOk result (λ is. is ≡ is_instance (V.graph view.now) node class) }
+    ensures reads { OnOk result (Adds reads.old reads.new
+        (path_reads (V.graph view.now) Direction.Forward instance_route node)) }
+{
+    let found = classes(alloc, view, node, reads)?;
+    Ok(found.contains(&class))
+}
+
+// Along the path of instances in a direction, with no path built.
+fn follow<V: GraphView>(
+    alloc: Global,
+    view: &V,
+    direction: Direction,
+    start: Id,
+    reads: &mut Reads,
+) -> Result<Vec<Id>, Memory>
+    ensures nodes { IfOk result (λ found.
+        found.items ≡ nodes_reached (V.graph view.now) direction instance_route start) }
+    ensures known { IfOk result (λ found. start < length (V.graph view.now).terms
+        → HasTerms (V.graph view.now) found.items) }
+    ensures reads { OnOk result (Adds reads.old reads.new
+        (path_reads (V.graph view.now) direction instance_route start)) }
+{
+    let rows: Vec<Vec<Edge>> = Vec::new(alloc);
+    let edges = instance_edges(direction);
+    follow_laid(alloc, view, &rows, &edges, start, reads)
+}
+
+// The path of instances as it is laid from the first place to the last. It takes no memory, and is too short
+// for rows.
+fn instance_edges(direction: Direction) -> [Edge; 5]
+    ensures { result ≡ laid direction instance_route 0 1 2 }
+{
+    let kind = Label::Step(direction, RDF_TYPE);
+    let wider = Label::Step(direction, RDFS_SUB_CLASS_OF);
+    match direction {
+        Direction::Forward => [
+            edge(START, kind, 2),
+            edge(2, Label::Free, 4),
+            edge(4, Label::Free, 3),
+            edge(4, wider, 4),
+            edge(3, Label::Free, END),
+        ],
+        Direction::Backward => [
+            edge(2, kind, END),
+            edge(3, Label::Free, 4),
+            edge(4, Label::Free, 2),
+            edge(4, wider, 4),
+            edge(START, Label::Free, 3),
+        ],
+    }
+}
+
+fn edge(from: u32, label: Label, to: u32) -> Edge
+    ensures { result ≡ edge_by label from to }
+{
+    Edge { from, label, to }
+}

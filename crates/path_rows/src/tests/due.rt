@@ -1,0 +1,59 @@
+use graph_view::{GraphView, Key, Reads};
+use shx_term::{Id, Memory, Pool, Triple};
+use std::alloc::{AllocError, Global};
+
+/// A graph that answers for want of memory at every key but those that are due, so that no look-up goes
+/// beside what is noted.
+#[derive(Drop)]
+pub(super) struct Due<'a, V: GraphView> {
+    pub(super) base: &'a V,
+    pub(super) due: &'a Reads,
+}
+
+impl<'a, V: GraphView> Due<'a, V> {
+    fn allow(&self, key: &Key) -> Result<(), Memory> {
+        if self.due.has(key) {
+            Ok(())
+        } else {
+            Err(AllocError)
+        }
+    }
+}
+
+impl<'a, V: GraphView> GraphView for Due<'a, V> {
+    ghost graph = { λ view. V.graph view.base.now };
+
+    ghost term_limit = { λ view. V.term_limit view.base.now };
+
+    fn pool(&self) -> &Pool {
+        self.base.pool()
+    }
+
+    fn len(&self) -> u64 {
+        self.base.len()
+    }
+
+    fn contains(&self, t: &Triple) -> bool {
+        self.base.contains(t)
+    }
+
+    fn objects(&self, alloc: Global, s: Id, p: Id, reads: &mut Reads) -> Result<Vec<Id>, Memory> {
+        self.allow(&Key::Out(s, p))?;
+        self.base.objects(alloc, s, p, reads)
+    }
+
+    fn subjects(&self, alloc: Global, p: Id, o: Id, reads: &mut Reads) -> Result<Vec<Id>, Memory> {
+        self.allow(&Key::In(p, o))?;
+        self.base.subjects(alloc, p, o, reads)
+    }
+
+    fn triples_of(&self, alloc: Global, s: Id, reads: &mut Reads) -> Result<Vec<Triple>, Memory> {
+        self.allow(&Key::Subject(s))?;
+        self.base.triples_of(alloc, s, reads)
+    }
+
+    fn triples_with(&self, alloc: Global, p: Id, reads: &mut Reads) -> Result<Vec<Triple>, Memory> {
+        self.allow(&Key::Predicate(p))?;
+        self.base.triples_with(alloc, p, reads)
+    }
+}

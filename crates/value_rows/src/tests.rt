@@ -1,2 +1,3 @@
 mod literals;
 mod made;
+mod terms;

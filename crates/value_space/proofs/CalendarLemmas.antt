@@ -147,7 +147,7 @@ module _ (f : ℤ → ℕ → ℕ → ℤ)
         days_to_year-next before,
       ))
 
-  pub day_number_is : (y : ℤ) (m d : ℕ) → IsYear y → 1 ≤ m → 1 ≤ d → f y m d ≡ day_number y m d
+  day_number_is : (y : ℤ) (m d : ℕ) → IsYear y → 1 ≤ m → 1 ≤ d → f y m d ≡ day_number y m d
   day_number_is y m d year month day =
       let back : (m - 1) + 1 ≡ m = omega arith in
       let months : f y m 1 ≡ f y 1 1 +ℤ pos (days_of_months y (m - 1)) = rw back at (month_start y (m - 1)) in

@@ -16,7 +16,7 @@ use Rattle.value_space.specs.declared.value.Value.TheVariants.{Bool as Truth}
 use Rattle.value_space.specs.Numbers.{number_in_places, whole_of, fraction_of, integer_of}
 use Rattle.value_space.specs.Values.{value_of, value_in, number_value, is_from, is_up_to}
 use Rattle.value_space.specs.Moments.{is_moment, moment_nanos, moment_zoned, is_day, day_nanos, day_zoned}
-use Rattle.value_space.specs.Canonical.{IsCanonical}
+use Rattle.value_space.specs.inner.Canonical.{IsCanonical}
 use Rattle.value_space.proofs.DigitLemmas.{and-split, ten_to, number_of-below}
 use Rattle.value_space.proofs.NumberLemmas.{fraction_are_digits, integer_is_decimal}
 

@@ -8,13 +8,10 @@ use Rattle.shx_term.specs.Datatypes.{Datatype, space_among, xsd}
 use Rattle.shx_term.specs.Datatypes.Space.{Opaques}
 use Rattle.value_space.specs.declared.datatype.Datatype.{Datatype as Row}
 use Rattle.value_space.specs.declared.datatype.Space.{Space}
-use Rattle.value_space.specs.Spaces.{space_meant, space_of_name}
+use Rattle.value_space.specs.inner.Spaces.{space_meant, space_of_name}
 
-abbrev pub row_meant : Row → Datatype
+abbrev row_meant : Row → Datatype
 row_meant row = record { name = row.name.now; space = space_meant row.space }
-
-same_names : (a b : List ℕ) → pointwise nat_eq (xsd a) (xsd b) ≡ pointwise nat_eq a b
-same_names a b = refl
 
 space_of_name-meant : (rows : List Row) (name : List ℕ)
     → space_meant (space_of_name rows name) ≡ space_among (map row_meant rows) (xsd name)

@@ -1,5 +1,6 @@
 pub mod CalendarLemmas
 pub mod CanonicalLemmas
+pub mod CountLemmas
 pub mod DatatypeLemmas
 pub mod DigitLemmas
 pub mod FormLemmas

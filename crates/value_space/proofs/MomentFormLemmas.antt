@@ -18,11 +18,11 @@ use Rattle.shx_term.specs.MomentForm.{has_good_fraction, behind_fraction, is_zon
 use Rattle.value_space.specs.declared.moment_text.DateText.{DateText}
 use Rattle.value_space.specs.declared.moment_text.DayText.{DayText}
 use Rattle.value_space.specs.declared.moment_text.MomentText.{MomentText}
-use Rattle.value_space.specs.DigitRuns.{behind_digits, narrow_number, narrow_fraction}
+use Rattle.value_space.specs.inner.DigitRuns.{behind_digits, narrow_number, narrow_fraction}
 use Rattle.value_space.specs.Moments.{has_zone, zone_minutes}
-use Rattle.value_space.specs.MomentParts.{has_year, IsYearText, clock_pattern, has_clock, IsClock}
-use Rattle.value_space.specs.MomentParts.{IsNanos, has_date_text, IsZoneText, IsFew}
-use Rattle.value_space.specs.MomentTexts.{IsDateText, IsDateOf, IsDayText, IsMomentText}
+use Rattle.value_space.specs.inner.MomentParts.{has_year, IsYearText, clock_pattern, has_clock, IsClock}
+use Rattle.value_space.specs.inner.MomentParts.{IsNanos, has_date_text, IsZoneText, IsFew}
+use Rattle.value_space.specs.inner.MomentTexts.{IsDateText, IsDateOf, IsDayText, IsMomentText}
 use Rattle.value_space.proofs.CanonicalLemmas.{number_in_places-below}
 use Rattle.value_space.proofs.DigitLemmas.{order, number_of-below}
 use Rattle.value_space.proofs.FormLemmas.{take_while-all, and-group, fits-append, in_front}

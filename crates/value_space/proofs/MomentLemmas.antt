@@ -13,11 +13,11 @@ use Rattle.shx_term.specs.MomentForm.{is_wide_moment}
 use Rattle.shx_term.specs.Datatypes.Space.{Moments, Days}
 use Rattle.shx_term.specs.WideLiterals.{is_wide_in}
 use Rattle.value_space.specs.declared.value.Value.TheVariants.{Stamp, Day, IllTyped}
-use Rattle.value_space.specs.DigitRuns.{narrow_fraction}
+use Rattle.value_space.specs.inner.DigitRuns.{narrow_fraction}
 use Rattle.value_space.specs.Values.{value_in}
 use Rattle.value_space.specs.Moments.{month_of, day_of, hour_of, minute_of, second_of, is_time, has_date}
 use Rattle.value_space.specs.Moments.{day_of_text, nanos_of, zone_minutes, has_zone, moment_nanos, day_nanos}
-use Rattle.value_space.specs.MomentParts.{some_where, day_in_nanos, date_at, time_at, narrow_year}
+use Rattle.value_space.specs.inner.MomentParts.{some_where, day_in_nanos, date_at, time_at, narrow_year}
 use Rattle.value_space.proofs.DigitLemmas.{and-split}
 
 some_where-true : (test : Bool) (x v : ℤ) → Some x ≡ some_where test v → (test ≡ true) × (x ≡ v)

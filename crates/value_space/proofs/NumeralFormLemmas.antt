@@ -9,8 +9,8 @@ use Rattle.std.proofs.lemmas.List.Sums.{take_while-cons}
 use Rattle.shx_term.specs.NumberForm.{is_digit, is_minus, is_sign, is_point, begins_with, without_first}
 use Rattle.shx_term.specs.NumberForm.{are_digits, whole_digits, fraction_digits, is_decimal_form}
 use Rattle.value_space.specs.declared.numeral.Numeral.{Numeral}
-use Rattle.value_space.specs.DigitRuns.{behind_digits, narrow_number, narrow_fraction}
-use Rattle.value_space.specs.Numerals.{IsNumeral}
+use Rattle.value_space.specs.inner.DigitRuns.{behind_digits, narrow_number, narrow_fraction}
+use Rattle.value_space.specs.inner.Numerals.{IsNumeral}
 use Rattle.value_space.proofs.DigitLemmas.{and-split}
 use Rattle.value_space.proofs.FormLemmas.{take_while-all}
 use Rattle.value_space.proofs.NumberLemmas.{are_digits-all, no_point, whole_are_digits, fraction_are_digits}

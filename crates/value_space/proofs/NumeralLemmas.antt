@@ -11,7 +11,8 @@ use Rattle.std.proofs.lemmas.Int.Digits.{number_after_ge}
 use Rattle.std.proofs.lemmas.List.{length-take, length-reverse, length-replicate}
 use Rattle.std.proofs.lemmas.List.Sums.{take_while-cons}
 use Rattle.shx_term.specs.NumberForm.{is_digit, number_of, without_leading_zeros, without_trailing_zeros}
-use Rattle.value_space.specs.DigitRuns.{behind_digits, with_digit, with_place, narrow_number, narrow_fraction}
+use Rattle.value_space.specs.inner.DigitRuns.{behind_digits, with_digit, with_place, narrow_number}
+use Rattle.value_space.specs.inner.DigitRuns.{narrow_fraction}
 use Rattle.value_space.specs.Numbers.{number_in_places}
 use Rattle.value_space.proofs.DigitLemmas.{order, and-split, digit_of, is_digit_below, ten_to}
 use Rattle.value_space.proofs.DigitLemmas.{number_of-below}

@@ -3,7 +3,7 @@ use Rattle.std.proofs.Common.{◌≡◌, ℕ, Bool, true, false, cond, Option, S
 use Rattle.std.proofs.Common.{◌⊎◌, IsTrue, arith, ℤ, pos, ◌+ℤ◌, ◌<ℤ◌}
 use Rattle.std.specs.Prelude.{is_some, int_lt, ◌↔◌}
 use Rattle.std.specs.Option.{option_map}
-use Rattle.std.specs.Ordering.{nat_cmp, ordering_reverse}
+use Rattle.std.specs.Ordering.{nat_cmp, ordering_reverse, is_lt, is_le}
 use Rattle.std.specs.Cmp.{IsTotalOrder}
 use Rattle.std.specs.Cmp.Lexicographic.{slice_cmp, nat_list_cmp_total}
 use Rattle.std.specs.declared.cmp.Ordering.{Ordering}
@@ -14,35 +14,35 @@ use Rattle.value_space.specs.declared.value.Value.TheVariants.{Num, Text, Stamp,
 use Rattle.value_space.specs.declared.value.Value.TheVariants.{Bool as Truth}
 use Rattle.value_space.specs.Numbers.{units}
 use Rattle.value_space.specs.Comparison.{int_order, truth_order, fourteen_hours, moment_order}
-use Rattle.value_space.specs.Comparison.{order_of_values, is_less, is_less_or_equal}
+use Rattle.value_space.specs.Comparison.{order_of_values}
 use Rattle.value_space.specs.Laws.{IsNumber, IsExactlyOne}
 
 -- what `<` and `<=` say of an order
-pub less-order : (o : Option Ordering) → option_map is_less o ≡ Some true → o ≡ Some Less
+pub less-order : (o : Option Ordering) → option_map is_lt o ≡ Some true → o ≡ Some Less
 less-order None h = cc
 less-order (Some Less) h = refl
 less-order (Some Equal) h = cc
 less-order (Some Greater) h = cc
 
-pub order-less : (o : Option Ordering) → o ≡ Some Less → option_map is_less o ≡ Some true
-order-less o h = ap (option_map is_less) h
+pub order-less : (o : Option Ordering) → o ≡ Some Less → option_map is_lt o ≡ Some true
+order-less o h = ap (option_map is_lt) h
 
 pub less_eq-order : (o : Option Ordering)
-    → (option_map is_less_or_equal o ≡ Some true) ↔ ((option_map is_less o ≡ Some true) ⊎ (o ≡ Some Equal))
+    → (option_map is_le o ≡ Some true) ↔ ((option_map is_lt o ≡ Some true) ⊎ (o ≡ Some Equal))
 less_eq-order None = (
   (λ h. cc),
-  (λ h. elim h as (λ _. option_map is_less_or_equal None ≡ Some true) [ inl l ↦ cc | inr r ↦ cc ]),
+  (λ h. elim h as (λ _. option_map is_le None ≡ Some true) [ inl l ↦ cc | inr r ↦ cc ]),
 )
 less_eq-order (Some Less) = ((λ h. inl refl), (λ h. refl))
 less_eq-order (Some Equal) = ((λ h. inr refl), (λ h. refl))
 less_eq-order (Some Greater) = (
   (λ h. cc),
-  (λ h. elim h as (λ _. option_map is_less_or_equal (Some Greater) ≡ Some true)
+  (λ h. elim h as (λ _. option_map is_le (Some Greater) ≡ Some true)
       [ inl l ↦ cc | inr r ↦ cc ]),
 )
 
 pub less_eq-answers : (o : Option Ordering)
-    → is_some (option_map is_less_or_equal o) ≡ is_some (option_map is_less o)
+    → is_some (option_map is_le o) ≡ is_some (option_map is_lt o)
 less_eq-answers None = refl
 less_eq-answers (Some o) = refl
 
@@ -195,9 +195,9 @@ order-same s Opaque h = cc
 
 -- two numbers
 one_of : (p q : Bool) → (p ≡ true → q ≡ true → ⊥)
-    → IsExactlyOne (Some (is_less (cond p Less (cond q Greater Equal))) ≡ Some true)
+    → IsExactlyOne (Some (is_lt (cond p Less (cond q Greater Equal))) ≡ Some true)
     (Some (cond p Less (cond q Greater Equal)) ≡ Some Equal)
-    (Some (is_less (cond q Less (cond p Greater Equal))) ≡ Some true)
+    (Some (is_lt (cond q Less (cond p Greater Equal))) ≡ Some true)
 one_of true true h = absurd (h refl refl)
 one_of true false h = inl (refl, (λ e. cc), (λ e. cc))
 one_of false true h = inr (inr ((λ e. cc), (λ e. cc), refl))
@@ -207,19 +207,19 @@ not_both : (a b : ℤ) → int_lt a b ≡ true → int_lt b a ≡ true → ⊥
 not_both a b p q = grind (arith, ints)
 
 int_orders : (a b : ℤ)
-    → IsExactlyOne (Some (is_less (int_order a b)) ≡ Some true) (Some (int_order a b) ≡ Some Equal)
-    (Some (is_less (int_order b a)) ≡ Some true)
+    → IsExactlyOne (Some (is_lt (int_order a b)) ≡ Some true) (Some (int_order a b) ≡ Some Equal)
+    (Some (is_lt (int_order b a)) ≡ Some true)
 int_orders a b = one_of (int_lt a b) (int_lt b a) (not_both a b)
 
 pub numbers-comparable : (s t : List ℕ) (v y : Value) → IsNumber v → IsNumber y
-    → IsTrue (is_some (option_map is_less (order_of_values s t v y)))
+    → IsTrue (is_some (option_map is_lt (order_of_values s t v y)))
 numbers-comparable s t (Num n w f) (Num n' w' f') p q = refl
 numbers-comparable s t (Num n w f) y p q = absurd q
 numbers-comparable s t v y p q = absurd p
 
 pub numbers-total : (s t : List ℕ) (v y : Value) → IsNumber v → IsNumber y
-    → IsExactlyOne (option_map is_less (order_of_values s t v y) ≡ Some true)
-    (order_of_values s t v y ≡ Some Equal) (option_map is_less (order_of_values t s y v) ≡ Some true)
+    → IsExactlyOne (option_map is_lt (order_of_values s t v y) ≡ Some true)
+    (order_of_values s t v y ≡ Some Equal) (option_map is_lt (order_of_values t s y v) ≡ Some true)
 numbers-total s t (Num n w f) (Num n' w' f') p q = int_orders (units n w f) (units n' w' f')
 numbers-total s t (Num n w f) y p q = absurd q
 numbers-total s t v y p q = absurd p

@@ -4,7 +4,7 @@ use Rattle.std.specs.Prelude.{ℕ, Bool, true, false, ℤ, pos, ◌+ℤ◌, ◌-
 use Rattle.std.specs.Prelude.{if◌then◌else◌}
 use Rattle.std.specs.declared.cmp.Ordering.{Ordering}
 use Rattle.std.specs.declared.cmp.Ordering.TheVariants.{Less, Equal, Greater}
-use Rattle.std.specs.Ordering.{nat_cmp}
+use Rattle.std.specs.Ordering.{nat_cmp, is_lt, is_le}
 use Rattle.std.specs.Option.{option_map}
 use Rattle.std.specs.Cmp.Lexicographic.{slice_cmp}
 use Rattle.shx_term.specs.declared.term.Literal.{Literal}
@@ -59,22 +59,12 @@ order_of_values s t a b = None
 abbrev pub order_of : Literal → Literal → Option Ordering
 order_of a b = order_of_values a.lexical b.lexical (value_of a) (value_of b)
 
-abbrev pub is_less : Ordering → Bool
-is_less Less = true
-is_less Equal = false
-is_less Greater = false
-
-abbrev pub is_less_or_equal : Ordering → Bool
-is_less_or_equal Less = true
-is_less_or_equal Equal = true
-is_less_or_equal Greater = false
-
 -- `<` and `<=` of two literals with these texts and values: nothing where the two are incomparable
 abbrev pub less_of_values : List ℕ → List ℕ → Value → Value → Option Bool
-less_of_values s t a b = option_map is_less (order_of_values s t a b)
+less_of_values s t a b = option_map is_lt (order_of_values s t a b)
 
 abbrev pub less_eq_of_values : List ℕ → List ℕ → Value → Value → Option Bool
-less_eq_of_values s t a b = option_map is_less_or_equal (order_of_values s t a b)
+less_eq_of_values s t a b = option_map is_le (order_of_values s t a b)
 
 abbrev pub less_of : Literal → Literal → Option Bool
 less_of a b = less_of_values a.lexical b.lexical (value_of a) (value_of b)

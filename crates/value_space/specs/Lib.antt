@@ -1,12 +1,8 @@
-pub mod Canonical
+pub mod Compared
 pub mod Comparison
-pub mod DigitRuns
+pub mod Counts
 pub mod Laws
-pub mod MomentParts
-pub mod MomentTexts
 pub mod Moments
 pub mod Numbers
-pub mod Numerals
-pub mod ReadLiterals
-pub mod Spaces
 pub mod Values
+pub mod inner

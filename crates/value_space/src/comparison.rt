@@ -1,6 +1,7 @@
-//! When the value of a literal is less than that of another (SPARQL 1.1, sections 17.3 and 17.4.1.2).
+//! When one literal or term is less than another (SPARQL 1.1, sections 17.3 and 17.4.1.2).
 ghost use Rattle.std.specs.Prelude.{◌≡◌, false};
 ghost use Rattle.shx_term.specs.WideLiterals.{is_wide};
+ghost use Rattle.value_space.specs.Compared.{is_less, is_less_eq, read_as};
 ghost use Rattle.value_space.specs.Comparison.{less_of, less_eq_of};
 
 use crate::ReadLiteral;
@@ -24,4 +25,26 @@ pub fn less_eq(a: &Literal, b: &Literal) -> Option<bool>
     ensures { result ≡ less_eq_of a.now b.now }
 {
     ReadLiteral::of(a).less_eq(&ReadLiteral::of(b))
+}
+
+/// Whether a term that was read is less than another: both are literals, and the two are comparable (SHACL,
+/// sections 4.3 and 4.5.3). It takes as long as [`ReadLiteral::less`].
+pub fn is_less(a: &Option<ReadLiteral>, b: &Option<ReadLiteral>) -> bool
+    ensures { result ≡ is_less (read_as a.now) (read_as b.now) }
+{
+    match (a, b) {
+        (Some(a), Some(b)) => a.less(b) == Some(true),
+        _ => false,
+    }
+}
+
+/// Whether a term that was read is less than another or equal to it: both are literals, and the two are
+/// comparable (SHACL, sections 4.3 and 4.5.4).
+pub fn is_less_eq(a: &Option<ReadLiteral>, b: &Option<ReadLiteral>) -> bool
+    ensures { result ≡ is_less_eq (read_as a.now) (read_as b.now) }
+{
+    match (a, b) {
+        (Some(a), Some(b)) => a.less_eq(b) == Some(true),
+        _ => false,
+    }
 }

@@ -1,7 +1,7 @@
 //! The datatypes whose values are known: one table, looked up by name.
 ghost use Rattle.std.specs.Prelude.{◌≡◌};
 ghost use Rattle.shx_term.specs.Datatypes.{datatypes, space_among, space_of, xsd};
-ghost use Rattle.value_space.specs.Spaces.{space_meant, space_of_name};
+ghost use Rattle.value_space.specs.inner.Spaces.{space_meant, space_of_name};
 ghost use Rattle.value_space.specs.Values.{is_float_datatype};
 
 use shx_term::{IriText, Literal};
@@ -174,7 +174,7 @@ fn named_space(name: &str) -> Space
 }
 
 // The space of the first datatype of this name.
-#[tactic(auto, unfolding(crate::specs::Spaces::space_of_name))]
+#[tactic(auto, unfolding(crate::specs::inner::Spaces::space_of_name))]
 fn space_in(datatypes: &[Datatype], name: &str) -> Space
     ensures { result ≡ space_of_name datatypes.now name.now }
 {

@@ -2,7 +2,7 @@
 ghost use Rattle.std.specs.Prelude.{◌≡◌, ◌-◌, ◌&&◌, false, MatchOption};
 ghost use Rattle.shx_term.specs.NumberForm.{is_digit, is_minus, is_sign, is_point, begins_with};
 ghost use Rattle.shx_term.specs.NumberForm.{without_first};
-ghost use Rattle.value_space.specs.MomentParts.{IsTwoDigits};
+ghost use Rattle.value_space.specs.inner.MomentParts.{IsTwoDigits};
 
 /// Whether a minus stands first.
 pub fn has_minus(text: &[u8]) -> bool

@@ -5,19 +5,22 @@
 //! | `value.rt` | `Value`: what a literal stands for |
 //! | `values.rt` | `value_of`, `wide`, `is_float`, `matches_datatype` |
 //! | `read_literal.rt` | `ReadLiteral`: a literal that is read once and compared with many |
-//! | `comparison.rt` | `less` and `less_eq` of two literals |
+//! | `comparison.rt` | `less` and `less_eq` of two literals; `is_less` and `is_less_eq` of two terms |
+//! | `count.rt` | `is_fewer` and `is_more`: a count against the number of a literal |
 //! | `order.rt` | the order of values, where they have one |
-//! | `laws.rt` | the laws of that order |
+//! | `laws.rt` | the laws of that order, and of counts |
 //! | `datatype.rt` | the table of datatypes |
 //! | `numeral.rt`, `number.rt` | the form of a number, read in one walk, and its value |
 //! | `moment_text.rt`, `zone.rt`, `moment.rt` | moments and days: their forms, read in one walk, and values |
 //! | `digits.rt` | signs and digits, which these forms are made of |
 //!
 //! It stands on `shx_term`, and on `jiff` for the numbers of days. Start with `value.rt`; `specs/Values.antt`
-//! says which value a literal has, and `specs/Comparison.antt` when one is less than another.
+//! says which value a literal has, `specs/Comparison.antt` when one is less than another, and
+//! `specs/Compared.antt` and `specs/Counts.antt` the same of terms and of counts.
 #![tactic(auto)]
 
 mod comparison;
+mod count;
 mod datatype;
 mod digits;
 mod laws;
@@ -31,9 +34,11 @@ mod value;
 mod values;
 mod zone;
 
-pub use comparison::{less, less_eq};
+pub use comparison::{is_less, is_less_eq, less, less_eq};
+pub use count::{is_fewer, is_fewer_read, is_more, is_more_read};
 pub use laws::{
-    less_eq_is_less_or_equal, less_is_irreflexive, less_is_transitive, numbers_are_ordered,
+    counts_compare_as_literals, counts_compare_with_whole_numbers, less_eq_is_less_or_equal,
+    less_is_irreflexive, less_is_transitive, no_count_is_fewer_and_more, numbers_are_ordered,
 };
 pub use read_literal::ReadLiteral;
 pub use value::Value;

@@ -4,10 +4,10 @@ ghost use Rattle.std.specs.Prelude.{◌≡◌, ◌<◌, ◌^◌, false, not, ◌
 ghost use Rattle.jiff.specs.Words.{IsYear, epoch_day};
 ghost use Rattle.shx_term.specs.Datatypes.Space.{Moments, Days};
 ghost use Rattle.shx_term.specs.WideLiterals.{is_wide_in};
-ghost use Rattle.value_space.specs.DigitRuns.{signed};
+ghost use Rattle.value_space.specs.inner.DigitRuns.{signed};
 ghost use Rattle.value_space.specs.Values.{value_in};
 ghost use Rattle.value_space.specs.Moments.{is_date, day_number, is_time};
-ghost use Rattle.value_space.specs.MomentParts.{some_where, day_in_nanos, date_at, time_at, IsSmall};
+ghost use Rattle.value_space.specs.inner.MomentParts.{some_where, day_in_nanos, date_at, time_at, IsSmall};
 
 use crate::Value;
 use crate::moment_text::{DateText, DayText, MomentText};

@@ -3,8 +3,8 @@
 ghost use Rattle.std.specs.Prelude.{◌≡◌, ◌<◌, ◌^◌, IfSome, MatchOption, false};
 ghost use Rattle.std.proofs.Props.{props};
 ghost use Rattle.shx_term.specs.MomentForm.{has_good_fraction, is_day_form, is_moment_form};
-ghost use Rattle.value_space.specs.MomentParts.{has_year, IsYearText, has_calendar, IsCalendar, has_clock};
-ghost use Rattle.value_space.specs.MomentParts.{IsClock, IsNanos, has_date_text};
+ghost use Rattle.value_space.specs.inner.MomentParts.{has_year, IsYearText, has_calendar, IsCalendar};
+ghost use Rattle.value_space.specs.inner.MomentParts.{has_clock, IsClock, IsNanos, has_date_text};
 
 use crate::digits::{has_minus, has_point, two_digits, without_minus, without_point};
 use crate::numeral::{read_fraction, read_whole};
@@ -69,7 +69,7 @@ pub struct MomentText {
 }
 
 impl DateText {
-    ghost use Rattle.value_space.specs.MomentTexts.{IsDateText};
+    ghost use Rattle.value_space.specs.inner.MomentTexts.{IsDateText};
 
     // Year, month and day, and what stands behind them.
     fn read(text: &[u8]) -> Option<(Self, &[u8])>
@@ -89,7 +89,7 @@ impl DateText {
 }
 
 impl DayText {
-    ghost use Rattle.value_space.specs.MomentTexts.{IsDayText};
+    ghost use Rattle.value_space.specs.inner.MomentTexts.{IsDayText};
 
     /// The parts of a day.
     pub fn read(text: &[u8]) -> Option<Self>
@@ -105,7 +105,7 @@ impl DayText {
 }
 
 impl MomentText {
-    ghost use Rattle.value_space.specs.MomentTexts.{IsMomentText};
+    ghost use Rattle.value_space.specs.inner.MomentTexts.{IsMomentText};
 
     /// The parts of a moment.
     pub fn read(text: &[u8]) -> Option<Self>

@@ -3,7 +3,7 @@
 ghost use Rattle.std.specs.Prelude.{◌≡◌, None, IsSome, IfSome, false};
 ghost use Rattle.shx_term.specs.WideLiterals.{is_wide_in};
 ghost use Rattle.shx_term.specs.Datatypes.Space.{Integers, Decimals};
-ghost use Rattle.value_space.specs.DigitRuns.{signed, number_from};
+ghost use Rattle.value_space.specs.inner.DigitRuns.{signed, number_from};
 ghost use Rattle.value_space.specs.Values.{is_from, is_up_to, value_in};
 
 use crate::Value;

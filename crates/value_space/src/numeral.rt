@@ -3,8 +3,8 @@ ghost use Rattle.std.specs.Prelude.{◌≡◌, ◌*◌, ◌<◌, ◌≤◌, ◌^
 ghost use Rattle.std.proofs.Props.{props};
 ghost use Rattle.std.specs.List.{take_while};
 ghost use Rattle.shx_term.specs.NumberForm.{is_digit, is_decimal_form};
-ghost use Rattle.value_space.specs.DigitRuns.{HasRoom, behind_digits, narrow_number, narrow_fraction};
-ghost use Rattle.value_space.specs.DigitRuns.{with_digit, with_place, has_none};
+ghost use Rattle.value_space.specs.inner.DigitRuns.{HasRoom, behind_digits, narrow_number, narrow_fraction};
+ghost use Rattle.value_space.specs.inner.DigitRuns.{with_digit, with_place, has_none};
 
 use crate::digits::{digit_value, has_minus, has_point, without_point, without_sign};
 
@@ -31,7 +31,7 @@ pub struct Numeral {
 }
 
 impl Numeral {
-    ghost use Rattle.value_space.specs.Numerals.{IsNumeral};
+    ghost use Rattle.value_space.specs.inner.Numerals.{IsNumeral};
 
     /// The parts of a text that is a sign or none, and then digits with at most one point before, among or
     /// behind them.

@@ -3,7 +3,7 @@ ghost use Rattle.std.specs.Prelude.{◌≡◌, ◌<◌, ◌^◌, ◌*◌, ◌+�
 ghost use Rattle.std.specs.Ordering.{nat_cmp};
 ghost use Rattle.value_space.specs.declared.value.Value.TheVariants.{Num};
 ghost use Rattle.value_space.specs.Numbers.{units};
-ghost use Rattle.value_space.specs.Canonical.{IsCanonical};
+ghost use Rattle.value_space.specs.inner.Canonical.{IsCanonical};
 ghost use Rattle.value_space.specs.Comparison.{order_of_values, int_order, truth_order, moment_order};
 ghost use Rattle.value_space.specs.Comparison.{zoned_order, unzoned_order};
 

@@ -1,12 +1,13 @@
 //! Literals that were read before they are compared.
 ghost use Rattle.std.specs.Prelude.{◌≡◌, false};
+ghost use Rattle.shx_term.specs.ValidTriples.{IsNotWide};
 ghost use Rattle.shx_term.specs.WideLiterals.{is_wide};
-ghost use Rattle.value_space.specs.Canonical.{IsCanonical, IsCanonical-prop};
+ghost use Rattle.value_space.specs.inner.Canonical.{IsCanonical, IsCanonical-prop};
 
 use crate::Value;
 use crate::order::order_of_values;
 use crate::values::value_of;
-use shx_term::Literal;
+use shx_term::{Literal, Term};
 use std::cmp::Ordering;
 
 /// A literal that was read: its value, and its lexical form, by which texts are compared. A literal that is
@@ -20,13 +21,16 @@ pub struct ReadLiteral<'a> {
 }
 
 impl<'a> ReadLiteral<'a> {
-    ghost use Rattle.value_space.specs.ReadLiterals.{IsReading, Answers, order_read, less_read, less_eq_read};
-    ghost use Rattle.value_space.specs.Comparison.{less_of, less_eq_of};
+    ghost use Rattle.std.specs.Prelude.{[]};
+    ghost use Rattle.value_space.specs.declared.value.Value.TheVariants.{Num};
+    ghost use Rattle.value_space.specs.Compared.{compared_by, compared_literal, compared_read, read_as};
+    ghost use Rattle.value_space.specs.Compared.{less_compared, less_eq_compared};
+    ghost use Rattle.value_space.specs.Comparison.{order_of_values};
 
     /// Reads a literal, in time linear in its lexical form.
     pub fn of(literal: &'a Literal) -> ReadLiteral<'a>
         requires { is_wide literal.now ≡ false }
-        ensures { IsReading literal.now result }
+        ensures { compared_read result ≡ compared_literal literal.now }
     {
         ReadLiteral {
             value: value_of(literal),
@@ -34,9 +38,20 @@ impl<'a> ReadLiteral<'a> {
         }
     }
 
+    /// Reads a term, in time linear in its lexical form; nothing where it is no literal.
+    pub fn of_term(term: &'a Term) -> Option<ReadLiteral<'a>>
+        requires { IsNotWide term.now }
+        ensures { read_as result ≡ compared_by term.now }
+    {
+        match term {
+            Term::Lit(literal) => Some(ReadLiteral::of(literal)),
+            _ => None,
+        }
+    }
+
     /// The value that was read.
     pub fn value(&self) -> Value
-        ensures { result ≡ self.now.value }
+        ensures { result ≡ (compared_read self.now).value }
     {
         self.value
     }
@@ -44,8 +59,7 @@ impl<'a> ReadLiteral<'a> {
     /// Whether a value is less than another; `None` where the two are incomparable. Two texts take time
     /// linear in the shorter one, and all else constant time.
     pub fn less(&self, other: &ReadLiteral) -> Option<bool>
-        ensures read { result ≡ less_read self.now other.now }
-        ensures literals { Answers less_of self.now other.now result }
+        ensures { result ≡ less_compared (compared_read self.now) (compared_read other.now) }
     {
         match self.order(other) {
             Some(order) => Some(order == Ordering::Less),
@@ -56,8 +70,7 @@ impl<'a> ReadLiteral<'a> {
     /// Whether a value is less than another or equal to it; `None` where the two are incomparable. It takes
     /// as long as [`less`](ReadLiteral::less).
     pub fn less_eq(&self, other: &ReadLiteral) -> Option<bool>
-        ensures read { result ≡ less_eq_read self.now other.now }
-        ensures literals { Answers less_eq_of self.now other.now result }
+        ensures { result ≡ less_eq_compared (compared_read self.now) (compared_read other.now) }
     {
         match self.order(other) {
             Some(order) => Some(order != Ordering::Greater),
@@ -66,8 +79,21 @@ impl<'a> ReadLiteral<'a> {
     }
 
     fn order(&self, other: &ReadLiteral) -> Option<Ordering>
-        ensures { result ≡ order_read self.now other.now }
+        ensures { result ≡ order_of_values self.now.text.now other.now.text.now
+            self.now.value other.now.value }
     {
         order_of_values(self.text, other.text, self.value, other.value)
+    }
+
+    /// How a count compares with the value; `None` where this is no number.
+    pub(crate) fn order_of_count(&self, count: usize) -> Option<Ordering>
+        ensures { result ≡ order_of_values [] self.now.text.now (Num false count 0) self.now.value }
+    {
+        let counted = Value::Num {
+            negative: false,
+            whole: count as u128,
+            fraction: 0,
+        };
+        order_of_values("", self.text, counted, self.value)
     }
 }

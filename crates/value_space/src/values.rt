@@ -3,7 +3,7 @@ ghost use Rattle.std.specs.Prelude.{◌≡◌, false};
 ghost use Rattle.shx_term.specs.WideLiterals.{is_wide, is_wide_in};
 ghost use Rattle.value_space.specs.Values.{value_of, value_in, is_float, has_datatype, truth_value};
 ghost use Rattle.value_space.specs.Values.{is_well_typed};
-ghost use Rattle.value_space.specs.Spaces.{space_meant};
+ghost use Rattle.value_space.specs.inner.Spaces.{space_meant};
 
 use crate::Value;
 use crate::datatype::{Space, is_float_datatype, space_of};

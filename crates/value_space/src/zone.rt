@@ -2,7 +2,7 @@
 //! minutes.
 ghost use Rattle.std.specs.Prelude.{◌≡◌, ◌*ℤ◌, pos, false, IfSome, MatchOption};
 ghost use Rattle.shx_term.specs.MomentForm.{is_zone, is_offset_time};
-ghost use Rattle.value_space.specs.MomentParts.{is_offset_of, IsOffset, IsZoneText, IsFew, IsSmall};
+ghost use Rattle.value_space.specs.inner.MomentParts.{is_offset_of, IsOffset, IsZoneText, IsFew, IsSmall};
 
 use crate::digits::two_digits;
 

@@ -1,36 +1,11 @@
 mod orders;
 mod values;
 
-use super::made::{LANG_STRING, cut, iri_text, text};
+use super::made::{cut, datatype_iri, literal};
 use shx_term::{IriText, Literal, Memory};
 use std::alloc::Global;
 use std::test::Fail;
 use value_space::{ReadLiteral, Value, is_float, less, less_eq, matches_datatype, value_of, wide};
-
-const XSD: &str = "http://www.w3.org/2001/XMLSchema#";
-
-fn datatype_iri(alloc: Global, datatype: &str) -> Result<IriText, Memory> {
-    if datatype.contains("://") {
-        return iri_text(alloc, datatype);
-    }
-    Ok(IriText::new(format!(in alloc; "{XSD}{datatype}")?))
-}
-
-// A literal of a datatype by its name or its IRI, or with a language tag behind `@`.
-fn literal(alloc: Global, lexical: &str, datatype: &str) -> Result<Literal, Memory> {
-    match datatype.strip_prefix('@') {
-        Some(tag) => Ok(Literal {
-            lexical: text(alloc, lexical)?,
-            datatype: iri_text(alloc, LANG_STRING)?,
-            tag: Some(text(alloc, tag)?),
-        }),
-        None => Ok(Literal {
-            lexical: text(alloc, lexical)?,
-            datatype: datatype_iri(alloc, datatype)?,
-            tag: None,
-        }),
-    }
-}
 
 // A value in one word, or two: a number without needless zeros, a moment by its nanoseconds and `Z` where it
 // has a zone.

@@ -1,5 +1,5 @@
 use Rattle.std.proofs.Common.{◌≡◌, drop}
-use Rattle.value_space.specs.Spaces.{space_of_name}
+use Rattle.value_space.specs.inner.Spaces.{space_of_name}
 use Rattle.value_space.proofs.datatype.space_in.Given as goal
 
 abbrev pub invariant-loop-datatype : goal.invariant-loop-datatype

@@ -6,7 +6,7 @@ use Rattle.jiff.specs.Words.{epoch_day, IsDate}
 use Rattle.jiff.proofs.Family.{days_from_civil-day, days_from_civil-next_month, days_from_civil-next_year}
 use Rattle.jiff.proofs.Family.{days_from_civil-min}
 use Rattle.value_space.specs.Moments.{day_number}
-use Rattle.value_space.specs.MomentParts.{day_in_nanos}
+use Rattle.value_space.specs.inner.MomentParts.{day_in_nanos}
 use Rattle.value_space.proofs.CalendarLemmas.{is_date-true, is_date-false, day_number_at, same_date_parts}
 use Rattle.value_space.proofs.CalendarLemmas.{other_date_parts}
 use Rattle.value_space.proofs.moment.civil_nanos.Goals as goal

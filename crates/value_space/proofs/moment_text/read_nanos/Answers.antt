@@ -1,7 +1,7 @@
 use Rattle.std.proofs.Common.{length, ap, sym, ◌∙◌, arith}
 use Rattle.std.specs.List.{take_while}
 use Rattle.shx_term.specs.NumberForm.{is_digit}
-use Rattle.value_space.specs.DigitRuns.{behind_digits, narrow_fraction}
+use Rattle.value_space.specs.inner.DigitRuns.{behind_digits, narrow_fraction}
 use Rattle.value_space.proofs.MomentFormLemmas.{no_nanos, nanos_below, is_nanos}
 use Rattle.value_space.proofs.moment_text.read_nanos.Goals as goal
 

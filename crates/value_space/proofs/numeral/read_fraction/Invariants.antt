@@ -1,5 +1,5 @@
 use Rattle.std.proofs.Common.{◌≡◌, ◌-◌, ◌*◌, ◌^◌, Some, IfSome, length}
-use Rattle.value_space.specs.DigitRuns.{HasRoom, behind_digits}
+use Rattle.value_space.specs.inner.DigitRuns.{HasRoom, behind_digits}
 use Rattle.value_space.proofs.NumeralLemmas.{fraction_behind}
 use Rattle.value_space.proofs.numeral.read_fraction.Given as goal
 

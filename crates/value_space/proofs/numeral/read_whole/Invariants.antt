@@ -1,5 +1,5 @@
 use Rattle.std.proofs.Common.{◌≡◌, ◌<◌, ◌^◌, Some, IfSome, length}
-use Rattle.value_space.specs.DigitRuns.{behind_digits}
+use Rattle.value_space.specs.inner.DigitRuns.{behind_digits}
 use Rattle.value_space.proofs.NumeralLemmas.{number_behind}
 use Rattle.value_space.proofs.numeral.read_whole.Given as goal
 

@@ -5,7 +5,7 @@ use Rattle.std.proofs.lemmas.Bool.{false≢true}
 use Rattle.std.proofs.lemmas.Grind.{common_steps}
 use Rattle.std.specs.List.{take_while}
 use Rattle.shx_term.specs.NumberForm.{is_digit, is_sign, is_point, without_first, begins_with}
-use Rattle.value_space.specs.DigitRuns.{behind_digits, narrow_number, narrow_fraction}
+use Rattle.value_space.specs.inner.DigitRuns.{behind_digits, narrow_number, narrow_fraction}
 use Rattle.value_space.proofs.NumeralFormLemmas.{is_numeral, not_decimal}
 use Rattle.value_space.proofs.numeral.Numeral.read.Goals as goal
 use Rattle.value_space.proofs.numeral.Numeral.read.Goals.{else-is_empty-via-then-is_empty+else-unsigned-from}

@@ -6,9 +6,9 @@ use Rattle.shx_term.specs.MomentForm.{end_of, fraction_of, behind_fraction, is_d
 use Rattle.value_space.specs.declared.moment_text.DateText.{DateText}
 use Rattle.value_space.specs.declared.moment_text.DayText.{DayText}
 use Rattle.value_space.specs.declared.moment_text.MomentText.{MomentText}
-use Rattle.value_space.specs.DigitRuns.{narrow_fraction}
+use Rattle.value_space.specs.inner.DigitRuns.{narrow_fraction}
 use Rattle.value_space.specs.Moments.{month_of, day_of, hour_of, minute_of, second_of, zone_minutes, has_zone}
-use Rattle.value_space.specs.MomentParts.{narrow_year, has_date_text}
+use Rattle.value_space.specs.inner.MomentParts.{narrow_year, has_date_text}
 
 -- what is read of year, month and day
 pub record IsDateText (text : List ℕ) (date : DateText) (behind : List ℕ) : Type 0 where

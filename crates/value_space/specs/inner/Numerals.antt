@@ -2,7 +2,7 @@
 use Rattle.std.specs.Prelude.{◌≡◌, ℕ, true, not, List}
 use Rattle.shx_term.specs.NumberForm.{is_minus, begins_with, whole_digits, fraction_digits, is_decimal_form}
 use Rattle.shx_term.specs.NumberForm.{is_integer_form}
-use Rattle.value_space.specs.DigitRuns.{narrow_number, narrow_fraction}
+use Rattle.value_space.specs.inner.DigitRuns.{narrow_number, narrow_fraction}
 use Rattle.value_space.specs.declared.numeral.Numeral.{Numeral}
 
 -- what is read of a decimal form

@@ -6,7 +6,7 @@ use Rattle.std.specs.List.{take_while}
 use Rattle.shx_term.specs.NumberForm.{is_digit, number_of}
 use Rattle.shx_term.specs.MomentForm.{fits, year_digits, behind_year, day_pattern, fraction_of}
 use Rattle.shx_term.specs.MomentForm.{has_good_fraction, behind_fraction, is_zone, is_offset_time}
-use Rattle.value_space.specs.DigitRuns.{narrow_fraction, signed}
+use Rattle.value_space.specs.inner.DigitRuns.{narrow_fraction, signed}
 use Rattle.value_space.specs.Moments.{is_date, is_time, day_number, zone_minutes}
 
 -- the number of four digits; one of more is none

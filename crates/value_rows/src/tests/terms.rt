@@ -1,0 +1,118 @@
+//! Terms: which is less than which, and counts against them.
+ghost use Rattle.std.specs.Prelude.{◌≡◌, false};
+ghost use Rattle.shx_term.specs.ValidTriples.{IsNotWide};
+
+mod counts;
+mod orders;
+
+use super::made::{cut, term};
+use shx_term::{Memory, Term};
+use std::alloc::Global;
+use std::test::Fail;
+use value_space::{
+    ReadLiteral, is_fewer, is_fewer_read, is_less, is_less_eq, is_more, is_more_read, wide,
+};
+
+fn is_wide(term: &Term) -> bool
+    ensures { result ≡ false → IsNotWide term.now }
+{
+    match term {
+        Term::Lit(literal) => wide(literal),
+        _ => false,
+    }
+}
+
+// How a term that was read compares with another, asked in both directions.
+fn order_name(a: &Option<ReadLiteral>, b: &Option<ReadLiteral>) -> &'static str {
+    match (
+        is_less(a, b),
+        is_less_eq(a, b),
+        is_less(b, a),
+        is_less_eq(b, a),
+    ) {
+        (true, true, false, false) => "less",
+        (false, true, false, true) => "equal",
+        (false, false, true, true) => "greater",
+        (false, false, false, false) => "none",
+        _ => "at odds",
+    }
+}
+
+fn how_they_compare(a: &Term, b: &Term) -> &'static str {
+    if is_wide(a) || is_wide(b) {
+        return "wide";
+    }
+    order_name(&ReadLiteral::of_term(a), &ReadLiteral::of_term(b))
+}
+
+// Whether a row's terms compare as the row says.
+fn has_order(alloc: Global, row: &str) -> Result<bool, Memory> {
+    let (a, rest) = cut(row);
+    let (kind_a, rest) = cut(rest);
+    let (b, rest) = cut(rest);
+    let (kind_b, order) = cut(rest);
+    let first = term(alloc, a, kind_a)?;
+    let second = term(alloc, b, kind_b)?;
+    Ok(how_they_compare(&first, &second) == order)
+}
+
+fn first_other_order(alloc: Global) -> Result<&'static str, Memory> {
+    for row in orders::TERMS.lines() {
+        if !has_order(alloc, row)? {
+            return Ok(row);
+        }
+    }
+    Ok("")
+}
+
+#[test]
+fn terms_compare(rt: HostRuntime) -> Result<(), Fail> {
+    assert_eq!(rt; first_other_order(rt.alloc())?, "");
+    Ok(())
+}
+
+fn count_name(fewer: bool, more: bool) -> &'static str {
+    match (fewer, more) {
+        (true, false) => "fewer",
+        (false, true) => "more",
+        (false, false) => "neither",
+        (true, true) => "at odds",
+    }
+}
+
+// How a count compares with a term, and with the same term once it was read.
+fn how_many(count: usize, bound: &Term) -> (&'static str, &'static str) {
+    if is_wide(bound) {
+        return ("wide", "wide");
+    }
+    let read = ReadLiteral::of_term(bound);
+    (
+        count_name(is_fewer(count, bound), is_more(count, bound)),
+        count_name(is_fewer_read(count, &read), is_more_read(count, &read)),
+    )
+}
+
+// Whether a row's count compares with its term as the row says.
+fn is_counted(alloc: Global, row: &str) -> Result<bool, Fail> {
+    let (count, rest) = cut(row);
+    let (form, rest) = cut(rest);
+    let (kind, answer) = cut(rest);
+    let bound = term(alloc, form, kind)?;
+    let (at_once, by_read) = how_many(count.parse::<usize>()?, &bound);
+    Ok(at_once == answer && by_read == answer)
+}
+
+fn first_other_count(alloc: Global) -> Result<&'static str, Fail> {
+    for row in counts::COUNTS.lines() {
+        if !is_counted(alloc, row)? {
+            return Ok(row);
+        }
+    }
+    Ok("")
+}
+
+#[test]
+fn counts_compare(rt: HostRuntime) -> Result<(), Fail> {
+    assert_eq!(rt; first_other_count(rt.alloc())?, "");
+    Ok(())
+}

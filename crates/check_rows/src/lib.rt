@@ -11,8 +11,8 @@
 //! | `tests/accepted.rt` | texts that are accepted, with what they declare |
 //! | `tests/worked.rt` | worked rows, each by its name |
 //!
-//! It stands on `shape_check` and `shape_decl`, and on `ttl_read` for the texts. A table is a text of lines,
-//! and a test asks for the first line that is met otherwise.
+//! It stands on `shape_check` and `shape_decl`, on `ttl_read` for the texts, and on `row_tools`. A table is a
+//! text of lines, and a test asks for the first line that is met otherwise.
 #![tactic(auto)]
 
 #[cfg(test)]

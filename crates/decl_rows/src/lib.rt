@@ -7,8 +7,8 @@
 //! | `tests/paths.rt` | nodes that are paths, and what is read of others, by the tables beside it |
 //! | `tests/declarations.rt` | the shapes of graphs, with what is stated of each, by the tables beside it |
 //!
-//! It stands on `shape_decl`, `path_eval`, `graph_view` and `shx_term`. A table is a text of lines, and a
-//! test asks for the first line that is met otherwise.
+//! It stands on `shape_decl`, `path_eval`, `graph_view`, `shx_term` and `row_tools`. A table is a text of
+//! lines, and a test asks for the first line that is met otherwise.
 #![tactic(auto)]
 
 #[cfg(test)]

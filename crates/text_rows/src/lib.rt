@@ -7,8 +7,8 @@
 //! | `tests/lines.rt` | lines of a script as commands, by the tables beside it |
 //! | `tests/answers.rt` | answers, numbers and terms that are put into a sink |
 //!
-//! It stands on `shx_outside`, `text_input`, `edit_script`, `report_write` and `shx_term`. A table is a text
-//! of lines, and a test asks for the first line that is met otherwise.
+//! It stands on `shx_outside`, `text_input`, `edit_script`, `report_write`, `shx_term` and `row_tools`. A table
+//! is a text of lines, and a test asks for the first line that is met otherwise.
 #![tactic(auto)]
 
 #[cfg(test)]

@@ -3,6 +3,7 @@ use super::answers::{answer, graph_of};
 use super::names::{add_term, shortened};
 use super::rows::declared;
 use graph_view::{GraphView, ListGraph};
+use row_tools::{RowFault, first_other_block};
 use shape_decl::{Declared, PathReading, ShapeDecl, collect};
 use shx_term::{Limits, Memory, Pool};
 use std::alloc::Global;
@@ -43,15 +44,15 @@ fn lines_of(alloc: Global, graph: &ListGraph) -> Result<String, Memory> {
     shortened(alloc, lines)
 }
 
-fn has_lines(alloc: Global, text: &str, due: &str) -> Result<bool, Fail> {
+fn has_lines(alloc: Global, text: &str, due: &str) -> Result<bool, RowFault> {
     match graph_of(alloc, text)? {
         Some(graph) => Ok(lines_of(alloc, &graph)?.as_str().trim_end() == due.trim_end()),
         None => Ok(false),
     }
 }
 
-// Whether the text in the row's first line is accepted, and declares what the other lines say.
-fn is_as_said(alloc: Global, row: &str) -> Result<bool, Fail> {
+// Whether the text in the row's first line is accepted, and declares what the other lines say, if any.
+fn is_as_said(alloc: Global, row: &str) -> Result<bool, RowFault> {
     let (text, due) = match row.split_once('\n') {
         Some(parts) => parts,
         None => (row, ""),
@@ -64,10 +65,9 @@ fn is_as_said(alloc: Global, row: &str) -> Result<bool, Fail> {
 
 #[test]
 fn accepted(rt: HostRuntime) -> Result<(), Fail> {
-    for row in declared::ROWS.split("\n\n") {
-        if !is_as_said(rt.alloc(), row)? {
-            assert_eq!(rt; row, "");
-        }
-    }
+    assert_eq!(rt;
+        first_other_block(rt.alloc(), declared::ROWS, is_as_said)?,
+        ""
+    );
     Ok(())
 }

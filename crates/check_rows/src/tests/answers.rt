@@ -1,12 +1,12 @@
 //! What is answered of a text.
 use super::names::{add_term, shortened};
-use graph_view::{GraphEdit, GraphView, ListGraph};
+use graph_view::{GraphEdit, GraphView, ListGraph, StoreFault};
 use iri_resolve::is_absolute;
+use row_tools::{RowFault, iri_text};
 use shape_check::{CheckFault, ShapeFault, check};
 use shape_decl::collect;
-use shx_term::{IriText, Limits, Memory, Pool, Scope, Triple};
+use shx_term::{Limits, Memory, Pool, Scope, Triple};
 use std::alloc::{AllocError, Global};
-use std::test::Fail;
 use ttl_read::{Document, TtlFault, read_document};
 
 const PREFIXES: &str = "\
@@ -18,12 +18,12 @@ const PREFIXES: &str = "\
 ";
 
 /// The graph that a text behind the prefixes states, or none where it is no document.
-pub(super) fn graph_of(alloc: Global, text: &str) -> Result<Option<ListGraph>, Fail> {
+pub(super) fn graph_of(alloc: Global, text: &str) -> Result<Option<ListGraph>, RowFault> {
     let base = "file:///";
     if !is_absolute(base) {
         return Ok(None);
     }
-    let base = IriText::new(String::from_str(alloc, base)?);
+    let base = iri_text(alloc, base)?;
     let text = format!(in alloc; "{PREFIXES}{text}")?;
     let limits = Limits::program();
     let mut pool = Pool::with_vocabulary(alloc, limits.terms)?;
@@ -37,11 +37,11 @@ pub(super) fn graph_of(alloc: Global, text: &str) -> Result<Option<ListGraph>, F
     ) {
         Ok(document) => Ok(Some(graph_over(alloc, pool, &document)?)),
         Err(TtlFault::At { .. }) => Ok(None),
-        Err(TtlFault::Memory) => Err(AllocError)?,
+        Err(TtlFault::Memory) => Err(RowFault::Memory),
     }
 }
 
-fn graph_over(alloc: Global, pool: Pool, document: &Document) -> Result<ListGraph, Fail> {
+fn graph_over(alloc: Global, pool: Pool, document: &Document) -> Result<ListGraph, RowFault> {
     let mut graph = ListGraph::new(alloc, pool, 1_000);
     for triple in &document.triples {
         state(&mut graph, *triple)?;
@@ -49,16 +49,20 @@ fn graph_over(alloc: Global, pool: Pool, document: &Document) -> Result<ListGrap
     Ok(graph)
 }
 
-fn state(graph: &mut ListGraph, t: Triple) -> Result<(), Fail> {
+fn state(graph: &mut ListGraph, t: Triple) -> Result<(), RowFault> {
     let held = graph.pool().len();
-    if t.s < held && t.p < held && t.o < held {
-        graph.insert(t)?;
+    if t.s >= held || t.p >= held || t.o >= held {
+        return Err(RowFault::Unread);
     }
-    Ok(())
+    match graph.insert(t) {
+        Ok(_) => Ok(()),
+        Err(StoreFault::TooMany) => Err(RowFault::Unread),
+        Err(StoreFault::Memory) => Err(RowFault::Memory),
+    }
 }
 
 /// `accepted`, or the first fault of the declarations of a text within limits.
-pub(super) fn answer(alloc: Global, limits: &Limits, text: &str) -> Result<String, Fail> {
+pub(super) fn answer(alloc: Global, limits: &Limits, text: &str) -> Result<String, RowFault> {
     match graph_of(alloc, text)? {
         Some(graph) => Ok(checked(alloc, limits, &graph)?),
         None => Ok(String::from_str(alloc, "no document")?),

@@ -2,6 +2,7 @@
 use super::answers::answer;
 use super::rows::limits;
 use super::tables::first_other;
+use row_tools::RowFault;
 use shx_term::Limits;
 use std::alloc::Global;
 use std::test::Fail;
@@ -21,7 +22,12 @@ fn paths_past_a_limit(rt: HostRuntime) -> Result<(), Fail> {
 }
 
 // The answer of a path of so many inversions within one another, with a text before and behind it.
-fn nested(alloc: Global, before: &str, inversions: usize, behind: &str) -> Result<String, Fail> {
+fn nested(
+    alloc: Global,
+    before: &str,
+    inversions: usize,
+    behind: &str,
+) -> Result<String, RowFault> {
     let open = "[ sh:inversePath ".repeat(alloc, inversions)?;
     let close = " ]".repeat(alloc, inversions)?;
     let path = format!(in alloc;
@@ -60,7 +66,7 @@ _:i sh:alternativePath ( _:j _:j ) . _:j sh:alternativePath ( _:k _:k ) .
 _:k sh:alternativePath ( e:p e:q ) .
 ";
 
-fn unfolded(alloc: Global, path: &str) -> Result<String, Fail> {
+fn unfolded(alloc: Global, path: &str) -> Result<String, RowFault> {
     let text = format!(in alloc; "e:S sh:targetNode e:a ; sh:path {path} . {DOUBLED}")?;
     answer(alloc, &Limits::program(), text.as_str())
 }

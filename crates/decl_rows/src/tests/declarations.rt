@@ -4,7 +4,8 @@ mod rows;
 use super::made::{cut, graph};
 use super::paths::spelled;
 use graph_view::{GraphView, ListGraph};
-use shape_decl::{Declared, ListValue, ShapeDecl, collect, shapes_are_listed, sparql_count};
+use row_tools::{RowFault, first_other, first_other_block};
+use shape_decl::{Declared, ListValue, ShapeDecl, collect, sparql_count};
 use shx_term::vocabulary::vocabulary_rows;
 use shx_term::{Id, Limits, LocalName, Memory, Pool, Term};
 use std::alloc::Global;
@@ -109,27 +110,20 @@ fn declarations(alloc: Global, graph: &ListGraph) -> Result<String, Memory> {
     Ok(out)
 }
 
-// A row has the statements of a graph, and then a line for each declaration.
-fn is_as_said(alloc: Global, row: &str) -> Result<bool, Fail> {
-    let (text, wanted) = cut(row, '\n');
+// A row has the statements of a graph, and then a line for each declaration, if any.
+fn is_as_said(alloc: Global, row: &str) -> Result<bool, RowFault> {
+    let (text, due) = match row.split_once('\n') {
+        Some(parts) => parts,
+        None => (row, ""),
+    };
     let graph = graph(alloc, text)?;
     let found = declarations(alloc, &graph)?;
-    Ok(found.as_str().trim_end() == wanted)
-}
-
-fn first_other(alloc: Global, rows: &'static str) -> Result<&'static str, Fail> {
-    for row in rows.split("\n\n") {
-        if !is_as_said(alloc, row)? {
-            return Ok(row);
-        }
-    }
-    Ok("")
+    Ok(found.as_str().trim_end() == due.trim_end())
 }
 
 #[test]
 fn declared(rt: HostRuntime) -> Result<(), Fail> {
-    assert_eq!(rt; first_other(rt.alloc(), rows::ROWS)?, "");
-    shapes_are_listed();
+    assert_eq!(rt; first_other_block(rt.alloc(), rows::ROWS, is_as_said)?, "");
     Ok(())
 }
 
@@ -143,27 +137,17 @@ fn names(alloc: Global, graph: &ListGraph) -> Result<String, Memory> {
 }
 
 // Whether the statement `a P b` alone makes those nodes shapes that the row of P names.
-fn are_shapes(alloc: Global, row: &str) -> Result<bool, Fail> {
-    let (predicate, wanted) = cut(row, '=');
+fn are_shapes(alloc: Global, row: &str) -> Result<bool, RowFault> {
+    let (predicate, due) = cut(row, "=")?;
     let text = format!(in alloc; "a {predicate} b")?;
     let graph = graph(alloc, text.as_str())?;
-    let found = names(alloc, &graph)?;
-    Ok(found.as_str().trim_end() == wanted)
-}
-
-fn first_other_predicate(alloc: Global, rows: &'static str) -> Result<&'static str, Fail> {
-    for row in rows.lines() {
-        if !are_shapes(alloc, row)? {
-            return Ok(row);
-        }
-    }
-    Ok("")
+    Ok(names(alloc, &graph)?.as_str().trim_end() == due)
 }
 
 #[test]
 fn shapes_by_one_statement(rt: HostRuntime) -> Result<(), Fail> {
     assert_eq!(rt; predicates::ROWS.lines().count(), vocabulary_rows().len());
-    assert_eq!(rt; first_other_predicate(rt.alloc(), predicates::ROWS)?, "");
+    assert_eq!(rt; first_other(rt.alloc(), predicates::ROWS, are_shapes)?, "");
     Ok(())
 }
 
@@ -176,18 +160,14 @@ a sparql b, a sparql c, b sparql c = 3
 a sparql b, sparql p c, a node sparql = 1
 ";
 
-fn is_counted(alloc: Global, row: &str) -> Result<bool, Fail> {
-    let (text, wanted) = cut(row, '=');
+fn is_counted(alloc: Global, row: &str) -> Result<bool, RowFault> {
+    let (text, due) = cut(row, "=")?;
     let count = sparql_count(alloc, &graph(alloc, text)?)?;
-    Ok(format!(in alloc; "{count}")?.as_str() == wanted)
+    Ok(u64::from(row_tools::number(due)?) == count)
 }
 
 #[test]
 fn sparql_is_counted(rt: HostRuntime) -> Result<(), Fail> {
-    for row in COUNTS.lines() {
-        if !is_counted(rt.alloc(), row)? {
-            assert_eq!(rt; row, "");
-        }
-    }
+    assert_eq!(rt; first_other(rt.alloc(), COUNTS, is_counted)?, "");
     Ok(())
 }

@@ -1,6 +1,7 @@
 use super::made::{cut, graph, number};
 use graph_view::ListGraph;
-use shape_decl::{lists_are_read, read_list};
+use row_tools::{RowFault, first_other};
+use shape_decl::read_list;
 use shx_term::Id;
 use std::alloc::Global;
 use std::test::Fail;
@@ -54,12 +55,13 @@ _a cell x _b, _b cell y _b = _a = none
 _a cell x _b, _b cell x _c, _c cell x _b = _a = none
 ";
 
-// The members between the brackets of a text, or `None` where it has none.
-fn listed(alloc: Global, graph: &mut ListGraph, text: &str) -> Result<Option<Vec<Id>>, Fail> {
-    let Some(inner) = text.strip_prefix('(') else {
+// The members between the brackets of a text, or `None` for `none`.
+fn listed(alloc: Global, graph: &mut ListGraph, text: &str) -> Result<Option<Vec<Id>>, RowFault> {
+    if text == "none" {
         return Ok(None);
-    };
-    let (names, _) = cut(inner, ')');
+    }
+    let (_, inner) = cut(text, "(")?;
+    let (names, _) = cut(inner, ")")?;
     let mut members = Vec::new(alloc);
     if !names.is_empty() {
         for name in names.split(' ') {
@@ -77,28 +79,18 @@ fn are_same(found: &Option<Vec<Id>>, wanted: &Option<Vec<Id>>) -> bool {
     }
 }
 
-fn is_as_said(alloc: Global, row: &str) -> Result<bool, Fail> {
-    let (text, rest) = cut(row, '=');
-    let (head, wanted) = cut(rest, '=');
+fn is_as_said(alloc: Global, row: &str) -> Result<bool, RowFault> {
+    let (text, rest) = cut(row, "=")?;
+    let (head, due) = cut(rest, "=")?;
     let mut graph = graph(alloc, text)?;
     let head = number(alloc, &mut graph, head)?;
     let found = read_list(alloc, &graph, head)?;
-    let wanted = listed(alloc, &mut graph, wanted)?;
-    Ok(are_same(&found, &wanted))
-}
-
-fn first_other(alloc: Global, rows: &'static str) -> Result<&'static str, Fail> {
-    for row in rows.lines() {
-        if !is_as_said(alloc, row)? {
-            return Ok(row);
-        }
-    }
-    Ok("")
+    let due = listed(alloc, &mut graph, due)?;
+    Ok(are_same(&found, &due))
 }
 
 #[test]
 fn lists(rt: HostRuntime) -> Result<(), Fail> {
-    assert_eq!(rt; first_other(rt.alloc(), LISTS)?, "");
-    lists_are_read();
+    assert_eq!(rt; first_other(rt.alloc(), LISTS, is_as_said)?, "");
     Ok(())
 }

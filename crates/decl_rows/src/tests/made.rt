@@ -1,19 +1,13 @@
-use graph_view::{GraphEdit, GraphView, ListGraph};
+use graph_view::{GraphEdit, GraphView, ListGraph, StoreFault};
+use row_tools::{RowFault, iri, labelled, literal};
 use shx_term::vocabulary::*;
-use shx_term::{
-    BlankName, Id, IriText, Label, Literal, LocalName, Memory, Pool, Scope, Term, Text, Triple,
-};
+use shx_term::{Id, Pool, Scope, Term, Triple, XSD_STRING};
 use std::alloc::Global;
-use std::test::Fail;
 
-const XSD_STRING: &str = "http://www.w3.org/2001/XMLSchema#string";
-
-/// A row as the part before its first mark, and the part behind it.
-pub(super) fn cut(row: &str, mark: char) -> (&str, &str) {
-    match row.split_once(mark) {
-        Some((front, rest)) => (front.trim(), rest.trim()),
-        None => (row.trim(), ""),
-    }
+/// What of a row stands before its first mark and behind it, without blanks around.
+pub(super) fn cut<'a>(row: &'a str, mark: &str) -> Result<(&'a str, &'a str), RowFault> {
+    let (front, rest) = row_tools::cut(row, mark)?;
+    Ok((front.trim(), rest.trim()))
 }
 
 // The terms of the vocabulary go by their local names, and those of paths by shorter ones.
@@ -43,77 +37,67 @@ fn local_number(name: &str) -> Option<Id> {
     None
 }
 
-fn blank(alloc: Global, label: &str) -> Result<Term, Memory> {
-    let name = LocalName::Labelled(Label::new(String::from_str(alloc, label)?));
-    Ok(Term::Blank(BlankName {
-        scope: Scope::Shapes,
-        name,
-    }))
-}
-
-fn literal(alloc: Global, lexical: &str) -> Result<Term, Memory> {
-    Ok(Term::Lit(Literal {
-        lexical: Text::new(String::from_str(alloc, lexical)?),
-        datatype: IriText::new(String::from_str(alloc, XSD_STRING)?),
-        tag: None,
-    }))
-}
-
-fn term(alloc: Global, name: &str) -> Result<Term, Memory> {
+fn term(alloc: Global, name: &str) -> Result<Term, RowFault> {
     if let Some(label) = name.strip_prefix('_') {
-        return blank(alloc, label);
+        return Ok(labelled(alloc, Scope::Shapes, label)?);
     }
     if let Some(lexical) = name.strip_prefix('\'') {
-        return literal(alloc, lexical);
+        return Ok(Term::Lit(literal(alloc, lexical, XSD_STRING)?));
     }
-    Ok(Term::Iri(IriText::new(String::from_str(alloc, name)?)))
+    if name.len() != 1 {
+        return Err(RowFault::Unread);
+    }
+    Ok(iri(alloc, name)?)
 }
 
 /// The number of a term by its name: `_a` is a blank node, `'a` a literal, `nil` and other local names
-/// are of the vocabulary, and any other name is an IRI.
-pub(super) fn number(alloc: Global, graph: &mut ListGraph, name: &str) -> Result<Id, Fail> {
+/// are of the vocabulary, and any other letter is an IRI.
+pub(super) fn number(alloc: Global, graph: &mut ListGraph, name: &str) -> Result<Id, RowFault> {
     match vocabulary_number(name) {
         Some(id) => Ok(id),
         None => Ok(graph.enter(&term(alloc, name)?)?),
     }
 }
 
-fn insert(graph: &mut ListGraph, s: Id, p: Id, o: Id) -> Result<(), Fail> {
+fn insert(graph: &mut ListGraph, t: Triple) -> Result<(), RowFault> {
     let terms = graph.pool().len();
-    if s < terms && p < terms && o < terms {
-        graph.insert(Triple { s, p, o })?;
+    if t.s >= terms || t.p >= terms || t.o >= terms {
+        return Err(RowFault::Unread);
     }
-    Ok(())
+    match graph.insert(t) {
+        Ok(_) => Ok(()),
+        Err(StoreFault::TooMany) => Err(RowFault::Unread),
+        Err(StoreFault::Memory) => Err(RowFault::Memory),
+    }
 }
 
-fn state(alloc: Global, graph: &mut ListGraph, s: &str, p: &str, o: &str) -> Result<(), Fail> {
+fn state(alloc: Global, graph: &mut ListGraph, s: &str, p: &str, o: &str) -> Result<(), RowFault> {
     let s = number(alloc, graph, s)?;
     let p = number(alloc, graph, p)?;
     let o = number(alloc, graph, o)?;
-    insert(graph, s, p, o)
+    insert(graph, Triple { s, p, o })
 }
 
 // A statement of a subject, a predicate and an object; `_a cell x _b` states both rdf:first and rdf:rest.
-fn state_all(alloc: Global, graph: &mut ListGraph, statement: &str) -> Result<(), Fail> {
-    let (subject, rest) = cut(statement, ' ');
-    let (predicate, object) = cut(rest, ' ');
-    match predicate {
-        "" => Ok(()),
-        "cell" => {
-            let (first, rest) = cut(object, ' ');
-            state(alloc, graph, subject, "first", first)?;
-            state(alloc, graph, subject, "rest", rest)
-        }
-        _ => state(alloc, graph, subject, predicate, object),
+fn state_all(alloc: Global, graph: &mut ListGraph, statement: &str) -> Result<(), RowFault> {
+    let (subject, rest) = cut(statement, " ")?;
+    let (predicate, object) = cut(rest, " ")?;
+    if predicate != "cell" {
+        return state(alloc, graph, subject, predicate, object);
     }
+    let (first, rest) = cut(object, " ")?;
+    state(alloc, graph, subject, "first", first)?;
+    state(alloc, graph, subject, "rest", rest)
 }
 
-/// The graph of a text of statements with commas between them.
-pub(super) fn graph(alloc: Global, text: &str) -> Result<ListGraph, Fail> {
+/// The graph of a text of statements, if any, with commas between them.
+pub(super) fn graph(alloc: Global, text: &str) -> Result<ListGraph, RowFault> {
     let pool = Pool::with_vocabulary(alloc, 100)?;
     let mut graph = ListGraph::new(alloc, pool, 100);
     for statement in text.split(',') {
-        state_all(alloc, &mut graph, statement.trim())?;
+        if !statement.is_empty() {
+            state_all(alloc, &mut graph, statement.trim())?;
+        }
     }
     Ok(graph)
 }

@@ -3,6 +3,7 @@ mod rows;
 use super::made::{cut, graph, number};
 use graph_view::GraphView;
 use path_eval::Path;
+use row_tools::{RowFault, first_other};
 use shape_decl::{PathReading, read_path};
 use shx_term::{Id, Limits, Memory, Pool, Term};
 use std::alloc::Global;
@@ -68,50 +69,43 @@ fn is_read(
     limits: &Limits,
     text: &str,
     head: &str,
-    wanted: &str,
-) -> Result<bool, Fail> {
+    due: &str,
+) -> Result<bool, RowFault> {
     let mut graph = graph(alloc, text)?;
     let head = number(alloc, &mut graph, head)?;
     let reading = read_path(alloc, &graph, head, limits)?;
-    let spelled = spelled(alloc, graph.pool(), &reading)?;
-    Ok(spelled.as_str() == wanted)
+    Ok(spelled(alloc, graph.pool(), &reading)?.as_str() == due)
 }
 
-// Whether the node is read as the row says: `GRAPH = NODE = PATH`, within the limits of the program.
-fn is_as_said(alloc: Global, row: &str) -> Result<bool, Fail> {
-    let (text, rest) = cut(row, '=');
-    let (head, wanted) = cut(rest, '=');
-    is_read(alloc, &Limits::program(), text, head, wanted)
+// Whether the node is read as the row says, `GRAPH = NODE = PATH`, within limits.
+fn is_as_due(alloc: Global, limits: &Limits, row: &str) -> Result<bool, RowFault> {
+    let (text, rest) = cut(row, "=")?;
+    let (head, due) = cut(rest, "=")?;
+    is_read(alloc, limits, text, head, due)
+}
+
+fn is_as_said(alloc: Global, row: &str) -> Result<bool, RowFault> {
+    is_as_due(alloc, &Limits::program(), row)
 }
 
 // The same within the limits of the row on depth and parts: `DEPTH PARTS = GRAPH = NODE = PATH`.
-fn is_as_limited(alloc: Global, row: &str) -> Result<bool, Fail> {
-    let (numbers, rest) = cut(row, '=');
-    let (depth, parts) = cut(numbers, ' ');
-    let (text, rest) = cut(rest, '=');
-    let (head, wanted) = cut(rest, '=');
+fn is_as_limited(alloc: Global, row: &str) -> Result<bool, RowFault> {
+    let (numbers, rest) = cut(row, "=")?;
+    let (depth, parts) = cut(numbers, " ")?;
     let mut limits = Limits::program();
-    limits.path_depth = depth.parse::<u32>()?;
-    limits.path_parts = parts.parse::<u32>()?;
-    is_read(alloc, &limits, text, head, wanted)
+    limits.path_depth = row_tools::number(depth)?;
+    limits.path_parts = row_tools::number(parts)?;
+    is_as_due(alloc, &limits, rest)
 }
 
 #[test]
 fn forms(rt: HostRuntime) -> Result<(), Fail> {
-    for row in rows::FORMS.lines() {
-        if !is_as_said(rt.alloc(), row)? {
-            assert_eq!(rt; row, "");
-        }
-    }
+    assert_eq!(rt; first_other(rt.alloc(), rows::FORMS, is_as_said)?, "");
     Ok(())
 }
 
 #[test]
 fn limits(rt: HostRuntime) -> Result<(), Fail> {
-    for row in rows::LIMITS.lines() {
-        if !is_as_limited(rt.alloc(), row)? {
-            assert_eq!(rt; row, "");
-        }
-    }
+    assert_eq!(rt; first_other(rt.alloc(), rows::LIMITS, is_as_limited)?, "");
     Ok(())
 }

@@ -1,66 +1,63 @@
 mod rows;
 
-use super::refused::cut;
 use super::seen::{has_outcome, outcome};
+use row_tools::{RowFault, cut, first_other_block, number};
 use shx_term::{Limits, Memory};
 use std::alloc::Global;
 use std::test::Fail;
 
+fn set(limits: &mut Limits, named: &str) -> Result<(), RowFault> {
+    let (name, limit) = cut(named, " ")?;
+    let limit = number(limit)?;
+    match name {
+        "depth" => limits.turtle_depth = limit,
+        "triples" => limits.triples = u64::from(limit),
+        "terms" => limits.terms = limit,
+        _ => return Err(RowFault::Unread),
+    }
+    Ok(())
+}
+
 // The limits of the program, but for those that are named: `depth 1, triples 2`.
-fn limits_of(names: &str) -> Result<Limits, Fail> {
+fn limits_of(names: &str) -> Result<Limits, RowFault> {
     let mut limits = Limits::program();
     for named in names.split(", ") {
-        let (name, number) = parts(named, ' ');
-        let number = number.parse::<u32>()?;
-        match name {
-            "depth" => limits.turtle_depth = number,
-            "triples" => limits.triples = u64::from(number),
-            _ => limits.terms = number,
-        }
+        set(&mut limits, named)?;
     }
     Ok(limits)
 }
 
-fn parts(row: &str, mark: char) -> (&str, &str) {
-    match row.split_once(mark) {
-        Some(parts) => parts,
-        None => (row, ""),
-    }
-}
-
 // Whether the row's text has the row's outcome within the row's limits.
-fn ends_as_said(alloc: Global, row: &str) -> Result<bool, Fail> {
-    let (names, rest) = parts(row, '|');
-    let (text, wanted) = cut(rest);
-    let limits = limits_of(names)?;
-    Ok(has_outcome(alloc, &limits, text, wanted)?)
-}
-
-// The first row whose text has another outcome. An empty line stands between two rows.
-fn first_other(alloc: Global, rows: &'static str) -> Result<&'static str, Fail> {
-    for row in rows.split("\n\n") {
-        if !ends_as_said(alloc, row)? {
-            return Ok(row);
-        }
-    }
-    Ok("")
+fn ends_as_said(alloc: Global, row: &str) -> Result<bool, RowFault> {
+    let (names, rest) = cut(row, "|")?;
+    let (text, due) = cut(rest, "→")?;
+    Ok(has_outcome(alloc, &limits_of(names)?, text, due)?)
 }
 
 #[test]
 fn depth(rt: HostRuntime) -> Result<(), Fail> {
-    assert_eq!(rt; first_other(rt.alloc(), rows::DEPTH)?, "");
+    assert_eq!(rt;
+        first_other_block(rt.alloc(), rows::DEPTH, ends_as_said)?,
+        ""
+    );
     Ok(())
 }
 
 #[test]
 fn triples(rt: HostRuntime) -> Result<(), Fail> {
-    assert_eq!(rt; first_other(rt.alloc(), rows::TRIPLES)?, "");
+    assert_eq!(rt;
+        first_other_block(rt.alloc(), rows::TRIPLES, ends_as_said)?,
+        ""
+    );
     Ok(())
 }
 
 #[test]
 fn terms(rt: HostRuntime) -> Result<(), Fail> {
-    assert_eq!(rt; first_other(rt.alloc(), rows::TERMS)?, "");
+    assert_eq!(rt;
+        first_other_block(rt.alloc(), rows::TERMS, ends_as_said)?,
+        ""
+    );
     Ok(())
 }
 

@@ -3,9 +3,9 @@ mod literals;
 mod nodes;
 mod others;
 
-use super::refused::cut;
 use super::seen::text_of;
 use iri_resolve::is_absolute;
+use row_tools::{RowFault, cut, first_other};
 use shx_term::vocabulary::VOCABULARY_LEN;
 use shx_term::{IriText, Limits, Memory, Pool, Scope, spell};
 use std::alloc::{AllocError, Global};
@@ -60,48 +60,41 @@ fn shown(alloc: Global, reading: &Reading) -> Result<String, Memory> {
 }
 
 // Whether what is found is as the row says: what a text states, the text with the token, and the outcome.
-fn is_found_as_said(alloc: Global, row: &str) -> Result<bool, Memory> {
-    let (texts, wanted) = cut(row);
-    let Some((stated, text)) = texts.split_once('¦') else {
-        return Ok(false);
-    };
+fn is_found_as_said(alloc: Global, row: &str) -> Result<bool, RowFault> {
+    let (texts, due) = cut(row, "→")?;
+    let (stated, text) = cut(texts, "¦")?;
     let stated = text_of(alloc, stated)?;
     let text = text_of(alloc, text)?;
-    let wanted = text_of(alloc, wanted)?;
-    let found = outcome(alloc, stated.as_str(), text.as_str())?;
-    Ok(found.as_str() == wanted.as_str())
-}
-
-// The first row of which another outcome is found, or none.
-fn first_other(alloc: Global, rows: &'static str) -> Result<&'static str, Memory> {
-    for row in rows.lines() {
-        if !is_found_as_said(alloc, row)? {
-            return Ok(row);
-        }
-    }
-    Ok("")
+    let due = text_of(alloc, due)?;
+    Ok(outcome(alloc, stated.as_str(), text.as_str())?.as_str() == due.as_str())
 }
 
 #[test]
 fn iris_by_base_and_prefix(rt: HostRuntime) -> Result<(), Fail> {
-    assert_eq!(rt; first_other(rt.alloc(), iris::ROWS)?, "");
+    assert_eq!(rt; first_other(rt.alloc(), iris::ROWS, is_found_as_said)?, "");
     Ok(())
 }
 
 #[test]
 fn nodes_by_their_printed_names(rt: HostRuntime) -> Result<(), Fail> {
-    assert_eq!(rt; first_other(rt.alloc(), nodes::ROWS)?, "");
+    assert_eq!(rt; first_other(rt.alloc(), nodes::ROWS, is_found_as_said)?, "");
     Ok(())
 }
 
 #[test]
 fn literals_with_what_belongs_to_them(rt: HostRuntime) -> Result<(), Fail> {
-    assert_eq!(rt; first_other(rt.alloc(), literals::ROWS)?, "");
+    assert_eq!(rt;
+        first_other(rt.alloc(), literals::ROWS, is_found_as_said)?,
+        ""
+    );
     Ok(())
 }
 
 #[test]
 fn no_term(rt: HostRuntime) -> Result<(), Fail> {
-    assert_eq!(rt; first_other(rt.alloc(), others::ROWS)?, "");
+    assert_eq!(rt;
+        first_other(rt.alloc(), others::ROWS, is_found_as_said)?,
+        ""
+    );
     Ok(())
 }

@@ -1,19 +1,14 @@
 ghost use Rattle.std.specs.Prelude.{◌<◌};
 
 use report_write::{Answer, WriteFault, Writer, add_answer, add_number, write_answer, write_term};
+use row_tools::{RowFault, cut, first_other, number, term};
 use shx_outside::{MemorySink, Role};
 use shx_term::fault_codes::{NOT_BUILT, TEXT_TOO_LONG};
-use shx_term::{BlankName, IriText, Label, Literal, LocalName, Memory, Pieces, Scope, Term, Text};
+use shx_term::{Memory, Pieces, Term};
 use std::alloc::Global;
 use std::test::Fail;
 
 const LAST_LINE: u64 = 18446744073709551615;
-
-const LANG_STRING: &str = "http://www.w3.org/1999/02/22-rdf-syntax-ns#langString";
-
-const XSD_INTEGER: &str = "http://www.w3.org/2001/XMLSchema#integer";
-
-const XSD_STRING: &str = "http://www.w3.org/2001/XMLSchema#string";
 
 // A word for an answer, and its line between two marks.
 const ANSWERS: &str = "\
@@ -27,16 +22,17 @@ script=fault script: 4294967295  at 18446744073709551615=
 usage=usage: shacl_keep [--format lines|turtle] [--base IRI] SHAPES DATA [SCRIPT]=
 ";
 
-fn answer_of(word: &str) -> Answer {
+fn answer_of(word: &str) -> Result<Answer, RowFault> {
     match word {
-        "changed" => Answer::Changed,
-        "unchanged" => Answer::Unchanged,
-        "refused" => refusal(NOT_BUILT),
-        "unknown" => refusal(11),
-        "shapes" => fault(Role::Shapes, NOT_BUILT, None),
-        "data" => fault(Role::Data, TEXT_TOO_LONG, Some(0)),
-        "script" => fault(Role::Script, u32::MAX, Some(u64::MAX)),
-        _ => Answer::Usage,
+        "changed" => Ok(Answer::Changed),
+        "unchanged" => Ok(Answer::Unchanged),
+        "refused" => Ok(refusal(NOT_BUILT)),
+        "unknown" => Ok(refusal(11)),
+        "shapes" => Ok(fault(Role::Shapes, NOT_BUILT, None)),
+        "data" => Ok(fault(Role::Data, TEXT_TOO_LONG, Some(0))),
+        "script" => Ok(fault(Role::Script, u32::MAX, Some(u64::MAX))),
+        "usage" => Ok(Answer::Usage),
+        _ => Err(RowFault::Unread),
     }
 }
 
@@ -60,34 +56,21 @@ fn puts_text(alloc: Global, answer: &Answer, text: &str, piece: usize) -> bool
     written.is_ok() && sink.bytes() == text.as_bytes()
 }
 
-// Whether the answer of a row is put as its line, in pieces of this size.
-fn puts_answer(alloc: Global, row: &str, piece: usize) -> Result<bool, Memory>
-    requires { 0 < piece }
-{
-    let Some((word, line)) = row.split_once('=') else {
-        return Ok(false);
-    };
+// Whether the answer of a row is put as its line, whole, in threes and byte by byte.
+fn puts_answer(alloc: Global, row: &str) -> Result<bool, RowFault> {
+    let (word, line) = cut(row, "=")?;
+    let answer = answer_of(word)?;
     let text = format!(in alloc; "{}\n", line.trim_end_matches('='))?;
-    Ok(puts_text(alloc, &answer_of(word), &text, piece))
-}
-
-// The first row whose answer is put otherwise.
-fn first_other_answer(alloc: Global, piece: usize) -> Result<&'static str, Memory>
-    requires { 0 < piece }
-{
-    for row in ANSWERS.lines() {
-        if !puts_answer(alloc, row, piece)? {
-            return Ok(row);
-        }
-    }
-    Ok("")
+    Ok(
+        puts_text(alloc, &answer, &text, 1)
+            && puts_text(alloc, &answer, &text, 3)
+            && puts_text(alloc, &answer, &text, 4096),
+    )
 }
 
 #[test]
 fn answers_are_put_whole(rt: HostRuntime) -> Result<(), Fail> {
-    assert_eq!(rt; first_other_answer(rt.alloc(), 1)?, "");
-    assert_eq!(rt; first_other_answer(rt.alloc(), 3)?, "");
-    assert_eq!(rt; first_other_answer(rt.alloc(), 4096)?, "");
+    assert_eq!(rt; first_other(rt.alloc(), ANSWERS, puts_answer)?, "");
     Ok(())
 }
 
@@ -106,35 +89,31 @@ const NAMES: &str = "\
 59 NotBuilt
 ";
 
-// Whether a fault with the code of a row is put with its name, without a place and with one.
-fn puts_name(alloc: Global, row: &str) -> Result<bool, Memory> {
-    let Some((code, _)) = row.split_once(' ') else {
-        return Ok(false);
-    };
-    let Ok(code) = code.parse::<u32>() else {
-        return Ok(false);
-    };
-    let unplaced = format!(in alloc; "fault data: {row}\n")?;
-    let placed = format!(in alloc; "fault data: {row} at 120\n")?;
-    Ok(
-        puts_text(alloc, &fault(Role::Data, code, None), &unplaced, 4096)
-            && puts_text(alloc, &fault(Role::Data, code, Some(120)), &placed, 4096),
-    )
+// Whether a fault of the data with this code and place is put with the row's text and this end.
+fn puts_fault(
+    alloc: Global,
+    code: u32,
+    at: Option<u64>,
+    row: &str,
+    end: &str,
+) -> Result<bool, Memory> {
+    let text = format!(in alloc; "fault data: {row}{end}\n")?;
+    Ok(puts_text(alloc, &fault(Role::Data, code, at), &text, 4096))
 }
 
-// The first row whose name is put otherwise.
-fn first_other_name(alloc: Global) -> Result<&'static str, Memory> {
-    for row in NAMES.lines() {
-        if !puts_name(alloc, row)? {
-            return Ok(row);
-        }
-    }
-    Ok("")
+// Whether a fault with the code of a row is put with its name, without a place and with one.
+fn puts_name(alloc: Global, row: &str) -> Result<bool, RowFault> {
+    let (code, _) = cut(row, " ")?;
+    let code = number(code)?;
+    Ok(
+        puts_fault(alloc, code, None, row, "")?
+            && puts_fault(alloc, code, Some(120), row, " at 120")?,
+    )
 }
 
 #[test]
 fn codes_are_put_with_their_names(rt: HostRuntime) -> Result<(), Fail> {
-    assert_eq!(rt; first_other_name(rt.alloc())?, "");
+    assert_eq!(rt; first_other(rt.alloc(), NAMES, puts_name)?, "");
     Ok(())
 }
 
@@ -197,26 +176,15 @@ fn nothing_is_put_after_a_failure(rt: HostRuntime) -> Result<(), Fail> {
     Ok(())
 }
 
-fn text(alloc: Global, text: &str) -> Result<Text, Memory> {
-    Ok(Text::new(String::from_str(alloc, text)?))
-}
-
-fn iri(alloc: Global, iri: &str) -> Result<IriText, Memory> {
-    Ok(IriText::new(String::from_str(alloc, iri)?))
-}
-
-fn labelled(alloc: Global, scope: Scope, label: &str) -> Result<Term, Memory> {
-    let name = LocalName::Labelled(Label::new(String::from_str(alloc, label)?));
-    Ok(Term::Blank(BlankName { scope, name }))
-}
-
-fn literal(alloc: Global, datatype: &str, tag: Option<Text>) -> Result<Term, Memory> {
-    Ok(Term::Lit(Literal {
-        lexical: text(alloc, "a\"b\\\n")?,
-        datatype: iri(alloc, datatype)?,
-        tag,
-    }))
-}
+// Terms, each with the text that is put. A `~` is a line feed.
+const TERMS: &str = r#"
+e:a|<http://e/a>
+data:b1|_:d-b1
+shapes#12|_:t-12
+'a"b\~'|"a\"b\\\n"
+'a"b\~'@fr|"a\"b\\\n"@fr
+'a"b\~'^^integer|"a\"b\\\n"^^<http://www.w3.org/2001/XMLSchema#integer>
+"#;
 
 // Whether a term is put as this text, in pieces of three bytes.
 fn puts_term(alloc: Global, term: &Term, text: &str) -> bool {
@@ -225,29 +193,15 @@ fn puts_term(alloc: Global, term: &Term, text: &str) -> bool {
     written.is_ok() && sink.bytes() == text.as_bytes()
 }
 
-#[test]
-fn names_are_put(rt: HostRuntime) -> Result<(), Fail> {
-    let alloc = rt.alloc();
-    let term = Term::Iri(iri(alloc, "http://e/a")?);
-    assert!(rt; puts_term(alloc, &term, "<http://e/a>"));
-    let term = labelled(alloc, Scope::Data, "b1")?;
-    assert!(rt; puts_term(alloc, &term, "_:d-b1"));
-    let name = LocalName::Anonymous(12);
-    let scope = Scope::Shapes;
-    let term = Term::Blank(BlankName { scope, name });
-    assert!(rt; puts_term(alloc, &term, "_:t-12"));
-    Ok(())
+// Whether a row's term is put as the row says.
+fn puts_row(alloc: Global, row: &str) -> Result<bool, RowFault> {
+    let (word, text) = cut(row, "|")?;
+    let word = word.replace(alloc, "~", "\n")?;
+    Ok(puts_term(alloc, &term(alloc, word.as_str())?, text))
 }
 
 #[test]
-fn literals_are_put(rt: HostRuntime) -> Result<(), Fail> {
-    let alloc = rt.alloc();
-    let term = literal(alloc, XSD_STRING, None)?;
-    assert!(rt; puts_term(alloc, &term, r#""a\"b\\\n""#));
-    let term = literal(alloc, LANG_STRING, Some(text(alloc, "fr")?))?;
-    assert!(rt; puts_term(alloc, &term, r#""a\"b\\\n"@fr"#));
-    let term = literal(alloc, XSD_INTEGER, None)?;
-    let written = r#""a\"b\\\n"^^<http://www.w3.org/2001/XMLSchema#integer>"#;
-    assert!(rt; puts_term(alloc, &term, written));
+fn terms_are_put(rt: HostRuntime) -> Result<(), Fail> {
+    assert_eq!(rt; first_other(rt.alloc(), TERMS, puts_row)?, "");
     Ok(())
 }

@@ -1,17 +1,11 @@
 mod rows;
 
 use edit_script::{Command, LineFault, read_line, read_triple};
-use shx_term::{Limits, Memory, NOT_BUILT, Term, TermTriple};
+use row_tools::{RowFault, cut, first_other};
+use shx_term::fault_codes::NOT_BUILT;
+use shx_term::{Limits, Memory, Term, TermTriple};
 use std::alloc::Global;
 use std::test::Fail;
-
-// A row as the text before its arrow, and what the text is.
-fn cut(row: &str) -> (&str, &str) {
-    match row.split_once('→') {
-        Some(parts) => parts,
-        None => (row, ""),
-    }
-}
 
 fn iri(term: &Term) -> &str {
     match term {
@@ -54,37 +48,27 @@ fn command_in(alloc: Global, line: &[u8], most: u64) -> Result<String, Memory> {
     }
 }
 
-// The first row whose text is another triple.
-fn first_other_triple(alloc: Global, rows: &'static str) -> Result<&'static str, Memory> {
-    for row in rows.lines() {
-        let (text, wanted) = cut(row);
-        if triple_in(alloc, text)?.as_str() != wanted {
-            return Ok(row);
-        }
-    }
-    Ok("")
+// Whether the row's text is the row's triple.
+fn is_triple(alloc: Global, row: &str) -> Result<bool, RowFault> {
+    let (text, due) = cut(row, "→")?;
+    Ok(triple_in(alloc, text)?.as_str() == due)
 }
 
-// The first row whose line is another command.
-fn first_other_command(alloc: Global, rows: &'static str) -> Result<&'static str, Memory> {
-    for row in rows.lines() {
-        let (line, wanted) = cut(row);
-        if command_in(alloc, line.as_bytes(), 100)?.as_str() != wanted {
-            return Ok(row);
-        }
-    }
-    Ok("")
+// Whether the row's line is the row's command.
+fn is_command(alloc: Global, row: &str) -> Result<bool, RowFault> {
+    let (line, due) = cut(row, "→")?;
+    Ok(is_read_as(alloc, line.as_bytes(), 100, due)?)
 }
 
 #[test]
 fn texts_are_triples(rt: HostRuntime) -> Result<(), Fail> {
-    assert_eq!(rt; first_other_triple(rt.alloc(), rows::TRIPLES)?, "");
+    assert_eq!(rt; first_other(rt.alloc(), rows::TRIPLES, is_triple)?, "");
     Ok(())
 }
 
 #[test]
 fn lines_are_commands(rt: HostRuntime) -> Result<(), Fail> {
-    assert_eq!(rt; first_other_command(rt.alloc(), rows::COMMANDS)?, "");
+    assert_eq!(rt; first_other(rt.alloc(), rows::COMMANDS, is_command)?, "");
     Ok(())
 }
 

@@ -1,3 +1,4 @@
+use row_tools::{RowFault, cut, first_other, in_four, number};
 use shx_outside::{Bytes, Inputs, MemoryInputs, Name, NamedText, Role};
 use std::alloc::{AllocError, Global};
 use std::test::Fail;
@@ -29,14 +30,6 @@ abcd|10|1|an input failed
 abcd|10|2|an input failed
 abcd|10|4|an input failed
 abcd|10|5|abcd";
-
-// A row as the part before its first bar, and the rest.
-fn cut(row: &str) -> (&str, &str) {
-    match row.split_once('|') {
-        Some(parts) => parts,
-        None => (row, ""),
-    }
-}
 
 // Inputs that hold one text, in pieces of three bytes, and whose call of this number fails.
 fn inputs_of(
@@ -90,64 +83,53 @@ fn read_lines(
     Ok(answers)
 }
 
-// Whether the row's script gives what the row says.
-fn is_script_row(alloc: Global, row: &str) -> Result<bool, Fail> {
-    let (script, rest) = cut(row);
-    let (limit, rest) = cut(rest);
-    let (most, rest) = cut(rest);
-    let (failing, want) = cut(rest);
-    let mut inputs = inputs_of(alloc, "script", script, failing.parse::<u64>()?)?;
-    let answers = read_lines(
-        alloc,
-        &mut inputs,
-        limit.parse::<u64>()?,
-        most.parse::<u64>()?,
-    )?;
-    Ok(answers.as_slice() == want.as_bytes())
+// Whether a script with a limit for its lines gives what is due.
+fn gives(alloc: Global, script: &str, limit: u64, row: &str) -> Result<bool, RowFault> {
+    let (most, rest) = cut(row, "|")?;
+    let (failing, due) = cut(rest, "|")?;
+    let most = u64::from(number(most)?);
+    let failing = u64::from(number(failing)?);
+    let mut inputs = inputs_of(alloc, "script", script, failing)?;
+    let answers = read_lines(alloc, &mut inputs, limit, most)?;
+    Ok(answers.as_slice() == due.as_bytes())
 }
 
-fn first_other_script(alloc: Global) -> Result<&'static str, Fail> {
-    for row in SCRIPTS.lines() {
-        if !is_script_row(alloc, row)? {
-            return Ok(row);
-        }
-    }
-    Ok("")
+// Whether the row's script gives what the row says.
+fn is_read_by_lines(alloc: Global, row: &str) -> Result<bool, RowFault> {
+    let (script, rest) = cut(row, "|")?;
+    let (limit, rest) = cut(rest, "|")?;
+    gives(alloc, script, u64::from(number(limit)?), rest)
 }
 
 #[test]
 fn scripts_are_read_line_by_line(rt: HostRuntime) -> Result<(), Fail> {
-    assert_eq!(rt; first_other_script(rt.alloc())?, "");
+    assert_eq!(rt; first_other(rt.alloc(), SCRIPTS, is_read_by_lines)?, "");
     Ok(())
 }
 
-// Whether the row's text is read as the row says.
-fn is_text_row(alloc: Global, row: &str) -> Result<bool, Fail> {
-    let (text, rest) = cut(row);
-    let (most, rest) = cut(rest);
-    let (failing, want) = cut(rest);
-    let mut inputs = inputs_of(alloc, "data", text, failing.parse::<u64>()?)?;
-    match read_text(alloc, &mut inputs, Role::Data, "data", most.parse::<u64>()?) {
-        Ok(bytes) => Ok(bytes.as_slice() == want.as_bytes()),
-        Err(fault) => {
-            let said = format!(in alloc; "{fault}")?;
-            Ok(said.as_str() == want)
-        }
+// Whether a text is read as is due.
+fn is_read_as(
+    alloc: Global,
+    text: &str,
+    (most, failing): (u32, u32),
+    due: &str,
+) -> Result<bool, RowFault> {
+    let mut inputs = inputs_of(alloc, "data", text, u64::from(failing))?;
+    match read_text(alloc, &mut inputs, Role::Data, "data", u64::from(most)) {
+        Ok(bytes) => Ok(bytes.as_slice() == due.as_bytes()),
+        Err(fault) => Ok(format!(in alloc; "{fault}")?.as_str() == due),
     }
 }
 
-fn first_other_text(alloc: Global) -> Result<&'static str, Fail> {
-    for row in TEXTS.lines() {
-        if !is_text_row(alloc, row)? {
-            return Ok(row);
-        }
-    }
-    Ok("")
+// Whether the row's text is read as the row says.
+fn is_read_whole(alloc: Global, row: &str) -> Result<bool, RowFault> {
+    let (text, most, failing, due) = in_four(row, "|")?;
+    is_read_as(alloc, text, (number(most)?, number(failing)?), due)
 }
 
 #[test]
 fn texts_are_read_within_their_limit(rt: HostRuntime) -> Result<(), Fail> {
-    assert_eq!(rt; first_other_text(rt.alloc())?, "");
+    assert_eq!(rt; first_other(rt.alloc(), TEXTS, is_read_whole)?, "");
     Ok(())
 }
 

@@ -1,4 +1,5 @@
-use super::tokens::{cut, text_of};
+use super::tokens::text_of;
+use row_tools::{RowFault, cut, first_other};
 use std::alloc::{AllocError, Global};
 use std::test::Fail;
 use ttl_tokens::{next_token, unescape};
@@ -36,35 +37,24 @@ _:a→_:a
 [ ]→[ ]
 "#;
 
-fn meaning_of(alloc: Global, text: &str) -> Result<String, Fail> {
+fn meaning_of(alloc: Global, text: &str) -> Result<String, AllocError> {
     let Ok(token) = next_token(text, 0) else {
-        return Ok(String::from_str(alloc, "no token")?);
+        return String::from_str(alloc, "no token");
     };
-    Ok(unescape(alloc, text, &token)?)
+    unescape(alloc, text, &token)
 }
 
 // Whether the row's token stands for what the row says.
-fn means_as_said(alloc: Global, row: &str) -> Result<bool, Fail> {
-    let (text, wanted) = cut(row);
+fn means_as_said(alloc: Global, row: &str) -> Result<bool, RowFault> {
+    let (text, due) = cut(row, "→")?;
     let text = text_of(alloc, text)?;
-    let wanted = text_of(alloc, wanted)?;
-    let found = meaning_of(alloc, text.as_str())?;
-    Ok(found.as_str() == wanted.as_str())
-}
-
-// The first row whose token stands for something else.
-fn first_other(alloc: Global) -> Result<&'static str, Fail> {
-    for row in MEANINGS.lines() {
-        if !means_as_said(alloc, row)? {
-            return Ok(row);
-        }
-    }
-    Ok("")
+    let due = text_of(alloc, due)?;
+    Ok(meaning_of(alloc, text.as_str())?.as_str() == due.as_str())
 }
 
 #[test]
 fn tokens_have_their_meaning(rt: HostRuntime) -> Result<(), Fail> {
-    assert_eq!(rt; first_other(rt.alloc())?, "");
+    assert_eq!(rt; first_other(rt.alloc(), MEANINGS, means_as_said)?, "");
     Ok(())
 }
 

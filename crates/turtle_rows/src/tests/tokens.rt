@@ -2,17 +2,10 @@ mod rows;
 
 ghost use Rattle.ttl_tokens.specs.Unescaped.{IsGiven};
 
+use row_tools::{RowFault, cut, first_other};
 use std::alloc::{AllocError, Global};
 use std::test::Fail;
-use ttl_tokens::{Lookahead, Token, TokenKind, next_token_after, one_token_stands};
-
-/// A row as the text before its arrow, and its tokens.
-pub(super) fn cut(row: &str) -> (&str, &str) {
-    match row.split_once('→') {
-        Some(parts) => parts,
-        None => (row, ""),
-    }
-}
+use ttl_tokens::{Lookahead, Token, TokenKind, next_token_after};
 
 /// A text with white space in place of the signs for it.
 pub(super) fn text_of(alloc: Global, text: &str) -> Result<String, AllocError> {
@@ -54,55 +47,40 @@ fn add_token(alloc: Global, found: &mut String, text: &str, token: &Token) -> Re
 }
 
 // Whether the row's text has the row's tokens.
-fn has_tokens(alloc: Global, row: &str) -> Result<bool, AllocError> {
-    let (text, wanted) = cut(row);
+fn has_tokens(alloc: Global, row: &str) -> Result<bool, RowFault> {
+    let (text, due) = cut(row, "→")?;
     let text = text_of(alloc, text)?;
     let found = tokens_of(alloc, text.as_str())?;
-    let wanted = text_of(alloc, wanted)?;
-    Ok(found.as_str() == wanted.as_str())
-}
-
-// The first row whose text has other tokens.
-fn first_other(alloc: Global, rows: &'static str) -> Result<&'static str, AllocError> {
-    for row in rows.lines() {
-        if !has_tokens(alloc, row)? {
-            return Ok(row);
-        }
-    }
-    Ok("")
+    let due = text_of(alloc, due)?;
+    Ok(found.as_str() == due.as_str())
 }
 
 #[test]
 fn splits(rt: HostRuntime) -> Result<(), Fail> {
-    assert_eq!(rt; first_other(rt.alloc(), rows::SPLITS)?, "");
+    assert_eq!(rt; first_other(rt.alloc(), rows::SPLITS, has_tokens)?, "");
     Ok(())
 }
 
 #[test]
 fn names_and_words(rt: HostRuntime) -> Result<(), Fail> {
-    assert_eq!(rt; first_other(rt.alloc(), rows::NAMES)?, "");
+    assert_eq!(rt; first_other(rt.alloc(), rows::NAMES, has_tokens)?, "");
     Ok(())
 }
 
 #[test]
 fn numbers(rt: HostRuntime) -> Result<(), Fail> {
-    assert_eq!(rt; first_other(rt.alloc(), rows::NUMBERS)?, "");
+    assert_eq!(rt; first_other(rt.alloc(), rows::NUMBERS, has_tokens)?, "");
     Ok(())
 }
 
 #[test]
 fn strings_and_references(rt: HostRuntime) -> Result<(), Fail> {
-    assert_eq!(rt; first_other(rt.alloc(), rows::QUOTED)?, "");
+    assert_eq!(rt; first_other(rt.alloc(), rows::QUOTED, has_tokens)?, "");
     Ok(())
 }
 
 #[test]
 fn white_space_and_comments(rt: HostRuntime) -> Result<(), Fail> {
-    assert_eq!(rt; first_other(rt.alloc(), rows::BLANKS)?, "");
+    assert_eq!(rt; first_other(rt.alloc(), rows::BLANKS, has_tokens)?, "");
     Ok(())
-}
-
-#[test]
-fn one_token_stands_at_a_place() {
-    one_token_stands();
 }

@@ -86,8 +86,8 @@ ignoredProperties _:t-1
 _:t-2 | path ssn | datatype string | maxCount '1'^^integer | pattern '^\\\\d{3}$' | has a path
 _:t-3 | path worksFor | class Company | nodeKind IRI | has a path
 
-e:ValueKind rdfs:subClassOf rdfs:Class . e:C a e:ValueKind ; sh:nodeKind sh:Literal . _:c a rdfs:Class ; sh:in ( ) .
-C | type ValueKind | nodeKind Literal
+e:Kind rdfs:subClassOf rdfs:Class . e:C a e:Kind ; sh:nodeKind sh:Literal . _:c a rdfs:Class ; sh:in ( ) .
+C | type Kind | nodeKind Literal
 _:s-c | type Class | in nil
 
 e:S sh:path e:p ; sh:qualifiedMinCount 5 ; sh:flags 'i' .

@@ -38,13 +38,13 @@ _a cell p _b, _b cell _a2 nil, _a2 alternative _c, _c cell q _d, _d cell r nil =
 _a alternative _b, _b cell _c nil, _c cell p _d, _d cell q nil = _a = Broken
 = _a = Broken
 = '1 = Broken
-_a other p = _a = Broken
+_a o p = _a = Broken
 _a inverse p, _a zeroOrMore q = _a = Broken
 _a inverse p, _a inverse q = _a = Broken
-_a inverse p, _a other q = _a = Broken
+_a inverse p, _a o q = _a = Broken
 _a inverse '1 = _a = Broken
 _a inverse _b = _a = Broken
-_a inverse _b, _b other p = _a = Broken
+_a inverse _b, _b o p = _a = Broken
 _a cell p _b, _b cell '1 nil = _a = Broken
 _a cell p _b, _b first q = _a = Broken
 _a cell p _b, _b cell q _a = _a = Broken
@@ -54,8 +54,8 @@ _a inverse _b, _b zeroOrMore _a = _a = TooDeep
 _a cell p _b, _b cell _a nil = _a = TooDeep
 _a cell _a _b, _b cell p nil = _a = TooDeep
 _a alternative _b, _b cell p _c, _c cell _a nil = _a = TooDeep
-_a cell _x _b, _b cell _a nil, _x other p = _a = Broken
-_a cell _a _b, _b cell _x nil, _x other p = _a = TooDeep
+_a cell _x _b, _b cell _a nil, _x o p = _a = Broken
+_a cell _a _b, _b cell _x nil, _x o p = _a = TooDeep
 ";
 
 /// The limits on depth and on parts; a graph, a node, and what is read of it.
@@ -67,7 +67,7 @@ pub(super) const LIMITS: &str = "\
 1 1 = = '1 = Broken
 1 0 = = '1 = TooDeep
 0 1 = = '1 = TooDeep
-1 0 = _a other p = _a = TooDeep
+1 0 = _a o p = _a = TooDeep
 2 2 = _a inverse p = _a = ^p
 1 2 = _a inverse p = _a = TooDeep
 2 1 = _a inverse p = _a = TooDeep

@@ -1,6 +1,6 @@
 use Rattle.std.proofs.Common.{◌≤◌, length}
 use Rattle.std.specs.Str.{IsCharBoundary}
-use Rattle.ttl_tokens.specs.Lookahead.{KnowsAhead}
+use Rattle.ttl_tokens.specs.inner.Lookahead.{KnowsAhead}
 use Rattle.turtle_rows.proofs.tests.tokens.tokens_of.Given as goal
 
 abbrev pub invariant-loop : goal.invariant-loop

@@ -1,0 +1,9 @@
+mod changes;
+mod edits;
+mod graphs;
+mod guarded;
+mod keys;
+mod letters;
+mod many;
+mod questions;
+mod steps;

@@ -1,0 +1,199 @@
+mod rows;
+
+use super::guarded::Guarded;
+use super::letters::{graph_of, key_of};
+use super::questions::{answers, is_same};
+use super::steps::{exchanged, is_countable, is_patch};
+use graph_view::{GraphEdit, GraphView, Key, ListGraph, Patched};
+use row_tools::{RowFault, first_other, in_four, in_three, number};
+use std::alloc::Global;
+use std::test::Fail;
+
+// Whether a graph with a change that is not made answers a question as is due.
+fn patched_answers<V: GraphView>(
+    alloc: Global,
+    base: &V,
+    (added, removed): (&ListGraph, &ListGraph),
+    (question, due): (&str, &str),
+) -> Result<bool, RowFault> {
+    if !is_patch(base, added, removed) || !is_countable(base, added, removed) {
+        return Err(RowFault::Unread);
+    }
+    let view = Patched::new(base, added.triples(), removed.triples());
+    answers(alloc, &view, question, due)
+}
+
+// The same, where the base may be asked the question's key alone, if any.
+fn guarded_answers(
+    alloc: Global,
+    base: &ListGraph,
+    change: (&ListGraph, &ListGraph),
+    (question, due): (&str, &str),
+) -> Result<bool, RowFault> {
+    let key = if question.contains('?') {
+        key_of(question)?
+    } else {
+        Key::Subject(0)
+    };
+    patched_answers(alloc, &Guarded::new(base, key), change, (question, due))
+}
+
+// The same, by the words of the removed triples.
+fn answers_without(
+    alloc: Global,
+    base: &ListGraph,
+    added: &ListGraph,
+    removed: &str,
+    question: (&str, &str),
+) -> Result<bool, RowFault> {
+    let removed = graph_of(alloc, 75, 100, removed)?;
+    guarded_answers(alloc, base, (added, &removed), question)
+}
+
+// The same, by the words of the added triples too.
+fn answers_with(
+    alloc: Global,
+    base: &ListGraph,
+    (added, removed): (&str, &str),
+    question: (&str, &str),
+) -> Result<bool, RowFault> {
+    let added = graph_of(alloc, 75, 100, added)?;
+    answers_without(alloc, base, &added, removed, question)
+}
+
+// Whether a base with the row's change answers the row's question as is due.
+fn is_answered(alloc: Global, base: &str, row: &str) -> Result<bool, RowFault> {
+    let (added, removed, question, due) = in_four(row, "|")?;
+    let base = graph_of(alloc, 75, 100, base)?;
+    answers_with(alloc, &base, (added, removed), (question, due))
+}
+
+fn is_answered_over_the_base(alloc: Global, row: &str) -> Result<bool, RowFault> {
+    is_answered(alloc, rows::BASE, row)
+}
+
+fn is_answered_over_the_wide_base(alloc: Global, row: &str) -> Result<bool, RowFault> {
+    is_answered(alloc, rows::WIDE_BASE, row)
+}
+
+#[test]
+fn patched_graphs_answer_by_their_definition(rt: HostRuntime) -> Result<(), Fail> {
+    assert_eq!(rt;
+        first_other(rt.alloc(), rows::PATCHED, is_answered_over_the_base)?,
+        ""
+    );
+    Ok(())
+}
+
+#[test]
+fn changes_stand_first_last_and_between(rt: HostRuntime) -> Result<(), Fail> {
+    assert_eq!(rt;
+        first_other(rt.alloc(), rows::PLACES, is_answered_over_the_wide_base)?,
+        ""
+    );
+    Ok(())
+}
+
+// Whether a graph with a change that is not made is the same as another.
+fn is_patched_as<V: GraphView, W: GraphView>(
+    alloc: Global,
+    base: &V,
+    (added, removed): (&ListGraph, &ListGraph),
+    other: &W,
+) -> Result<bool, RowFault> {
+    if !is_patch(base, added, removed) || !is_countable(base, added, removed) {
+        return Err(RowFault::Unread);
+    }
+    let view = Patched::new(base, added.triples(), removed.triples());
+    Ok(is_same(alloc, &view, other)?)
+}
+
+// Whether a change is as it was looked through, once made, and leaves nothing when it is taken back.
+fn is_made_and_taken_back<E: GraphEdit>(
+    alloc: Global,
+    base: &ListGraph,
+    (added, removed): (&ListGraph, &ListGraph),
+    graph: &mut E,
+) -> Result<bool, RowFault> {
+    if exchanged(graph, added, removed)? != "done"
+        || !is_patched_as(alloc, base, (added, removed), graph)?
+    {
+        return Ok(false);
+    }
+    Ok(exchanged(graph, removed, added)? == "done" && is_same(alloc, base, graph)?)
+}
+
+// Whether a change that is refused leaves the very list of triples.
+fn is_refused(
+    base: &ListGraph,
+    (added, removed): (&ListGraph, &ListGraph),
+    graph: &mut ListGraph,
+) -> Result<bool, RowFault> {
+    Ok(exchanged(graph, added, removed)? == "full" && graph.triples() == base.triples())
+}
+
+// Whether a change of a graph that is as the base ends as is due.
+fn ends_as_due(
+    alloc: Global,
+    base: &ListGraph,
+    change: (&ListGraph, &ListGraph),
+    graph: &mut ListGraph,
+    due: &str,
+) -> Result<bool, RowFault> {
+    match due {
+        "done" => is_made_and_taken_back(alloc, base, change, graph),
+        "full" => is_refused(base, change, graph),
+        _ => Err(RowFault::Unread),
+    }
+}
+
+// The same, by the words of the removed triples.
+fn ends_without(
+    alloc: Global,
+    base: &ListGraph,
+    added: &ListGraph,
+    removed: &str,
+    graph: &mut ListGraph,
+    due: &str,
+) -> Result<bool, RowFault> {
+    let removed = graph_of(alloc, 75, 100, removed)?;
+    ends_as_due(alloc, base, (added, &removed), graph, due)
+}
+
+// The same, by the row's change and how it ends.
+fn ends_as_said(
+    alloc: Global,
+    base: &ListGraph,
+    graph: &mut ListGraph,
+    row: &str,
+) -> Result<bool, RowFault> {
+    let (removed, added, due) = in_three(row, "|")?;
+    let added = graph_of(alloc, 75, 100, added)?;
+    ends_without(alloc, base, &added, removed, graph, due)
+}
+
+// Whether a change of the graph of some words ends as the row says.
+fn is_changed_from(
+    alloc: Global,
+    limit: u64,
+    words: &str,
+    base: &ListGraph,
+    row: &str,
+) -> Result<bool, RowFault> {
+    let mut graph = graph_of(alloc, 75, limit, words)?;
+    ends_as_said(alloc, base, &mut graph, row)
+}
+
+// Whether the row's change of a graph, that may hold as many triples as the row says, ends as it says.
+fn is_changed(alloc: Global, row: &str) -> Result<bool, RowFault> {
+    let (limit, words, row) = in_three(row, ": ")?;
+    let limit = u64::from(number(limit)?);
+    let base = graph_of(alloc, 75, limit, words)?;
+    is_changed_from(alloc, limit, words, &base, row)
+}
+
+#[test]
+fn changes_are_made_whole_or_not_at_all(rt: HostRuntime) -> Result<(), Fail> {
+    assert_eq!(rt; first_other(rt.alloc(), rows::CHANGES, is_changed)?, "");
+    Ok(())
+}

@@ -1,0 +1,81 @@
+pub(super) mod rows;
+
+use super::letters::graph_of;
+use super::questions::is_same;
+use super::steps::goes_on;
+use graph_view::{GraphEdit, GraphView, Lent, ListGraph};
+use row_tools::{RowFault, cut, first_other_block, number};
+use std::alloc::Global;
+use std::test::Fail;
+use triple_store::Store;
+
+/// The graph that a block begins with.
+pub(super) fn graph_of_block(alloc: Global, line: &str) -> Result<ListGraph, RowFault> {
+    let (terms, rest) = cut(line, " ")?;
+    let (limit, words) = match rest.split_once(' ') {
+        Some(parts) => parts,
+        None => (rest, ""),
+    };
+    graph_of(alloc, number(terms)?, u64::from(number(limit)?), words)
+}
+
+// Whether the pool and the triples of a graph, lent, are the same graph.
+fn is_lent_as_it_is(alloc: Global, graph: &ListGraph) -> Result<bool, RowFault> {
+    let pool = graph.pool();
+    let _ = graph.len();
+    let lent = Lent::new(pool, graph.triples());
+    Ok(is_same(alloc, &lent, graph)?)
+}
+
+// Whether a graph goes through the steps of a block as is due, and is the same graph when it is lent.
+fn goes_as_said(alloc: Global, block: &str) -> Result<bool, RowFault> {
+    let (line, steps) = cut(block, "\n")?;
+    let mut graph = graph_of_block(alloc, line)?;
+    for step in steps.lines() {
+        if !goes_on(alloc, &mut graph, step)? || !is_lent_as_it_is(alloc, &graph)? {
+            return Ok(false);
+        }
+    }
+    Ok(true)
+}
+
+// Whether a store of a graph goes through the steps of a block as is due, and ends as one that is filled anew
+// from the graph does.
+fn is_stored_as_said(alloc: Global, block: &str) -> Result<bool, RowFault> {
+    let (line, steps) = cut(block, "\n")?;
+    let mut store = Store::from_list(alloc, graph_of_block(alloc, line)?)?;
+    for step in steps.lines() {
+        if !goes_on(alloc, &mut store, step)? {
+            return Ok(false);
+        }
+    }
+    is_filled_as(alloc, block, &store)
+}
+
+fn is_filled_as(alloc: Global, block: &str, store: &Store) -> Result<bool, RowFault> {
+    let (line, steps) = cut(block, "\n")?;
+    let mut graph = graph_of_block(alloc, line)?;
+    for step in steps.lines() {
+        goes_on(alloc, &mut graph, step)?;
+    }
+    let filled = Store::from_list(alloc, graph)?;
+    Ok(filled.limit() == store.limit() && is_same(alloc, &filled, store)?)
+}
+
+#[test]
+fn stores_go_through_edits(rt: HostRuntime) -> Result<(), Fail> {
+    assert_eq!(rt;
+        first_other_block(rt.alloc(), rows::EDITS, is_stored_as_said)?,
+        ""
+    );
+    Ok(())
+}
+
+#[test]
+fn graphs_go_through_edits(rt: HostRuntime) -> Result<(), Fail> {
+    assert_eq!(rt;
+        first_other_block(rt.alloc(), rows::EDITS, goes_as_said)?,
+        ""
+    );
+    Ok(())
+}

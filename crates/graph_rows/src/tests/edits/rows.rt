@@ -1,0 +1,146 @@
+//! Graphs that go through steps, a block for each: how many terms its pool may hold, how many triples it may
+//! hold, and those that it begins with; then the steps, each with its answer.
+
+pub const EDITS: &str = "\
+75 2
++apb → new
++apb → held
++apc → new
++apd → full
++apb → held
+len → 2
+ap? → b c
+
+76 0
+terms → 75
+enter data#5 → 75
+enter data#5 → 75
+enter data#6 → full
+enter data#1 → 66
+terms → 76
++apb → full
+len → 0
+
+75 12 apx uqx apz spb apr apy rpb aqb apt bpb apb apu
+ap? → b r u t z y x
+bq? → -
+?pb → a b r s
+?qy → -
+a?? → apb apr apu apt apz apy apx aqb
+x?? → -
+?p? → apb apr apu apt apz apy apx bpb rpb spb
+?a? → -
+-bqa → absent
+len → 12
+a?? → apb apr apu apt apz apy apx aqb
+-apr → gone
+-apr → absent
+apx → true
+uqx → true
+apz → true
+spb → true
+apr → false
+apy → true
+rpb → true
+aqb → true
+apt → true
+bpb → true
+apb → true
+apu → true
+len → 11
+terms → 75
+a?? → apb apu apt apz apy apx aqb
++apr → new
+a?? → apb apr apu apt apz apy apx aqb
+
+75 5
+-apb → absent
++apb → new
++apd → new
++abp → new
++apb → held
++cpb → new
++apc → new
++qqq → full
++apd → held
++ddd → full
+-apd → gone
+-apd → absent
++ddd → new
++apq → full
+-apb → gone
++pba → new
+-pab → absent
+-qqq → absent
+-ddd → gone
++bpa → new
++bap → full
+-abp → gone
+-cpb → gone
+-apc → gone
+-pba → gone
+-bpa → gone
+len → 0
++apb → new
+
+75 5 cda apq apb
+-apb → gone
++apb → new
++apd → new
++abp → new
++apb → held
++cpb → full
++apc → full
++qqq → full
++apd → held
++ddd → full
+-apd → gone
+-apd → absent
++ddd → new
++apq → held
+-apb → gone
++pba → new
+-pab → absent
+-qqq → absent
+-ddd → gone
++bpa → new
++bap → full
+-abp → gone
+-cpb → absent
+-apc → absent
+-pba → gone
+-bpa → gone
+len → 2
++apb → new
+
+75 5 aqd dpb dpc
+aq? → d
+dp? → b c
+?pb → d
+d?? → dpb dpc
+?p? → dpb dpc
+-dpc → gone
+dp? → b
++dpc → new
+len → 3
+
+75 3 apb apc
+exchange apb|apd → done
+ap? → c d
+exchange apd|apb → done
+ap? → b c
+exchange |apa apd → full
+ap? → b c
+exchange apb apc|aqa aqb aqc → done
+a?? → aqa aqb aqc
+exchange |apb → full
+exchange aqa|apb apc → full
+exchange aqa aqb|apb apc → done
+a?? → apb apc aqc
+exchange | → done
+len → 3
+-apb → gone
++bpx → new
+exchange bpx aqc|apb → done
+a?? → apb apc
+len → 2";

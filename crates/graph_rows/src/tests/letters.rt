@@ -1,0 +1,132 @@
+//! Terms by letters, triples by words of three letters, keys by words with `?` for what is looked up.
+ghost use Rattle.std.specs.Prelude.{IsTrue};
+ghost use Rattle.graph_view.specs.Graph.{IsKnownTriple};
+
+use graph_view::{GraphEdit, GraphView, Key, ListGraph};
+use row_tools::{RowFault, cut, term};
+use shx_term::vocabulary::VOCABULARY_LEN;
+use shx_term::{Id, Pool, Triple};
+use std::alloc::Global;
+
+// Terms of every kind, which are entered against their order: the higher the number, the lower the term.
+const TERMS: &str = "\
+x '5'
+y '5'^^integer
+z '5'@en
+t shapes#1
+u data#1
+s shapes:x
+r data:x
+q e:q
+p e:p
+d e:d
+c e:c
+b e:b
+a e:a";
+
+/// The first number behind those of the letters.
+pub(super) const LETTERS_END: Id = 75;
+
+/// The number of a letter.
+pub(super) fn number(letter: u8) -> Result<Id, RowFault> {
+    match letter {
+        b'x' => Ok(62),
+        b'y' => Ok(63),
+        b'z' => Ok(64),
+        b't' => Ok(65),
+        b'u' => Ok(66),
+        b's' => Ok(67),
+        b'r' => Ok(68),
+        b'q' => Ok(69),
+        b'p' => Ok(70),
+        b'd' => Ok(71),
+        b'c' => Ok(72),
+        b'b' => Ok(73),
+        b'a' => Ok(74),
+        _ => Err(RowFault::Unread),
+    }
+}
+
+/// The letter of a number, or `!`.
+pub(super) fn letter(id: Id) -> char {
+    match id {
+        62 => 'x',
+        63 => 'y',
+        64 => 'z',
+        65 => 't',
+        66 => 'u',
+        67 => 's',
+        68 => 'r',
+        69 => 'q',
+        70 => 'p',
+        71 => 'd',
+        72 => 'c',
+        73 => 'b',
+        74 => 'a',
+        _ => '!',
+    }
+}
+
+/// The triple of a word.
+pub(super) fn triple_of(word: &str) -> Result<Triple, RowFault> {
+    match word.as_bytes() {
+        [s, p, o] => Ok(Triple {
+            s: number(*s)?,
+            p: number(*p)?,
+            o: number(*o)?,
+        }),
+        _ => Err(RowFault::Unread),
+    }
+}
+
+/// The key of a word with a `?`.
+pub(super) fn key_of(word: &str) -> Result<Key, RowFault> {
+    match word.as_bytes() {
+        [b'?', p, b'?'] => Ok(Key::Predicate(number(*p)?)),
+        [s, b'?', b'?'] => Ok(Key::Subject(number(*s)?)),
+        [b'?', p, o] => Ok(Key::In(number(*p)?, number(*o)?)),
+        [s, p, b'?'] => Ok(Key::Out(number(*s)?, number(*p)?)),
+        _ => Err(RowFault::Unread),
+    }
+}
+
+fn enter_letters(alloc: Global, graph: &mut ListGraph) -> Result<(), RowFault> {
+    for (id, line) in (VOCABULARY_LEN..).zip(TERMS.lines()) {
+        let (letter, word) = cut(line, " ")?;
+        let entered = graph.enter(&term(alloc, word)?)?;
+        if entered != id || letter.bytes().next().map(number) != Some(Ok(id)) {
+            return Err(RowFault::Unread);
+        }
+    }
+    Ok(())
+}
+
+/// Whether a graph has terms for the numbers of a triple.
+pub(super) fn is_known<V: GraphView>(view: &V, t: &Triple) -> bool
+    ensures { IsTrue result → IsKnownTriple (V.graph view.now).terms t.now }
+{
+    let terms = view.pool().len();
+    t.s < terms && t.p < terms && t.o < terms
+}
+
+/// The graph of some words over the terms of all letters, that may hold so many terms and triples.
+pub(super) fn graph_of(
+    alloc: Global,
+    terms: Id,
+    limit: u64,
+    words: &str,
+) -> Result<ListGraph, RowFault> {
+    if terms < LETTERS_END {
+        return Err(RowFault::Unread);
+    }
+    let pool = Pool::with_vocabulary(alloc, terms)?;
+    let mut graph = ListGraph::new(alloc, pool, limit);
+    enter_letters(alloc, &mut graph)?;
+    for word in words.split_whitespace() {
+        let t = triple_of(word)?;
+        if !is_known(&graph, &t) || graph.insert(t) != Ok(true) {
+            return Err(RowFault::Unread);
+        }
+    }
+    Ok(graph)
+}

@@ -1,3 +1,0 @@
-mod edits;
-mod graphs;
-mod stores;

@@ -1,0 +1,4 @@
+mod codes;
+mod limits;
+mod pools;
+mod terms;

@@ -1,3 +1,0 @@
-mod graphs;
-mod patches;
-mod rows;

@@ -1,5 +1,5 @@
 -- What an IRI is made of.
-use Rattle.std.proofs.Common.{◌≡◌, ℕ, ◌≤◌, ◌<◌, Bool, true, ◌&&◌, List, [], ◌∷◌, length, drop, get_or, refl}
+use Rattle.std.proofs.Common.{◌≡◌, ℕ, ◌<◌, Bool, true, List, [], ◌∷◌, get_or}
 use Rattle.std.proofs.Common.{arith, zero, suc, lit<}
 use Rattle.std.specs.List.{position_or_len, before_first, after_first, list_all, list_any}
 use Rattle.std.specs.Str.{IsUtf8, IsAscii}
@@ -10,11 +10,6 @@ use Rattle.std.proofs.lemmas.Str.{IsUtf8-from_ascii, IsAscii-append}
 use Rattle.shx_term.proofs.HeldLemmas.{place_of_any}
 use Rattle.shx_term.specs.Characters.{is_colon, is_letter, is_scheme, is_scheme_byte}
 use Rattle.edit_script.specs.Iris.{is_iri_byte, is_plain_iri}
-
-pub scheme_at_first : (bs : List ℕ) → 1 ≤ length bs
-    → is_scheme bs ≡ (is_letter (get_or bs 0 0) && list_all is_scheme_byte (drop 1 bs))
-scheme_at_first [] h = absurd (omega arith)
-scheme_at_first (b ∷ bs) h = refl
 
 scheme_byte_low : (b : ℕ) → is_scheme_byte b ≡ true → b < 128
 scheme_byte_low b e = grind (arith, nat_tests)

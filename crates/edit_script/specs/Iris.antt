@@ -1,6 +1,6 @@
 -- Absolute IRIs in ASCII: a scheme (RFC 3986, section 3.1), a colon, and bytes that may stand between angle
 -- brackets (Turtle 1.1, section 6.5, IRIREF).
-use Rattle.std.specs.Prelude.{ℕ, ◌-◌, Bool, false, not, ◌&&◌, ◌||◌, ◌==◌, nat_le, List, [], ◌∷◌, take, drop}
+use Rattle.std.specs.Prelude.{ℕ, ◌-◌, Bool, not, ◌&&◌, ◌||◌, ◌==◌, nat_le, List, take, drop}
 use Rattle.std.specs.Prelude.{length, slice_index, Option, Some, None, if◌then◌else◌}
 use Rattle.std.specs.List.{before_first, after_first, list_all, list_any}
 use Rattle.shx_term.specs.Characters.{is_colon, is_scheme}

@@ -6,7 +6,7 @@ use Rattle.std.specs.List.{starts_with}
 use Rattle.std.specs.Cmp.Lexicographic.{pointwise, as_long}
 use Rattle.std.proofs.lemmas.List.{append-nil, length-drop}
 use Rattle.iri_resolve.specs.DotSegments.{Dots, dot_step, dot_steps, first_segment, without_last_segment}
-use Rattle.iri_resolve.specs.Walk.{dots_removed}
+use Rattle.iri_resolve.specs.inner.Walk.{dots_removed}
 
 pub dot_steps-nil : (n : ℕ) (output : List ℕ)
     → (dot_steps n (record { input = []; output = output })).output ≡ output

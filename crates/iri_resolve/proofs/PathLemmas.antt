@@ -13,7 +13,7 @@ use Rattle.iri_resolve.specs.Characters.{is_slash}
 use Rattle.iri_resolve.specs.Parts.{from_first}
 use Rattle.iri_resolve.specs.DotSegments.{without_last_segment}
 use Rattle.iri_resolve.specs.Resolution.{up_to_last_slash}
-use Rattle.iri_resolve.specs.Walk.{last_segment}
+use Rattle.iri_resolve.specs.inner.Walk.{last_segment}
 use Rattle.iri_resolve.proofs.CutLemmas.{from_first-append, from_first-drop, from_first-none, after_first-at}
 use Rattle.iri_resolve.proofs.CutLemmas.{after_first-none, list_any-before_first}
 

@@ -11,8 +11,9 @@ use Rattle.std.proofs.lemmas.List.{append-nil}
 use Rattle.std.proofs.Math.Seq.{drop-append_seam, drop-length}
 use Rattle.iri_resolve.specs.Characters.{is_slash}
 use Rattle.iri_resolve.specs.DotSegments.{dot_step, without_last_segment}
-use Rattle.iri_resolve.specs.Walk.{after_slash, dots_removed, is_dot, is_dot_dot, slash_after, with_segment}
-use Rattle.iri_resolve.specs.Walk.{with_last_segment}
+use Rattle.iri_resolve.specs.inner.Walk.{after_slash, dots_removed, is_dot, is_dot_dot, slash_after}
+use Rattle.iri_resolve.specs.inner.Walk.{with_segment}
+use Rattle.iri_resolve.specs.inner.Walk.{with_last_segment}
 use Rattle.iri_resolve.proofs.CutLemmas.{before_first-none, before_first-at}
 use Rattle.iri_resolve.proofs.DotStepLemmas.{dots_removed-step, dots_removed-nil}
 

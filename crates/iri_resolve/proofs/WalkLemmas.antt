@@ -17,8 +17,9 @@ use Rattle.iri_resolve.specs.Characters.{is_slash}
 use Rattle.iri_resolve.specs.DotSegments.{without_dot_segments}
 use Rattle.iri_resolve.specs.Parts.{Parts}
 use Rattle.iri_resolve.specs.Resolution.{up_to_last_slash, merged_with, merged_path}
-use Rattle.iri_resolve.specs.Walk.{after_slash, dots_removed, slash_after, with_segment, with_last_segment}
-use Rattle.iri_resolve.specs.Walk.{last_segment, IsSegment, WritesFrom, IsWalked, is_rooted}
+use Rattle.iri_resolve.specs.inner.Walk.{after_slash, dots_removed, slash_after, with_segment}
+use Rattle.iri_resolve.specs.inner.Walk.{with_last_segment}
+use Rattle.iri_resolve.specs.inner.Walk.{last_segment, IsSegment, WritesFrom, IsWalked, is_rooted}
 use Rattle.iri_resolve.proofs.CutLemmas.{before_first-after_first, passes-at, list_any-none}
 use Rattle.iri_resolve.proofs.CutLemmas.{list_any-before_first}
 use Rattle.iri_resolve.proofs.PathLemmas.{up_to_last_slash-none, up_to_last_slash-segment, last_segment-none}

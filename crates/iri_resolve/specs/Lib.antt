@@ -4,4 +4,4 @@ pub mod Fault
 pub mod Parts
 pub mod Reference
 pub mod Resolution
-pub mod Walk
+pub mod inner

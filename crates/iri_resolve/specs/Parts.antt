@@ -1,8 +1,8 @@
 -- A reference split into its five parts (RFC 3986, section 3 and appendix B), and written from them (section
 -- 5.3).
-use Rattle.std.specs.Prelude.{ℕ, Bool, false, ◌&&◌, List, [], ◌∷◌, ◌++◌, drop, length, Option, Some, None}
+use Rattle.std.specs.Prelude.{ℕ, Bool, ◌&&◌, List, [], ◌++◌, drop, length, Option, Some, None}
 use Rattle.std.specs.Prelude.{if◌then◌else◌, codes, nat_eq}
-use Rattle.std.specs.List.{list_any, list_all, starts_with, before_first, after_first}
+use Rattle.std.specs.List.{list_any, starts_with, before_first, after_first}
 use Rattle.shx_term.specs.Characters.{is_colon, is_scheme}
 use Rattle.iri_resolve.specs.Characters.{is_slash, is_question_mark, is_hash}
 

@@ -3,8 +3,9 @@ ghost use Rattle.std.specs.Prelude.{string_bytes, string_len, IfOk, OnOk, MatchO
 ghost use Rattle.std.specs.List.{list_any};
 ghost use Rattle.iri_resolve.specs.Characters.{is_slash};
 ghost use Rattle.iri_resolve.specs.DotSegments.{without_dot_segments, without_last_segment};
-ghost use Rattle.iri_resolve.specs.Walk.{after_slash, dots_removed, slash_after, with_segment};
-ghost use Rattle.iri_resolve.specs.Walk.{with_last_segment, last_segment, IsSegment, WritesFrom, IsWalked};
+ghost use Rattle.iri_resolve.specs.inner.Walk.{after_slash, dots_removed, slash_after, with_segment};
+ghost use Rattle.iri_resolve.specs.inner.Walk.{with_last_segment, last_segment, IsSegment, WritesFrom};
+ghost use Rattle.iri_resolve.specs.inner.Walk.{IsWalked};
 
 use std::alloc::AllocError;
 

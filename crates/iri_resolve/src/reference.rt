@@ -1,9 +1,11 @@
-ghost use Rattle.std.specs.Prelude.{◌≡◌, ◌==◌, ◌<◌, Bool};
-ghost use Rattle.std.specs.List.{list_all, before_first};
+ghost use Rattle.std.specs.Prelude.{◌≡◌, ◌==◌, ◌<◌};
+ghost use Rattle.std.specs.List.{before_first};
 ghost use Rattle.std.specs.Option.{option_copied};
 ghost use Rattle.iri_resolve.specs.Characters.{is_slash};
 ghost use Rattle.iri_resolve.specs.Parts.{parts_of, part_after, scheme_of, without_scheme};
 ghost use Rattle.iri_resolve.specs.Parts.{authority_of, path_of, from_first};
+
+use shx_term::is_scheme;
 
 /// A reference split into its parts (RFC 3986, section 3 and appendix B). A part that is there may be empty.
 #[derive(Clone, Copy, Debug)]

@@ -5,7 +5,7 @@ ghost use Rattle.iri_resolve.specs.Characters.{is_allowed};
 ghost use Rattle.iri_resolve.specs.DotSegments.{without_dot_segments};
 ghost use Rattle.iri_resolve.specs.Parts.{with_front, with_back, written};
 ghost use Rattle.iri_resolve.specs.Reference.{parts_in};
-ghost use Rattle.iri_resolve.specs.Walk.{is_rooted};
+ghost use Rattle.iri_resolve.specs.inner.Walk.{is_rooted};
 ghost use Rattle.iri_resolve.specs.Resolution.{IsAbsolute, resolved, merged_path, target_path, target_query};
 ghost use Rattle.iri_resolve.specs.Resolution.{target_of};
 

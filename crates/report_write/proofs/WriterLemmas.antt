@@ -9,8 +9,8 @@ use Rattle.shx_outside.specs.Counted.{Rose}
 use Rattle.shx_outside.specs.Outside.{SinkState}
 use Rattle.shx_outside.specs.Told.{Grew, Fell, IsUsedUp}
 use Rattle.shx_outside.proofs.ToldLemmas.{Grew-none}
-use Rattle.report_write.specs.Added.{WriterState, Added, Finishes, fresh}
-use Rattle.report_write.specs.AddedLaws.{SentUnless-then}
+use Rattle.report_write.specs.inner.Added.{WriterState, Added, Finishes, fresh}
+use Rattle.report_write.specs.inner.AddedLaws.{SentUnless-then}
 use Rattle.report_write.specs.Writes.{Put, Sent, FellShort, Writes, SentUnless}
 
 -- a front of what is due is put

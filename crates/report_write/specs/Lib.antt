@@ -1,5 +1,4 @@
-pub mod Added
-pub mod AddedLaws
 pub mod Answers
 pub mod Names
 pub mod Writes
+pub mod inner

@@ -39,7 +39,7 @@ pub fn write_answer<O: Sink>(answer: &Answer, out: &mut O) -> Result<(), WriteFa
     writer.finish()
 }
 
-/// Adds an answer.
+/// AddsText an answer.
 pub fn add_answer<W: Pieces>(answer: &Answer, out: &mut W)
     ensures { W.added out.old out.new (answer_text answer.now) }
 {

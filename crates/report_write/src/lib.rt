@@ -9,8 +9,8 @@
 //! | `number.rt`, `term.rt` | numbers and terms |
 //!
 //! It stands on `shx_term`, `shx_outside` and `itoa`. Start with `writer.rt`; `specs/Writes.antt` says what
-//! is left in a sink, `specs/Added.antt` what adding is, and `specs/Answers.antt` has the texts. A text of
-//! several parts is written by a function over `shx_term::Pieces`, which adds the parts in turn.
+//! is left in a sink, and `specs/Answers.antt` has the texts. A text of several parts is written by a
+//! function over `shx_term::Pieces`, which adds the parts in turn.
 #![tactic(auto)]
 
 mod answer;

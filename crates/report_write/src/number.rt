@@ -1,7 +1,7 @@
 use itoa::{Buffer, Integer};
 use shx_term::Pieces;
 
-/// Adds a number in decimal digits.
+/// AddsText a number in decimal digits.
 pub fn add_number<N: Integer, W: Pieces>(number: N, out: &mut W)
     ensures { W.added out.old out.new (N.text number) }
 {

@@ -1,6 +1,6 @@
 ghost use Rattle.std.specs.Prelude.{◌≡◌, ◌+◌, ◌≤◌, [], length};
-ghost use Rattle.report_write.specs.Added.{writer_state, fresh, Adds, Finishes};
-ghost use Rattle.report_write.specs.AddedLaws.{Added-none, Added-then};
+ghost use Rattle.report_write.specs.inner.Added.{writer_state, fresh, AddsText, Finishes};
+ghost use Rattle.report_write.specs.inner.AddedLaws.{Added-none, Added-then};
 
 use crate::WriteFault;
 use crate::pending::{Pending, ROOM};
@@ -29,9 +29,9 @@ impl<'a, O: Sink> Writer<'a, O> {
         }
     }
 
-    /// Adds a text, and puts what is pending where the text has no room behind it.
+    /// AddsText a text, and puts what is pending where the text has no room behind it.
     pub fn add(&mut self, text: &[u8])
-        ensures { Adds O.state self.old self.new text.now }
+        ensures { AddsText O.state self.old self.new text.now }
     {
         if text.len() <= self.pending.room() {
             return self.queue(text);
@@ -58,34 +58,34 @@ impl<'a, O: Sink> Writer<'a, O> {
         Ok(())
     }
 
-    // Adds a text that has room.
+    // AddsText a text that has room.
     fn queue(&mut self, text: &[u8])
         requires { length self.old.pending + length text.now ≤ 8192 }
-        ensures { Adds O.state self.old self.new text.now }
+        ensures { AddsText O.state self.old self.new text.now }
     {
         self.pending.push(text);
     }
 
     // Puts what is pending.
     fn flush(&mut self)
-        ensures added { Adds O.state self.old self.new [] }
+        ensures added { AddsText O.state self.old self.new [] }
         ensures empty { self.new.pending ≡ [] }
     {
         self.failed = put_unless(self.failed, self.pending.as_slice(), self.out);
         self.pending.clear();
     }
 
-    // Adds a text by putting it.
+    // AddsText a text by putting it.
     fn put(&mut self, text: &[u8])
         requires { self.old.pending ≡ [] }
-        ensures { Adds O.state self.old self.new text.now }
+        ensures { AddsText O.state self.old self.new text.now }
     {
         self.failed = put_unless(self.failed, text, self.out);
     }
 }
 
 impl<'a, O: Sink> Pieces for Writer<'a, O> {
-    ghost added = { Adds O.state };
+    ghost added = { AddsText O.state };
 
     fn add(&mut self, piece: &[u8]) {
         Writer::add(self, piece)

@@ -12,9 +12,9 @@ use Rattle.shacl_run.specs.declared.refusal.Refusal.{Refusal}
 use Rattle.shacl_run.specs.declared.refusal.Refusal.TheVariants.{Fault, Memory}
 use Rattle.shacl_run.specs.declared.refusal.TextFault.{TextFault}
 use Rattle.shacl_run.specs.Declarations.{declared_by}
-use Rattle.shacl_run.specs.Declares.{Declares, RefusesShapes, IsShapesFault, declarations}
+use Rattle.shacl_run.specs.inner.Declares.{Declares, RefusesShapes, IsShapesFault, declarations}
 use Rattle.shacl_run.specs.Readings.{TextReading, States, Faulty, IsReadAs}
-use Rattle.shacl_run.specs.Refusal.{RefusesAs}
+use Rattle.shacl_run.specs.inner.Refusal.{RefusesAs}
 
 module _ (limits : Limits) (text : List ℕ) (held : List Term) (begins : held ≡ vocabulary) where
   over_vocabulary : (reading : TextReading) → IsReadAs limits Shapes held text reading

@@ -14,20 +14,21 @@ use Rattle.shx_term.specs.declared.term.Term.{Term}
 use Rattle.shx_term.specs.declared.triple.Triple.{Triple}
 use Rattle.shx_term.specs.declared.triple.TermTriple.{TermTriple}
 use Rattle.shx_term.specs.Triple.{same_triple}
-use Rattle.shx_term.specs.TripleLaws.{same_triple_equiv, same_triple_exact}
+use Rattle.shx_term.specs.inner.TripleLaws.{same_triple_equiv, same_triple_exact}
 use Rattle.shx_term.specs.TermOrder.{same_term}
-use Rattle.shx_term.specs.TermOrderLaws.{same_term_exact}
+use Rattle.shx_term.specs.inner.TermOrderLaws.{same_term_exact}
 use Rattle.shx_term.specs.Pool.{is_held, with_term, with_terms}
 use Rattle.shx_term.specs.TripleTerms.{terms_of, number_in, numbered}
-use Rattle.shx_term.proofs.HeldLemmas.{with_terms_grow, number_stays, number_from_place}
+use Rattle.shx_term.proofs.HeldLemmas.{with_terms_grow, number_stays}
 use Rattle.shx_term.proofs.MemberLemmas.{Contains-test, each_of_All}
 use Rattle.graph_view.specs.Graph.{Graph, IsKnownTriple, AllKnown, HasAlso}
-use Rattle.graph_view.specs.SameGraph.{HoldsSame, SameGraph}
-use Rattle.graph_view.proofs.SameGraphLemmas.{HoldsSame-itself, HoldsSame-sym}
+use Rattle.shx_term.specs.Members.{SameMembers}
+use Rattle.graph_view.specs.SameGraph.{SameGraph}
+use Rattle.shx_term.proofs.SetLemmas.{SameMembers-itself, SameMembers-sym}
 use Rattle.graph_view.proofs.ValidLemmas.{made_of}
 use Rattle.shacl_run.specs.declared.edit.Edited.TheVariants.{Changed, Refused}
 use Rattle.shacl_run.specs.Edits.{edited, graph_after, is_among, is_stated, terms_with}
-use Rattle.shacl_run.proofs.LoadLemmas.{HoldsSame-push}
+use Rattle.shacl_run.proofs.LoadLemmas.{SameMembers-push}
 
 -- a triple over numbers has those of its terms
 pub numbers_of : (terms : List Term) (t : TermTriple) (u : Triple) → numbered terms t ≡ Some u
@@ -183,10 +184,10 @@ SameGraph-added g h t old u new known absent terms number same also is_new count
     let more : length h.triples ≡ length g.triples + 1 =
     count ∙ (λ i. length (same i) + (if one i then 1 else 0)) in
     let it : numbered (terms_with g t) t ≡ Some u = subst (λ xs. numbered xs t ≡ Some u) terms number in
-    let held : HoldsSame h.triples (g.triples ++ u ∷ []) =
-    HoldsSame-push u (subst (HoldsSame old) same (HoldsSame-itself old)) also in
+    let held : SameMembers h.triples (g.triples ++ u ∷ []) =
+    SameMembers-push u (subst (SameMembers old) same (SameMembers-itself old)) also in
     rw it (record {
       terms = sym terms;
-      triples = HoldsSame-sym held;
+      triples = SameMembers-sym held;
       count = length-append g.triples (u ∷ []) ∙ sym more;
     })

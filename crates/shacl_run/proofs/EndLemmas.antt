@@ -7,16 +7,16 @@ use Rattle.shx_outside.specs.Counted.{Rose}
 use Rattle.shx_outside.specs.Outside.{SinkState}
 use Rattle.shx_outside.proofs.ToldLemmas.{Grew-none, Grew-then, Fell-none, Fell-then}
 use Rattle.report_write.specs.Writes.{Put, FellShort}
-use Rattle.report_write.specs.AddedLaws.{Put-then}
+use Rattle.report_write.specs.inner.AddedLaws.{Put-then}
 use Rattle.shacl_run.specs.declared.status.Status.{Status}
 use Rattle.shacl_run.specs.declared.status.Status.TheVariants.{InputFault, WriteFault, Memory as no_memory}
 use Rattle.shacl_run.specs.declared.stop.Stop.{Stop}
 use Rattle.shacl_run.specs.declared.stop.Stop.TheVariants.{Input, Write, Memory}
-use Rattle.shacl_run.specs.Ends.{PutsFront, Ends}
+use Rattle.shacl_run.specs.inner.Ends.{PutsFront, Ends}
 use Rattle.shacl_run.specs.Run.{Output}
-use Rattle.shacl_run.specs.Serving.{Prefixed}
+use Rattle.shacl_run.specs.inner.Serving.{Prefixed}
 use Rattle.shacl_run.specs.Status.{IsAnswered, IsCutShort}
-use Rattle.shacl_run.specs.Stops.{stop_status}
+use Rattle.shacl_run.specs.inner.Stops.{stop_status}
 
 -- where two lists together are empty, each of them is
 pub append_none : (xs ys : List ℕ) → xs ++ ys ≡ [] → (xs ≡ []) × (ys ≡ [])

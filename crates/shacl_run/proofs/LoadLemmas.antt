@@ -5,8 +5,8 @@ use Rattle.std.proofs.lemmas.List.{take_more}
 use Rattle.std.proofs.lemmas.List.Elements.{Contains-push, Contains-push_cases, Contains-append_left}
 use Rattle.shx_term.specs.declared.triple.Triple.{Triple}
 use Rattle.graph_view.specs.Graph.{HasAlso}
-use Rattle.graph_view.specs.SameGraph.{HoldsSame}
-use Rattle.graph_view.proofs.SameGraphLemmas.{HoldsSame-also}
+use Rattle.shx_term.specs.Members.{SameMembers}
+use Rattle.graph_view.proofs.SameGraphLemmas.{SameMembers-also}
 
 -- a list with one more at its end has one more
 pub HasAlso-push : (triples : List Triple) (t : Triple) → HasAlso triples (triples ++ t ∷ []) t
@@ -20,13 +20,14 @@ HasAlso-push triples t = record {
   );
 }
 
-pub HoldsSame-push : {old new triples : List Triple} (t : Triple) → HoldsSame old triples → HasAlso old new t
-    → HoldsSame new (triples ++ t ∷ [])
-HoldsSame-push {triples = triples} t same also = HoldsSame-also t same also (HasAlso-push triples t)
+pub SameMembers-push : {old new triples : List Triple} (t : Triple) → SameMembers old triples
+    → HasAlso old new t → SameMembers new (triples ++ t ∷ [])
+SameMembers-push {triples = triples} t same also = SameMembers-also t same also (HasAlso-push triples t)
 
 -- one more of a list is held
-pub HoldsSame-more : (old new triples : List Triple) (i : ℕ) (t : Triple) → i < length triples
-    → HoldsSame old (take i triples) → HasAlso old new (get_or triples i t)
-    → HoldsSame new (take (i + 1) triples)
-HoldsSame-more old new triples i t inside same also =
-    subst (HoldsSame new) (sym (take_more triples i t inside)) (HoldsSame-push (get_or triples i t) same also)
+pub SameMembers-more : (old new triples : List Triple) (i : ℕ) (t : Triple) → i < length triples
+    → SameMembers old (take i triples) → HasAlso old new (get_or triples i t)
+    → SameMembers new (take (i + 1) triples)
+SameMembers-more old new triples i t inside same also =
+    subst (SameMembers new) (sym (take_more triples i t inside))
+    (SameMembers-push (get_or triples i t) same also)

@@ -12,13 +12,13 @@ use Rattle.shx_term.specs.declared.fault_codes.TheConstants.{TEXT_TOO_LONG}
 use Rattle.shacl_run.specs.declared.refusal.TextFault.{TextFault}
 use Rattle.shacl_run.specs.declared.validation.Validation.{Validation}
 use Rattle.shacl_run.specs.Declarations.{Declarations}
-use Rattle.shacl_run.specs.Declares.{IsShapesFault}
-use Rattle.shacl_run.specs.Prepared.{Opened}
+use Rattle.shacl_run.specs.inner.Declares.{IsShapesFault}
+use Rattle.shacl_run.specs.inner.Prepared.{Opened}
 use Rattle.shacl_run.specs.Readings.{Readings, TextReading, States, Faulty, IsReadAs, AreRight}
 use Rattle.shacl_run.specs.Readings.{declarations_of}
 use Rattle.shacl_run.specs.Run.{Opening, texts_opening, with_shapes, with_declarations, with_data, faulty}
 use Rattle.shacl_run.specs.Run.Opening.{ends, opens}
-use Rattle.shacl_run.specs.Validation.{OpensFor}
+use Rattle.shacl_run.specs.inner.Validation.{OpensFor}
 use Rattle.shacl_run.proofs.ReadingLemmas.{read_once}
 
 -- the bytes that were read are read as the text is

@@ -8,15 +8,15 @@ use Rattle.shx_term.specs.declared.term.Scope.{Scope}
 use Rattle.shx_term.specs.declared.term.Term.{Term}
 use Rattle.shx_term.specs.declared.triple.Triple.{Triple}
 use Rattle.shx_term.specs.declared.triple.TermTriple.{TermTriple}
-use Rattle.shx_term.specs.Pool.{Pooled, with_terms}
-use Rattle.shx_term.specs.TripleTerms.{terms_of, numbered, numbered_all}
+use Rattle.shx_term.specs.Pool.{Pooled}
+use Rattle.shx_term.specs.TripleTerms.{numbered, numbered_all}
 use Rattle.graph_view.specs.Graph.{Graph, IsKnownTriple}
 use Rattle.ttl_tokens.specs.Form.{Times}
 use Rattle.ttl_meaning.specs.declared.document.Document.{Document}
 use Rattle.ttl_meaning.specs.State.{State}
 use Rattle.ttl_read.specs.Documents.{Setting, setting, IsStatement, start_of}
 use Rattle.ttl_read.specs.Grammar.{Place}
-use Rattle.ttl_read.specs.Stated.{States}
+use Rattle.ttl_read.specs.inner.Stated.{States}
 use Rattle.shacl_run.specs.Readings.{TextReading, Faulty, IsReadAs, IsKnownDocument, numbered_from, text_base}
 use Rattle.shacl_run.specs.Readings.{States as read_document}
 use Rattle.shacl_run.proofs.EditLemmas.{numbered_known}
@@ -77,28 +77,6 @@ few_behind t (suc n) x y s few = few_behind t n s.0 y s.2 s.1.triples
 
 abbrev graph : List Term → List Triple → Graph
 graph terms triples = record { terms = terms; triples = triples }
-
-same_graph : (terms : List Term) (triples : List Triple) (terms' : List Term) (triples' : List Triple)
-    → terms ≡ terms' → triples ≡ triples'
-    → graph terms triples ≡ graph terms' triples'
-same_graph terms triples terms' triples' e f =
-    ap (λ (ts : List Term). graph ts triples) e
-    ∙ ap (λ (ts : List Triple). graph terms' ts) f
-
--- what a text states is read so, and is known
-pub states_read : (limits : Limits) (scope : Scope) (held : List Term) (text : List ℕ) (document : Document)
-    (pool : Pooled) → length text ≤ limits.text
-    → States (setting text limits held) scope text_base document pool
-    → IsReadAs limits scope held text (read_document (record {
-      terms = pool.terms;
-      triples =
-          document.triples.items;
-    }))
-states_read limits scope held text document pool within states =
-    let triples : document.triples.items ≡ numbered_all (with_terms held (terms_of states.0.triples))
-    states.0.triples =
-    states.2.triples ∙ ap (λ (ts : List Term). numbered_all ts states.0.triples) states.2.terms in
-    (within, (states.0, states.1, same_graph pool.terms document.triples.items _ _ states.2.terms triples))
 
 pub states_known : (limits : Limits) (scope : Scope) (held : List Term) (text : List ℕ) (document : Document)
     (pool : Pooled) → States (setting text limits held) scope text_base document pool

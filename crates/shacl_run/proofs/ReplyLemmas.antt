@@ -12,11 +12,11 @@ use Rattle.shacl_run.specs.declared.validation.Validation.{Validation}
 use Rattle.shacl_run.specs.Edits.{graph_after}
 use Rattle.shacl_run.specs.Evaluation.{report}
 use Rattle.shacl_run.specs.Report.{report_text}
-use Rattle.shacl_run.specs.Reply.{Replies}
+use Rattle.shacl_run.specs.inner.Reply.{Replies}
 use Rattle.shacl_run.specs.Script.{Said, answered, step_text, said_text}
 use Rattle.shacl_run.specs.Script.Said.{answers, reports}
 use Rattle.shacl_run.specs.ScriptState.{ScriptState}
-use Rattle.shacl_run.specs.Validation.{IsValidation}
+use Rattle.shacl_run.specs.inner.Validation.{IsValidation}
 use Rattle.shacl_run.proofs.ValidationLemmas.{report_text-validation, stores-validation}
 
 module _ (limits : Limits) (s : ScriptState) (validation : Validation)

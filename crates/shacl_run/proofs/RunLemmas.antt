@@ -11,7 +11,7 @@ use Rattle.shacl_run.specs.declared.plan.Shape.{Shape}
 use Rattle.shacl_run.specs.declared.status.Status.{Status}
 use Rattle.shacl_run.specs.declared.status.Status.TheVariants.{WriteFault}
 use Rattle.shacl_run.specs.Declarations.{Declarations}
-use Rattle.shacl_run.specs.Ends.{PutsWhole, PutsFront, Ends}
+use Rattle.shacl_run.specs.inner.Ends.{PutsWhole, PutsFront, Ends}
 use Rattle.shacl_run.specs.Readings.{Readings, TextReading, States, Faulty}
 use Rattle.shacl_run.specs.Run.{Output, Opening, ending, files_opening, with_data, with_declarations}
 use Rattle.shacl_run.specs.Run.{texts_opening, with_shapes}

@@ -11,7 +11,8 @@ use Rattle.shx_term.specs.declared.triple.Triple.{Triple}
 use Rattle.shx_term.specs.IdOrder.{in_term_order}
 use Rattle.shx_term.proofs.MemberLemmas.{list_all_of, each_passes}
 use Rattle.graph_view.specs.Graph.{Graph, objects_of, graph_of}
-use Rattle.graph_view.specs.SameGraph.{HoldsSame, SameGraph}
+use Rattle.shx_term.specs.Members.{SameMembers}
+use Rattle.graph_view.specs.SameGraph.{SameGraph}
 use Rattle.graph_view.proofs.SameGraphLemmas.{numbers_same, objects_of-same}
 use Rattle.shacl_run.specs.declared.plan.Shape.{Shape}
 use Rattle.shacl_run.specs.declared.result_row.Pair.{Pair}
@@ -22,7 +23,7 @@ use Rattle.shacl_run.specs.Shapes.{shapes_of}
 use Rattle.shacl_run.specs.Evaluation.{value_nodes, shape_results, constraint_results, results}
 use Rattle.shacl_run.specs.Evaluation.{node_of_target, pair_of, pairs_of_shape, pairs, report}
 
-pub built_same : (terms : List Term) (triples others : List Triple) → HoldsSame triples others
+pub built_same : (terms : List Term) (triples others : List Triple) → SameMembers triples others
     → list_all (is_built terms) triples ≡ list_all (is_built terms) others
 built_same terms triples others same =
     both_ways (list_all (is_built terms) triples) (list_all (is_built terms) others)

@@ -18,7 +18,7 @@ use Rattle.text_input.specs.TextRead.{TakesWithin}
 use Rattle.text_input.proofs.CountLemmas.{IsCounted-within}
 use Rattle.text_input.proofs.LineLemmas.{fed_lines-first, fed_lines-none}
 use Rattle.report_write.specs.Writes.{Put, FellShort}
-use Rattle.report_write.specs.AddedLaws.{Put-none}
+use Rattle.report_write.specs.inner.AddedLaws.{Put-none}
 use Rattle.shacl_run.specs.declared.reply.Reply.{Reply}
 use Rattle.shacl_run.specs.declared.result_row.ResultRow.{ResultRow}
 use Rattle.shacl_run.specs.declared.validation.Validation.{Validation}
@@ -26,19 +26,19 @@ use Rattle.shacl_run.specs.declared.status.Status.{Status}
 use Rattle.shacl_run.specs.declared.status.Status.TheVariants.{InputFault, WriteFault, LinesRefused}
 use Rattle.shacl_run.specs.declared.stop.Stop.{Stop}
 use Rattle.shacl_run.specs.declared.stop.Stop.TheVariants.{Input, Write, Memory}
-use Rattle.shacl_run.specs.Ends.{Ends}
+use Rattle.shacl_run.specs.inner.Ends.{Ends}
 use Rattle.shacl_run.specs.Evaluation.{report}
-use Rattle.shacl_run.specs.Prepared.{StopCause}
-use Rattle.shacl_run.specs.Reply.{Replies, reply_text}
-use Rattle.shacl_run.specs.Stops.{stop_status, end_status}
+use Rattle.shacl_run.specs.inner.Prepared.{StopCause}
+use Rattle.shacl_run.specs.inner.Reply.{Replies, reply_text}
+use Rattle.shacl_run.specs.inner.Stops.{stop_status, end_status}
 use Rattle.shacl_run.specs.Run.{Output, behind, ending, output_from, fed_text, status_of_rows}
 use Rattle.shacl_run.specs.Run.{status_of_state}
 use Rattle.shacl_run.specs.RunClauses.{StopsFed}
 use Rattle.shacl_run.specs.Script.{Step, step_text, script_step, answers_text, state_after}
 use Rattle.shacl_run.specs.Script.{refusal}
 use Rattle.shacl_run.specs.ScriptState.{ScriptState}
-use Rattle.shacl_run.specs.Serving.{due_at, Prefixed, Feeds, TakesStep, LastStatus}
-use Rattle.shacl_run.specs.Validation.{IsValidation}
+use Rattle.shacl_run.specs.inner.Serving.{due_at, Prefixed, Feeds, TakesStep, LastStatus}
+use Rattle.shacl_run.specs.inner.Validation.{IsValidation}
 use Rattle.shacl_run.specs.Status.{IsAnswered}
 use Rattle.shacl_run.proofs.EndLemmas.{append_none, answered_apart, Ends-after, Ends-input, Ends-memory}
 use Rattle.shacl_run.proofs.EndLemmas.{Ends-short}

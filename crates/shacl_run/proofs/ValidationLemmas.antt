@@ -13,14 +13,16 @@ use Rattle.shx_term.specs.declared.limits.Limits.{Limits}
 use Rattle.shx_term.specs.declared.triple.Triple.{Triple}
 use Rattle.shx_term.specs.declared.triple.TermTriple.{TermTriple}
 use Rattle.shx_term.specs.Triple.{same_triple}
-use Rattle.shx_term.specs.TripleLaws.{same_triple_equiv, same_triple_exact}
+use Rattle.shx_term.specs.inner.TripleLaws.{same_triple_equiv, same_triple_exact}
 use Rattle.shx_term.specs.Pool.{with_terms}
 use Rattle.shx_term.specs.TripleTerms.{terms_of, numbered}
 use Rattle.shx_term.proofs.MemberLemmas.{Contains-test}
 use Rattle.graph_view.specs.Graph.{Graph}
 use Rattle.graph_view.specs.ListGraph.{plain_graph}
-use Rattle.graph_view.specs.SameGraph.{HoldsSame, SameGraph}
-use Rattle.graph_view.proofs.SameGraphLemmas.{HoldsSame-sym, HoldsSame-also, SameGraph-then}
+use Rattle.shx_term.specs.Members.{SameMembers}
+use Rattle.graph_view.specs.SameGraph.{SameGraph}
+use Rattle.shx_term.proofs.SetLemmas.{SameMembers-sym}
+use Rattle.graph_view.proofs.SameGraphLemmas.{SameMembers-also, SameGraph-then}
 use Rattle.shacl_run.specs.declared.edit.Edited.{Edited}
 use Rattle.shacl_run.specs.declared.edit.Edited.TheVariants.{Changed, Unchanged, Refused}
 use Rattle.shacl_run.specs.declared.result_row.ResultRow.{ResultRow}
@@ -29,12 +31,12 @@ use Rattle.shacl_run.specs.Edits.{edited, graph_after, is_among, is_stated, term
 use Rattle.shacl_run.specs.Evaluation.{report}
 use Rattle.shacl_run.specs.Report.{report_text}
 use Rattle.shacl_run.specs.ScriptState.{ScriptState}
-use Rattle.shacl_run.specs.Validation.{IsValidation}
+use Rattle.shacl_run.specs.inner.Validation.{IsValidation}
 use Rattle.shacl_run.proofs.LoadLemmas.{HasAlso-push}
 use Rattle.shacl_run.proofs.SameReportLemmas.{report_same}
 
 -- a test for a triple finds it in both lists or in neither
-any_same : (triples others : List Triple) → HoldsSame triples others → (t : Option Triple)
+any_same : (triples others : List Triple) → SameMembers triples others → (t : Option Triple)
     → is_among triples t ≡ is_among others t
 any_same triples others same None = refl
 any_same triples others same (Some t) =
@@ -47,7 +49,7 @@ any_same triples others same (Some t) =
 module _ (g h : Graph) (t : TermTriple) (same : SameGraph g h) where
   is_stated-same : is_stated h t ≡ is_stated g t
   is_stated-same =
-      any_same h.triples g.triples (HoldsSame-sym same.triples) (numbered h.terms t)
+      any_same h.triples g.triples (SameMembers-sym same.triples) (numbered h.terms t)
       ∙ ap (λ terms. is_among g.triples (numbered terms t)) (sym same.terms)
 
   -- the same comes of an insertion into graphs that are the same
@@ -63,11 +65,11 @@ module _ (g h : Graph) (t : TermTriple) (same : SameGraph g h) where
       (if nat_le most_triples (count i) || nat_lt most_terms (length_with (terms i))
       then Refused else Changed)
 
-also-some : (triples others : List Triple) → HoldsSame triples others → (t : Option Triple)
-    → HoldsSame (triples ++ option_to_list t) (others ++ option_to_list t)
+also-some : (triples others : List Triple) → SameMembers triples others → (t : Option Triple)
+    → SameMembers (triples ++ option_to_list t) (others ++ option_to_list t)
 also-some triples others same None = simp append-nil same
 also-some triples others same (Some t) =
-    HoldsSame-also t same (HasAlso-push triples t) (HasAlso-push others t)
+    SameMembers-also t same (HasAlso-push triples t) (HasAlso-push others t)
 
 -- graphs that are the same stay so after an edit of both
 pub SameGraph-after : (outcome : Edited) (g h : Graph) (t : TermTriple) → SameGraph g h
@@ -78,7 +80,7 @@ SameGraph-after Changed g h t same =
     let more = option_to_list (numbered (terms_with g t) t) in
     record {
       terms = ap (λ (terms : List Term). with_terms terms (terms_of (t ∷ []))) same.terms;
-      triples = subst (λ o. HoldsSame (g.triples ++ more) (h.triples ++ option_to_list o)) it
+      triples = subst (λ o. SameMembers (g.triples ++ more) (h.triples ++ option_to_list o)) it
           (also-some g.triples h.triples same.triples (numbered (terms_with g t) t));
       count =
           length-append g.triples more

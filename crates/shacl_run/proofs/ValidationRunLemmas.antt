@@ -14,7 +14,7 @@ use Rattle.shacl_run.specs.declared.status.Status.{Status}
 use Rattle.shacl_run.specs.declared.status.Status.TheVariants.{InputFault}
 use Rattle.shacl_run.specs.declared.stop.Stop.{Stop}
 use Rattle.shacl_run.specs.declared.stop.Stop.TheVariants.{Input, Write, Memory}
-use Rattle.shacl_run.specs.Ends.{Ends}
+use Rattle.shacl_run.specs.inner.Ends.{Ends}
 use Rattle.shacl_run.specs.Evaluation.{report}
 use Rattle.shacl_run.specs.Run.{Output, Opening, behind, ending, output_from, validation_output, script_text}
 use Rattle.shacl_run.specs.Run.{fed_text}
@@ -24,8 +24,8 @@ use Rattle.shacl_run.specs.RunClauses.{StopsFed}
 use Rattle.shacl_run.specs.Script.{said_text, answers_text, state_after}
 use Rattle.shacl_run.specs.Script.Said.{reports}
 use Rattle.shacl_run.specs.ScriptState.{ScriptState}
-use Rattle.shacl_run.specs.Serving.{due_at, Prefixed, PutsReport}
-use Rattle.shacl_run.specs.Stops.{stop_status}
+use Rattle.shacl_run.specs.inner.Serving.{due_at, Prefixed, PutsReport}
+use Rattle.shacl_run.specs.inner.Stops.{stop_status}
 use Rattle.shacl_run.proofs.EndLemmas.{Ends-memory, Ends-short, Ends-whole}
 use Rattle.shacl_run.proofs.ServingLemmas.{rows_answered, rows_quiet}
 

@@ -6,7 +6,7 @@ use Rattle.std.specs.List.{list_all}
 use Rattle.std.specs.Option.{option_map}
 use Rattle.shx_term.specs.declared.vocabulary.TheConstants.{SH_PATH, SH_TARGET_NODE, SH_HAS_VALUE}
 use Rattle.shx_term.specs.declared.term.Term.{Term}
-use Rattle.shx_term.specs.declared.term.Term.TheVariants.{Iri, Blank}
+use Rattle.shx_term.specs.declared.term.Term.TheVariants.{Blank}
 use Rattle.shx_term.specs.declared.triple.Triple.{Triple}
 use Rattle.shx_term.specs.IdOrder.{in_term_order}
 use Rattle.shx_term.specs.TermKinds.{is_iri}

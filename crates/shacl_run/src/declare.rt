@@ -2,7 +2,7 @@
 ghost use Rattle.std.specs.Prelude.{◌≡◌, ◌≤◌, None, Some, length, MatchOption, IfSome, IfOk, IfErr};
 ghost use Rattle.shx_term.specs.Limits.{AreUsable};
 ghost use Rattle.shacl_run.specs.Declarations.{declared_by};
-ghost use Rattle.shacl_run.specs.Declares.{Declares, RefusesShapes};
+ghost use Rattle.shacl_run.specs.inner.Declares.{Declares, RefusesShapes};
 ghost use Rattle.shacl_run.specs.Readings.{IsKnownDocument};
 
 use crate::document::read_triples;

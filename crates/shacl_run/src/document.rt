@@ -2,7 +2,7 @@
 ghost use Rattle.std.specs.Prelude.{◌≡◌, ◌≤◌, Some, length, IfOk, IfErr, codes};
 ghost use Rattle.iri_resolve.specs.Resolution.{IsAbsolute};
 ghost use Rattle.shacl_run.specs.Readings.{IsKnownDocument, IsReadAs, States, text_base};
-ghost use Rattle.shacl_run.specs.Refusal.{RefusesAs};
+ghost use Rattle.shacl_run.specs.inner.Refusal.{RefusesAs};
 
 use crate::refusal::{Refusal, TextFault};
 use shx_term::{IriText, Limits, Memory, Pool, Scope, Triple};

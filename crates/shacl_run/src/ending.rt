@@ -1,9 +1,9 @@
 //! How a run ends.
 ghost use Rattle.std.specs.Prelude.{◌≡◌, ℕ, Some};
-ghost use Rattle.shacl_run.specs.Ends.{Ends};
+ghost use Rattle.shacl_run.specs.inner.Ends.{Ends};
 ghost use Rattle.shacl_run.specs.Run.{faulty, status_of_rows};
 ghost use Rattle.shacl_run.specs.Status.{IsReported};
-ghost use Rattle.shacl_run.specs.Stops.{end_status};
+ghost use Rattle.shacl_run.specs.inner.Stops.{end_status};
 
 use crate::refusal::TextFault;
 use crate::result_row::ResultRow;

@@ -3,7 +3,7 @@ ghost use Rattle.std.specs.Prelude.{◌≡◌, ◌≤◌, false, length, IfOk, I
 ghost use Rattle.graph_view.specs.Graph.{graph_of};
 ghost use Rattle.graph_view.specs.SameGraph.{SameGraph};
 ghost use Rattle.graph_view.specs.ListGraph.{plain_graph};
-ghost use Rattle.shacl_run.specs.Declares.{Opens, RefusesData};
+ghost use Rattle.shacl_run.specs.inner.Declares.{Opens, RefusesData};
 ghost use Rattle.shacl_run.specs.Readings.{IsKnownDocument};
 
 use crate::declare::Declared;

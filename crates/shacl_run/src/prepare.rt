@@ -5,7 +5,7 @@ ghost use Rattle.shx_outside.specs.Told.{StaysAdmitted, SameTexts, OthersStay};
 ghost use Rattle.shx_term.specs.Limits.{AreUsable};
 ghost use Rattle.text_input.specs.TextRead.{ReadsWhole, IsTooLong, TakesWithin};
 ghost use Rattle.shx_term.specs.declared.fault_codes.TheConstants.{TEXT_TOO_LONG};
-ghost use Rattle.shacl_run.specs.Prepared.{Prepares, IsFresh, IsReadToEnd, StopCause};
+ghost use Rattle.shacl_run.specs.inner.Prepared.{Prepares, IsFresh, IsReadToEnd, StopCause};
 ghost use Rattle.shacl_run.specs.Readings.{AreRight, Readings};
 
 use crate::declare::declare;

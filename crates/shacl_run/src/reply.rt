@@ -2,10 +2,10 @@
 ghost use Rattle.std.specs.Prelude.{◌≡◌, ◌<◌, ◌+◌, ◌-◌, ◌^◌, IfOk};
 ghost use Rattle.shx_term.specs.declared.limits.Limits.{Limits as LimitsOf};
 ghost use Rattle.report_write.specs.Writes.{Writes};
-ghost use Rattle.shacl_run.specs.Reply.{reply_text, Replies};
+ghost use Rattle.shacl_run.specs.inner.Reply.{reply_text, Replies};
 ghost use Rattle.shacl_run.specs.Script.{command_step, refusal, script_step};
 ghost use Rattle.shacl_run.specs.ScriptState.{ScriptState};
-ghost use Rattle.shacl_run.specs.Validation.{IsValidation};
+ghost use Rattle.shacl_run.specs.inner.Validation.{IsValidation};
 
 use crate::edit::{Edited, insert};
 use crate::evaluation::evaluate;

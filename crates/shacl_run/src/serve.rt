@@ -5,14 +5,14 @@ ghost use Rattle.shx_outside.specs.Told.{IsAtEnd, OthersStay};
 ghost use Rattle.shx_term.specs.declared.limits.Limits.{Limits as LimitsOf};
 ghost use Rattle.text_input.specs.TextRead.{TakesWithin};
 ghost use Rattle.shacl_run.specs.declared.status.Status.TheVariants.{InputFault};
-ghost use Rattle.shacl_run.specs.Ends.{Ends};
+ghost use Rattle.shacl_run.specs.inner.Ends.{Ends};
 ghost use Rattle.shacl_run.specs.Run.{fed_text, status_of_state};
 ghost use Rattle.shacl_run.specs.RunClauses.{StopsFed};
 ghost use Rattle.shacl_run.specs.ScriptState.{ScriptState};
-ghost use Rattle.shacl_run.specs.Serving.{due_at, LastStatus};
-ghost use Rattle.shacl_run.specs.Validation.{IsNew, IsValidation};
+ghost use Rattle.shacl_run.specs.inner.Serving.{due_at, LastStatus};
+ghost use Rattle.shacl_run.specs.inner.Validation.{IsNew, IsValidation};
 ghost use Rattle.shacl_run.specs.Status.{IsReported};
-ghost use Rattle.shacl_run.specs.Stops.{end_status};
+ghost use Rattle.shacl_run.specs.inner.Stops.{end_status};
 
 use crate::ending::{refuse, status_of_rows};
 use crate::evaluation::evaluate;

@@ -5,7 +5,7 @@ ghost use Rattle.std.specs.List.{list_all};
 ghost use Rattle.shx_term.specs.IdOrder.{in_term_order};
 ghost use Rattle.shacl_run.specs.Shapes.{each_some, shapes_of, shape_at, is_built, has_value_of, target_at};
 ghost use Rattle.shacl_run.specs.Shapes.{is_no_blank_node};
-ghost use Rattle.graph_view.specs.SameGraph.{HoldsSame};
+ghost use Rattle.shx_term.specs.Members.{SameMembers};
 
 use crate::plan::{Constraint, Constraints, HasValue, Shape, Target, Targets};
 use graph_view::{GraphView, Reads};
@@ -20,7 +20,7 @@ pub fn read_shapes<V: GraphView>(
     view: &V,
     triples: &[Triple],
 ) -> Result<Option<Vec<Shape>>, Memory>
-    requires { HoldsSame triples.now (V.graph view.now).triples }
+    requires { SameMembers triples.now (V.graph view.now).triples }
     ensures { IfOk result (λ shapes. option_map (λ s. s.items) shapes ≡ shapes_of (V.graph view.now)) }
 {
     if !all_built(view.pool(), triples) {

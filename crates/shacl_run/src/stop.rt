@@ -1,5 +1,5 @@
 ghost use Rattle.std.specs.Prelude.{◌≡◌};
-ghost use Rattle.shacl_run.specs.Stops.{stop_status};
+ghost use Rattle.shacl_run.specs.inner.Stops.{stop_status};
 
 use crate::status::Status;
 use report_write::WriteFault;

@@ -2,10 +2,10 @@ ghost use Rattle.std.specs.Prelude.{◌≡◌, ◌≢◌, ◌+◌, ◌<◌, ◌^
 ghost use Rattle.shx_outside.specs.declared.role.Role.TheVariants.{Script};
 ghost use Rattle.shx_outside.specs.Told.{IsAtEnd, OthersStay};
 ghost use Rattle.text_input.specs.ScriptReader.{left_of, MetEnd, ReadsLine, KeepsCount, StopsInLine};
-ghost use Rattle.shacl_run.specs.Prepared.{StopCause};
+ghost use Rattle.shacl_run.specs.inner.Prepared.{StopCause};
 ghost use Rattle.shacl_run.specs.ScriptState.{ScriptState};
-ghost use Rattle.shacl_run.specs.Serving.{TakesLine, TakesBytes};
-ghost use Rattle.shacl_run.specs.Validation.{IsValidation};
+ghost use Rattle.shacl_run.specs.inner.Serving.{TakesLine, TakesBytes};
+ghost use Rattle.shacl_run.specs.inner.Validation.{IsValidation};
 
 use crate::reply::{Reply, refuse_line, reply_to};
 use crate::stop::Stop;

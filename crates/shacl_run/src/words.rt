@@ -2,7 +2,7 @@
 ghost use Rattle.std.specs.Prelude.{◌≡◌, ◌&&◌, Some, None, if◌then◌else◌};
 ghost use Rattle.std.specs.Option.{option_map};
 ghost use Rattle.shacl_run.specs.Words.{command_words, is_file_word, two_files, three_files};
-ghost use Rattle.shacl_run.specs.Files.{files_of};
+ghost use Rattle.shacl_run.specs.inner.Files.{files_of};
 
 use shx_term::Text;
 

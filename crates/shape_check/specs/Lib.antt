@@ -1,6 +1,5 @@
 pub mod Faults
-pub mod Judging
 pub mod Kinds
 pub mod Laws
 pub mod Restrictions
-pub mod Told
+pub mod inner

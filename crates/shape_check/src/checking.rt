@@ -3,7 +3,7 @@ ghost use Rattle.std.specs.Prelude.{◌≡◌, List, [], ◌∷◌, flat_map, ma
 ghost use Rattle.shx_term.specs.declared.term.Term.{Term};
 ghost use Rattle.shape_decl.specs.Declarations.{told_decl};
 ghost use Rattle.shape_check.specs.Faults.{Tells, faults, faults_of, first};
-ghost use Rattle.shape_check.specs.Judging.{faults_by_in, faults_in};
+ghost use Rattle.shape_check.specs.inner.Judging.{faults_by_in, faults_in};
 
 use crate::judged::Judged;
 use crate::lists::list_parameters;

@@ -4,7 +4,7 @@ ghost use Rattle.std.specs.Option.{option_map};
 ghost use Rattle.shape_decl.specs.Declarations.{told_values};
 ghost use Rattle.shape_decl.specs.PathReadings.{told_reading};
 ghost use Rattle.shape_check.specs.Faults.{first, first_if, is_broken, is_too_deep};
-ghost use Rattle.shape_check.specs.Judging.{offenders_in};
+ghost use Rattle.shape_check.specs.inner.Judging.{offenders_in};
 ghost use Rattle.shape_check.specs.Restrictions.{restriction_of};
 
 use crate::judged::Judged;

@@ -1,7 +1,7 @@
 //! What is asked of the values of a predicate (SHACL, sections 2 to 4).
 ghost use Rattle.std.specs.Prelude.{◌≡◌, map};
 ghost use Rattle.shape_check.specs.Restrictions.{property_parameters, restriction_among, restriction_of};
-ghost use Rattle.shape_check.specs.Told.{told_restriction};
+ghost use Rattle.shape_check.specs.inner.Told.{told_restriction};
 
 use crate::{Expected, ValueKind};
 use shx_term::Id;

@@ -1,17 +1,17 @@
 -- As many triples are found with a predicate as are held, each once.
-use Rattle.std.specs.Prelude.{◌≡◌, ℕ, Bool, true, false, List, length}
+use Rattle.std.specs.Prelude.{◌≡◌, ℕ, true, false, List, length}
 use Rattle.std.specs.declared.cmp.Ordering.TheVariants.{Less}
 use Rattle.std.specs.Ordering.{eq_by_cmp}
 use Rattle.std.specs.Cmp.{eq_by_cmp_equiv}
 use Rattle.std.specs.List.{IsDistinct}
 use Rattle.std.specs.List.Sorted.{IsStrictlySortedBy}
-use Rattle.std.proofs.Common.{refl, sym, ap, ◌∙◌, subst, get_or, true≢false}
+use Rattle.std.proofs.Common.{refl, subst, get_or}
 use Rattle.std.proofs.lemmas.Map.Keys.{IsDistinct-from_apart, Less-from_sorted}
 use Rattle.shx_term.specs.declared.term.Term.{Term}
 use Rattle.shx_term.specs.declared.triple.Triple.{Triple}
 use Rattle.shx_term.specs.Triple.{same_triple}
-use Rattle.shx_term.specs.TripleLaws.{same_triple_exact}
-use Rattle.shx_term.specs.TripleOrder.{triple_cmp, in_triple_order}
+use Rattle.shx_term.specs.inner.TripleLaws.{same_triple_exact}
+use Rattle.shx_term.specs.TripleOrder.{triple_cmp}
 use Rattle.shx_term.proofs.TripleOrderLemmas.{in_triple_order_lists, triple_cmp_total}
 use Rattle.graph_view.specs.declared.key.Key.TheVariants.{Predicate}
 use Rattle.graph_view.specs.Graph.{Graph, triples_with}

@@ -8,12 +8,12 @@ use Rattle.std.proofs.lemmas.Bool.{eqb-true}
 use Rattle.std.proofs.lemmas.List.{append-nil}
 use Rattle.std.proofs.lemmas.List.Elements.{Contains-push_cases}
 use Rattle.std.proofs.lemmas.Map.Keys.{IsDistinct-push}
-use Rattle.shx_term.proofs.MemberLemmas.{none_in_empty, Contains-test}
+use Rattle.shx_term.proofs.MemberLemmas.{Contains-test}
 use Rattle.graph_view.specs.Graph.{Graph}
 use Rattle.shape_decl.specs.declared.cell.Cell.{Cell}
 use Rattle.shape_decl.specs.declared.cell.Cell.TheVariants.{End, Link, Neither}
 use Rattle.shape_decl.specs.Lists.{cell_at, IsListOf, list_of}
-use Rattle.shape_decl.proofs.ListLemmas.{IsLinked, IsDistinct-empty, few_cells, lists_read, members_are_one}
+use Rattle.shape_decl.proofs.ListLemmas.{IsLinked, few_cells, lists_read, members_are_one}
 use Rattle.shape_decl.proofs.ListLemmas.{no_list_read}
 
 -- cells lead from one node to another, past these members
@@ -53,14 +53,6 @@ module _ (cell : ℕ → Cell) where
   list_behind [] ns node at leads list = subst (λ x. IsListOf cell x ns) (sym leads) list
   list_behind (m ∷ ms) ns node at leads list =
       (leads.0, leads.1, list_behind ms ns leads.0 at leads.2 list)
-
-  pub follows_start : (head : ℕ) → Follows cell head [] [] head
-  follows_start head = record {
-    path = refl;
-    back = λ x c. absurd (none_in_empty x c);
-    cells = λ x c. absurd (none_in_empty x c);
-    distinct = IsDistinct-empty nat_eq;
-  }
 
   pub follows_on : {head : ℕ} {members seen : List ℕ} {at : ℕ} → Follows cell head members seen at
       → (member rest : ℕ) → cell at ≡ Link member rest → list_any (nat_eq at) seen ≡ false

@@ -4,12 +4,12 @@ use Rattle.shx_term.specs.IdOrder.{in_term_order}
 use Rattle.graph_view.specs.declared.key.Key.TheVariants.{Out}
 use Rattle.graph_view.specs.Graph.{Graph, objects_of, triples_of}
 use Rattle.graph_view.specs.Key.{look}
-use Rattle.graph_view.specs.SameGraph.{HoldsSame}
+use Rattle.shx_term.specs.Members.{SameMembers}
 use Rattle.graph_view.proofs.KeyLemmas.{Contains-look}
 use Rattle.graph_view.proofs.LookUpLemmas.{Contains-triples_of}
 use Rattle.graph_view.proofs.SameGraphLemmas.{numbers_same}
 
-same_among : (g : Graph) (s p : ℕ) → HoldsSame (look (triples_of g s) (Out s p)) (look g.triples (Out s p))
+same_among : (g : Graph) (s p : ℕ) → SameMembers (look (triples_of g s) (Out s p)) (look g.triples (Out s p))
 same_among g s p = record {
   each = λ t.
       let among = Contains-look (triples_of g s) (Out s p) t in

@@ -10,7 +10,7 @@ use Rattle.shape_decl.specs.declared.path_fault.PathFault.TheVariants as fault
 use Rattle.shape_decl.specs.PathForms.{form_of, parts_in}
 use Rattle.shape_decl.specs.PathReadings.{Met, unfolded, fault_of, fault_of_form, unless_fault}
 use Rattle.shape_decl.specs.PathReadings.{parts_or_fault, route_at, read_unless, path_reading}
-use Rattle.shape_decl.specs.Visits.{Visit, visits, visit_fault, counted}
+use Rattle.shape_decl.specs.inner.Visits.{Visit, visits, visit_fault, counted}
 
 module _ (limits : Limits) (g : Graph) where
   -- the same nodes, each as deep as the levels that are left for it say

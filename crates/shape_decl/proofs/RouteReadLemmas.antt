@@ -9,7 +9,7 @@ use Rattle.path_eval.proofs.RouteLemmas.{route_Seq, route_Alt}
 use Rattle.graph_view.specs.Graph.{Graph}
 use Rattle.shape_decl.specs.PathForms.{PathForm, Sequence, Alternative}
 use Rattle.shape_decl.specs.PathReadings.{route_at, route_by}
-use Rattle.shape_decl.specs.Visits.{Meets}
+use Rattle.shape_decl.specs.inner.Visits.{Meets}
 
 module _ {g : Graph} {limit before after left node : ℕ} {form : PathForm}
     (met : Meets g limit before after left node form) (nodes : List ℕ) (paths : Vec Path Global)

@@ -57,7 +57,8 @@ module _ (g : Graph) (n : ℕ) (table : List ℕ) where
   )
 
   with_place : (place : Triple → ℕ)
-      → Contains (flat_map (λ p. map place (triples_with g p)) table) n ↔ IsByTriple g table (λ t. n ≡ place t)
+      → Contains (flat_map (λ p. map place (triples_with g p)) table) n
+      ↔ IsByTriple g table (λ t. n ≡ place t)
   with_place place =
       by_triple (λ p. map place (triples_with g p)) (λ t. n ≡ place t) (λ p. (
         λ c. Contains-from_map place (triples_with g p) n c,

@@ -1,7 +1,7 @@
 -- The values of a node, predicate after predicate.
 use Rattle.std.specs.Prelude.{◌≡◌, ℕ, zero, suc, ◌+◌, List, [], ◌∷◌, ◌++◌, flat_map}
 use Rattle.std.specs.List.{range_with_len}
-use Rattle.std.proofs.Common.{refl, sym, ap, ◌∙◌, arith}
+use Rattle.std.proofs.Common.{ap, ◌∙◌, arith}
 use Rattle.std.proofs.lemmas.List.{append-nil}
 use Rattle.std.proofs.lemmas.List.Concat.{flat_map-append}
 use Rattle.shx_term.specs.declared.vocabulary.TheConstants.{VOCABULARY_LEN}

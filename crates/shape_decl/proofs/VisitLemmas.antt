@@ -11,7 +11,7 @@ use Rattle.shape_decl.specs.declared.path_fault.PathFault.{PathFault}
 use Rattle.shape_decl.specs.declared.path_fault.PathFault.TheVariants as fault
 use Rattle.shape_decl.specs.PathForms.{PathForm, form_of, parts_in}
 use Rattle.shape_decl.specs.PathReadings.{fault_of_form, unless_fault, route_at, route_by}
-use Rattle.shape_decl.specs.Visits.{Visit, visits, row_visits, visit_fault, counted, Meets}
+use Rattle.shape_decl.specs.inner.Visits.{Visit, visits, row_visits, visit_fault, counted, Meets}
 
 -- what is counted from a node on, where a test says that it is one too deep or too many, and its form is this
 abbrev from_node : Bool → PathForm → Result ℕ PathFault → Result ℕ PathFault
@@ -49,15 +49,6 @@ node_meets g limit before (suc left) node form level few is =
       route = ap (λ f. route_by (route_at g left) node f) (sym is)
           ∙ ap (λ n. route_by (route_at g n) node form) (sym down);
     }
-
--- a node that has a form is counted by what is inside it
-pub met_inside : {g : Graph} {limit before after left node : ℕ} {form : PathForm}
-    → Meets g limit before after left node form → fault_of_form form ≡ None
-    → counted g limit before (visits g left node)
-    ≡ counted g limit after (row_visits g (left - 1) (parts_in form))
-met_inside {g} {limit} {before} {after} {left} {node} {form} met fine =
-    met.parts
-    ∙ ap (λ f. unless_fault f (counted g limit after (row_visits g (left - 1) (parts_in form)))) fine
 
 -- ---- nodes one after the other
 

@@ -1,13 +1,12 @@
 -- The declarations of a shapes graph: each shape with what is stated of it.
-use Rattle.std.specs.Prelude.{ℕ, ◌==◌, Bool, List, [], ◌∷◌, ◌++◌, map, flat_map, Option, Some, None}
-use Rattle.std.specs.List.{list_any, range_with_len}
+use Rattle.std.specs.Prelude.{ℕ, Bool, List, [], ◌∷◌, map, flat_map, Option, Some, None}
+use Rattle.std.specs.List.{range_with_len}
 use Rattle.std.specs.Option.{option_map}
 use Rattle.shx_term.specs.declared.limits.Limits.{Limits}
 use Rattle.shx_term.specs.declared.vocabulary.TheConstants.{RDFS_CLASS, SH_NODE_SHAPE, SH_PATH}
 use Rattle.shx_term.specs.declared.vocabulary.TheConstants.{VOCABULARY_LEN}
 use Rattle.graph_view.specs.Graph.{Graph, objects_of}
-use Rattle.path_eval.specs.Instances.{instance_route}
-use Rattle.path_eval.specs.Values.{path_values}
+use Rattle.path_eval.specs.Instances.{is_instance}
 use Rattle.shape_decl.specs.declared.declaration.Declared.{Declared}
 use Rattle.shape_decl.specs.declared.declaration.ListValue.{ListValue}
 use Rattle.shape_decl.specs.declared.declaration.ShapeDecl.{ShapeDecl}
@@ -63,10 +62,6 @@ least (v ∷ vs) = Some v
 
 unfoldable pub path_of : Limits → Graph → ℕ → Option RouteReading
 path_of limits g node = option_map (path_reading limits g) (least (objects_of g node SH_PATH))
-
--- whether the node is a SHACL instance of the class
-unfoldable pub is_instance : Graph → ℕ → ℕ → Bool
-is_instance g node class = list_any (λ c. c == class) (path_values g instance_route node)
 
 abbrev pub declaration_of : Limits → Graph → ℕ → Declaration
 declaration_of limits g node = record {

@@ -4,5 +4,4 @@ pub mod PathForms
 pub mod PathReadings
 pub mod Shapes
 pub mod Tables
-pub mod ToldForm
-pub mod Visits
+pub mod inner

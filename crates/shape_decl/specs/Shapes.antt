@@ -1,8 +1,6 @@
 -- Which nodes are shapes (SHACL, section 2).
-use Rattle.std.specs.Prelude.{◌≡◌, ℕ, Bool, true, false, List, [], ◌∷◌, ◌++◌, map, flat_map, filter, Contains}
-use Rattle.std.specs.Prelude.{Option, Some, None, slice_get, ◌⊎◌}
-use Rattle.shx_term.specs.declared.term.Term.{Term}
-use Rattle.shx_term.specs.declared.term.Term.TheVariants.{Iri, Blank, Lit}
+use Rattle.std.specs.Prelude.{◌≡◌, ℕ, true, List, [], ◌∷◌, ◌++◌, map, flat_map, filter, Contains}
+use Rattle.std.specs.Prelude.{Option, Some, None, ◌⊎◌}
 use Rattle.shx_term.specs.declared.triple.Triple.{Triple}
 use Rattle.shx_term.specs.declared.vocabulary.TheConstants.{SH_NODE_SHAPE, SH_PROPERTY_SHAPE}
 use Rattle.shx_term.specs.IdOrder.{id_cmp, in_term_order}

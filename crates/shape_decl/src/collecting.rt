@@ -9,7 +9,6 @@ use crate::ShapeDecl;
 use crate::declaring::declare;
 use crate::shapes::find_shapes;
 use graph_view::{GraphView, Reads};
-use path_eval::instance_path;
 use shx_term::vocabulary::SH_SPARQL;
 use shx_term::{Limits, Memory};
 use std::alloc::Global;
@@ -25,10 +24,10 @@ pub fn collect<V: GraphView>(
     ensures { IfOk result (λ decls.
         map told_decl decls.items ≡ declarations limits.now (V.graph graph.now)) }
 {
-    let to_classes = instance_path(alloc)?;
+    let mut reads = Reads::new(alloc);
     let mut decls = Vec::new(alloc);
     for node in &find_shapes(alloc, graph)? {
-        decls.push(declare(alloc, graph, &to_classes, limits, *node)?)?;
+        decls.push(declare(alloc, graph, limits, *node, &mut reads)?)?;
     }
     Ok(decls)
 }

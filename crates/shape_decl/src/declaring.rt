@@ -1,38 +1,35 @@
 //! What a graph states of a shape.
-ghost use Rattle.std.specs.Prelude.{◌≡◌, ◌++◌, [], map, flat_map, IfOk, OnOk};
+ghost use Rattle.std.specs.Prelude.{◌≡◌, ◌++◌, map, IfOk, OnOk};
 ghost use Rattle.std.specs.Option.{option_map};
 ghost use Rattle.graph_view.specs.Graph.{objects_of, triples_of};
-ghost use Rattle.graph_view.specs.Key.{look};
-ghost use Rattle.path_eval.specs.Instances.{instance_route};
-ghost use Rattle.path_eval.specs.Route.{route_of};
 ghost use Rattle.shape_decl.specs.PathReadings.{told_reading};
 ghost use Rattle.shape_decl.specs.Declarations.{declaration_of, told_decl, told_values, told_list};
 ghost use Rattle.shape_decl.specs.Declarations.{list_reading, lists_of, path_of, unless_empty, values_of};
 
 use crate::tables::list_predicates;
 use crate::{Declared, ListValue, PathReading, ShapeDecl, read_list, read_path};
-use graph_view::{GraphView, Key, Reads, touches};
-use path_eval::{Path, values};
+use graph_view::{GraphView, Key, Reads, objects_among};
+use path_eval::classes;
 use shx_term::vocabulary::{RDFS_CLASS, SH_NODE_SHAPE, SH_PATH, VOCABULARY_LEN};
 use shx_term::{Id, Limits, Memory, Triple};
 use std::alloc::Global;
 
-/// What a graph states of a node, where `to_classes` is the path to the classes of a node. It asks the
-/// graph once for the triples of the node, and goes over them once for each predicate of the vocabulary.
+/// What a graph states of a node. It asks the graph once for the triples of the node, and goes over them once
+/// for each predicate of the vocabulary. What is read is not asked for: `reads` is made empty for each node,
+/// so that one set serves them all.
 pub(crate) fn declare<V: GraphView>(
     alloc: Global,
     graph: &V,
-    to_classes: &Path,
     limits: &Limits,
     node: Id,
+    reads: &mut Reads,
 ) -> Result<ShapeDecl, Memory>
-    requires { route_of to_classes.now ≡ instance_route }
     ensures { IfOk result (λ decl.
         told_decl decl ≡ declaration_of limits.now (V.graph graph.now) node) }
 {
-    let mut reads = Reads::new(alloc);
-    let triples = graph.triples_of(alloc, node, &mut reads)?;
-    let classes = values(alloc, graph, to_classes, node, &mut reads)?;
+    reads.clear();
+    let triples = graph.triples_of(alloc, node, reads)?;
+    let classes = classes(alloc, graph, node, reads)?;
     Ok(ShapeDecl {
         node,
         is_node_shape: classes.contains(&SH_NODE_SHAPE),
@@ -56,16 +53,6 @@ fn values_among<V: GraphView>(
 {
     let found = objects_among(alloc, triples, &Key::Out(node, p))?;
     Ok(graph.pool().in_order(found))
-}
-
-fn objects_among(alloc: Global, triples: &[Triple], key: &Key) -> Result<Vec<Id>, Memory>
-    ensures { IfOk result (λ found. found.items ≡ map (λ t. t.o) (look triples.now key.now)) }
-{
-    triples
-        .iter()
-        .filter(|t| touches(t, key))
-        .map(|t| t.o)
-        .collect(alloc)
 }
 
 fn declared_values<V: GraphView>(

@@ -4,7 +4,7 @@ ghost use Rattle.graph_view.specs.Graph.{triples_of};
 ghost use Rattle.shape_decl.specs.Lists.{list_of};
 ghost use Rattle.shape_decl.specs.PathForms.{Alternative, Formless, Sequence, several};
 ghost use Rattle.shape_decl.specs.PathForms.{form_by_triple, form_by_triples, form_of};
-ghost use Rattle.shape_decl.specs.ToldForm.{told_form};
+ghost use Rattle.shape_decl.specs.inner.ToldForm.{told_form};
 
 use crate::form::Form;
 use crate::read_list;

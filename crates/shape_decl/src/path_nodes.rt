@@ -3,8 +3,8 @@ ghost use Rattle.std.specs.Prelude.{◌≡◌, ◌<◌, [], ◌∷◌, map, Ok, 
 ghost use Rattle.path_eval.specs.Route.{route_of};
 ghost use Rattle.shape_decl.specs.declared.path_fault.PathFault.{PathFault};
 ghost use Rattle.shape_decl.specs.PathReadings.{route_at};
-ghost use Rattle.shape_decl.specs.ToldForm.{told_form};
-ghost use Rattle.shape_decl.specs.Visits.{counted, row_visits, visits, Meets};
+ghost use Rattle.shape_decl.specs.inner.ToldForm.{told_form};
+ghost use Rattle.shape_decl.specs.inner.Visits.{counted, row_visits, visits, Meets};
 
 use crate::PathFault;
 use crate::form::Form;

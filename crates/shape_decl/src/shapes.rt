@@ -4,7 +4,6 @@ ghost use Rattle.shx_term.specs.declared.triple.Triple.{Triple};
 ghost use Rattle.graph_view.specs.Graph.{triples_with};
 ghost use Rattle.path_eval.specs.declared.direction.Direction.{Direction};
 ghost use Rattle.path_eval.specs.Instances.{instance_route};
-ghost use Rattle.path_eval.specs.Route.{Route, route_of};
 ghost use Rattle.path_eval.specs.Values.{nodes_reached};
 ghost use Rattle.shape_decl.specs.Lists.{list_of};
 ghost use Rattle.shx_term.specs.TermKinds.{is_node};
@@ -14,7 +13,7 @@ ghost use Rattle.shape_decl.specs.Shapes.{candidates, subjects_with};
 use crate::read_list;
 use crate::tables::{shape_classes, shape_list_predicates, shape_predicates, subject_predicates};
 use graph_view::{GraphView, Reads};
-use path_eval::{Path, instance_path, values};
+use path_eval::instances;
 use shx_term::{Id, Memory, Pool, Term, Triple};
 use std::alloc::Global;
 
@@ -34,8 +33,7 @@ fn gather<V: GraphView>(alloc: Global, graph: &V) -> Result<Vec<Id>, Memory>
     ensures { IfOk result (λ found. found.items ≡ candidates (V.graph graph.now)) }
 {
     let mut found = Vec::new(alloc);
-    let instances = Path::Inverse(Box::new(alloc, instance_path(alloc)?)?);
-    gather_instances(alloc, graph, &instances, shape_classes(), &mut found)?;
+    gather_instances(alloc, graph, shape_classes(), &mut found)?;
     gather_subjects(alloc, graph, subject_predicates(), &mut found)?;
     gather_objects(alloc, graph, shape_predicates(), &mut found)?;
     gather_members(alloc, graph, shape_list_predicates(), &mut found)?;
@@ -45,16 +43,14 @@ fn gather<V: GraphView>(alloc: Global, graph: &V) -> Result<Vec<Id>, Memory>
 fn gather_instances<V: GraphView>(
     alloc: Global,
     graph: &V,
-    instances: &Path,
     classes: &[Id],
     found: &mut Vec<Id>,
 ) -> Result<(), Memory>
-    requires { route_of instances.now ≡ Route.turned instance_route }
     ensures { OnOk result (found.new.items ≡ found.old.items
         ++ flat_map (nodes_reached (V.graph graph.now) Direction.Backward instance_route) classes.now) }
 {
     for class in classes {
-        let nodes = values(alloc, graph, instances, *class, &mut Reads::new(alloc))?;
+        let nodes = instances(alloc, graph, *class, &mut Reads::new(alloc))?;
         found.extend_from_slice(&nodes)?;
     }
     Ok(())

@@ -9,7 +9,7 @@ use Rattle.shx_outside.specs.declared.places.Places.{Places}
 use Rattle.shx_outside.specs.declared.role.Role.{Role}
 use Rattle.shx_outside.specs.declared.role.Role.TheVariants.{Shapes, Data, Script}
 use Rattle.shx_outside.specs.MemoryInputs.{MemoryTexts, left_for, IsPieceOf}
-use Rattle.shx_outside.specs.Places.{bytes_at, place_of, with_place, moved_on, left_at, state_of}
+use Rattle.shx_outside.specs.inner.Places.{bytes_at, place_of, with_place, moved_on, left_at, state_of}
 use Rattle.shx_outside.specs.Told.{Took, IsAtEnd}
 use Rattle.shx_outside.proofs.PlaceLemmas.{place_of-with_place}
 

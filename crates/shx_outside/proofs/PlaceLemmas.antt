@@ -7,7 +7,8 @@ use Rattle.shx_outside.specs.declared.places.Place.{Place}
 use Rattle.shx_outside.specs.declared.places.Places.{Places}
 use Rattle.shx_outside.specs.declared.role.Role.{Role}
 use Rattle.shx_outside.specs.declared.role.Role.TheVariants.{Shapes, Data, Script}
-use Rattle.shx_outside.specs.Places.{bytes_at, place_of, with_place, moved_on, left_at, IsWithin, AreWithin}
+use Rattle.shx_outside.specs.inner.Places.{bytes_at, place_of, with_place, moved_on, left_at, IsWithin}
+use Rattle.shx_outside.specs.inner.Places.{AreWithin}
 
 pub place_of-with_place : (places : Places) (role : Role) (place : Option Place)
     → place_of (with_place places role place) role ≡ place

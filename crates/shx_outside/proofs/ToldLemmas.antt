@@ -3,7 +3,7 @@ use Rattle.std.proofs.Common.{ℕ, ◌+◌, List, [], ◌++◌, Option, Some, re
 use Rattle.std.proofs.Common.{append_assoc, append-nil}
 use Rattle.shx_outside.specs.declared.role.Role.{Role}
 use Rattle.shx_outside.specs.Outside.{InputState}
-use Rattle.shx_outside.specs.Told.{Grew, Fell, Took, StaysAdmitted, SameTexts, OthersStay}
+use Rattle.shx_outside.specs.Told.{Grew, Fell, Took, StaysAdmitted, OthersStay}
 
 pub Grew-none : (held : Option (List ℕ)) → Grew held held []
 Grew-none held = record { told = λ xs is. is ∙ ap Some (sym (append-nil xs)) }
@@ -25,9 +25,6 @@ Fell-then first next = record {
       (two.0, two.1, omega arith);
 }
 
-pub Took-none : (rest : Option (List ℕ)) → Took rest rest []
-Took-none rest = record { told = λ left is. (left, is, refl) }
-
 pub Took-then : {r0 r1 r2 : Option (List ℕ)} {xs ys : List ℕ}
     → Took r0 r1 xs → Took r1 r2 ys → Took r0 r2 (xs ++ ys)
 Took-then {xs = xs} {ys = ys} first next = record {
@@ -46,15 +43,6 @@ OthersStay-then first next = record {
   opened = λ other apart. next.opened other apart ∙ first.opened other apart;
   rest = λ other apart. next.rest other apart ∙ first.rest other apart;
 }
-
-pub SameTexts-same : (state : InputState) → SameTexts state state
-SameTexts-same state = record { each = λ name. refl }
-
-pub SameTexts-then : {s0 s1 s2 : InputState} → SameTexts s0 s1 → SameTexts s1 s2 → SameTexts s0 s2
-SameTexts-then first next = record { each = λ name. next.each name ∙ first.each name }
-
-pub StaysAdmitted-same : (admits : Role → List ℕ → Type 0) → StaysAdmitted admits admits
-StaysAdmitted-same admits = record { each = λ role name admitted. admitted }
 
 pub StaysAdmitted-then : {a0 a1 a2 : Role → List ℕ → Type 0}
     → StaysAdmitted a0 a1 → StaysAdmitted a1 a2 → StaysAdmitted a0 a2

@@ -4,5 +4,5 @@ pub mod FileInputs
 pub mod MemoryInputs
 pub mod MemorySink
 pub mod Outside
-pub mod Places
 pub mod Told
+pub mod inner

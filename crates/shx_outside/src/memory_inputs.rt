@@ -26,7 +26,7 @@ pub struct MemoryInputs {
 impl Model for MemoryInputs {
     ghost use Rattle.std.specs.Prelude.{◌<◌};
     ghost use Rattle.shx_outside.specs.MemoryInputs.{MemoryTexts};
-    ghost use Rattle.shx_outside.specs.Places.{state_of, AreWithin};
+    ghost use Rattle.shx_outside.specs.inner.Places.{state_of, AreWithin};
 
     ghost Value = { MemoryTexts };
 

@@ -1,6 +1,6 @@
 ghost use Rattle.std.specs.Prelude.{◌≡◌, ◌+◌, ◌≤◌, length, position, is_some, IsSome};
 ghost use Rattle.shx_outside.specs.MemoryInputs.{is_named, is_held, bytes_named};
-ghost use Rattle.shx_outside.specs.Places.{no_places, place_of, with_place, left_at, IsWithin};
+ghost use Rattle.shx_outside.specs.inner.Places.{no_places, place_of, with_place, left_at, IsWithin};
 
 use crate::{NamedText, Role};
 

@@ -10,7 +10,7 @@ use Rattle.std.proofs.lemmas.List.Quantifiers.{position-Some}
 use Rattle.std.proofs.lemmas.List.Sums.{fold-append}
 use Rattle.shx_term.specs.declared.term.Term.{Term}
 use Rattle.shx_term.specs.TermOrder.{same_term}
-use Rattle.shx_term.specs.TermOrderLaws.{same_term_itself}
+use Rattle.shx_term.specs.inner.TermOrderLaws.{same_term_itself}
 use Rattle.shx_term.specs.Pool.{is_held, with_term, with_terms}
 use Rattle.shx_term.specs.TripleTerms.{number_in}
 

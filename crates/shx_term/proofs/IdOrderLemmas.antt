@@ -11,7 +11,7 @@ use Rattle.shx_term.specs.InOrder.{IsExactOrder, Lists}
 use Rattle.shx_term.proofs.InOrderLemmas.{exact-then, in_order_lists, in_order_is, in_order_same}
 use Rattle.shx_term.proofs.InOrderLemmas.{in_order_alike}
 use Rattle.shx_term.specs.TermOrder.{term_cmp}
-use Rattle.shx_term.specs.TermOrderLaws.{term_cmp_total}
+use Rattle.shx_term.specs.inner.TermOrderLaws.{term_cmp_total}
 use Rattle.shx_term.specs.IdOrder.{id_cmp, in_term_order}
 
 pub id_cmp_total : (terms : List Term) → IsTotalOrder (id_cmp terms)

@@ -1,13 +1,12 @@
 -- Triples whose terms are held have numbers, which stay where more terms are entered.
-use Rattle.std.specs.Prelude.{◌≡◌, ℕ, ◌<◌, true, List, [], ◌∷◌, ◌++◌, length, Some, Contains}
+use Rattle.std.specs.Prelude.{◌≡◌, ℕ, ◌<◌, true, List, [], ◌∷◌, ◌++◌, length, Some}
 use Rattle.std.proofs.Common.{refl}
 use Rattle.shx_term.specs.declared.term.Term.{Term}
 use Rattle.shx_term.specs.declared.triple.Triple.{Triple}
 use Rattle.shx_term.specs.declared.triple.TermTriple.{TermTriple}
-use Rattle.shx_term.specs.Pool.{is_held, with_term, with_terms}
-use Rattle.shx_term.specs.TripleTerms.{terms_of, number_in, numbered}
-use Rattle.shx_term.proofs.HeldLemmas.{number_stays, number_in-known, number_from_place, all_held}
-use Rattle.shx_term.proofs.MemberLemmas.{Contains-head, Contains-tail, Contains-flat_map, each_passes}
+use Rattle.shx_term.specs.Pool.{is_held, with_term}
+use Rattle.shx_term.specs.TripleTerms.{number_in, numbered}
+use Rattle.shx_term.proofs.HeldLemmas.{number_stays, number_in-known, number_from_place}
 
 -- the numbers of a triple of terms, each with a term
 pub record HasNumbers (terms : List Term) (t : TermTriple) : Type 0 where
@@ -34,23 +33,6 @@ numbered-held terms t held =
       p = p.1;
       o = o.1;
     }
-
--- after their terms are entered each of a list of triples has numbers
-pub numbered-entered : (terms : List Term) (ts : List TermTriple) (t : TermTriple)
-    → Contains ts t → HasNumbers (with_terms terms (terms_of ts)) t
-numbered-entered terms ts t c =
-    let all = with_terms terms (terms_of ts) in
-    let parts : TermTriple → List Term = λ u. u.s ∷ (u.p ∷ (u.o ∷ [])) in
-    let held : (x : Term) → Contains (parts t) x → is_held all x ≡ true =
-    λ x d. each_passes (is_held all) (terms_of ts) (all_held terms (terms_of ts)) x
-    (Contains-flat_map parts ts t x c d) in
-    numbered-held all t (record {
-      s = held t.s (Contains-head t.s (t.p ∷ (t.o ∷ [])));
-      p = held t.p (Contains-tail t.s t.p (t.p ∷ (t.o ∷ [])) (Contains-head t.p (t.o ∷ [])));
-      o = held t.o
-          (Contains-tail t.s t.o (t.p ∷ (t.o ∷ []))
-          (Contains-tail t.p t.o (t.o ∷ []) (Contains-head t.o [])));
-    })
 
 -- a triple whose terms are held keeps its numbers
 pub numbered-append : (terms more : List Term) (t : TermTriple)

@@ -8,7 +8,7 @@ use Rattle.shx_term.specs.declared.triple.Triple.{Triple}
 use Rattle.shx_term.specs.IdOrder.{id_cmp}
 use Rattle.shx_term.proofs.IdOrderLemmas.{id_cmp_total, id_cmp_exact}
 use Rattle.shx_term.specs.InOrder.{IsExactOrder}
-use Rattle.shx_term.specs.TripleLaws.{triple_is}
+use Rattle.shx_term.specs.inner.TripleLaws.{triple_is}
 use Rattle.shx_term.proofs.InOrderLemmas.{in_order_lists}
 use Rattle.shx_term.specs.TripleOrder.{triple_cmp, in_triple_order, ListsInTripleOrder}
 

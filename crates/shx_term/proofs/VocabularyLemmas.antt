@@ -29,7 +29,8 @@ HasVocabulary-take terms n long has =
     }
 
 -- and what is kept of a pool is a pool
-pub IsPool-take : (terms : List Term) (limit n : ℕ) → 62 ≤ n → IsPool terms limit → IsPool (take n terms) limit
+pub IsPool-take : (terms : List Term) (limit n : ℕ) → 62 ≤ n → IsPool terms limit
+    → IsPool (take n terms) limit
 IsPool-take terms limit n long pool = record {
   within = rw (length-take n terms) (omega (arith, pool.within));
   limit_fits = pool.limit_fits;

@@ -1,4 +1,3 @@
-pub mod Appended
 pub mod Characters
 pub mod Datatypes
 pub mod FaultCodes
@@ -10,14 +9,12 @@ pub mod MomentForm
 pub mod NumberForm
 pub mod Pool
 pub mod Spelling
-pub mod TermHash
 pub mod TermKinds
 pub mod TermOrder
-pub mod TermOrderLaws
 pub mod Triple
-pub mod TripleLaws
 pub mod TripleOrder
 pub mod TripleTerms
 pub mod ValidTriples
 pub mod Vocabulary
 pub mod WideLiterals
+pub mod inner

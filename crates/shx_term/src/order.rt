@@ -153,7 +153,7 @@ fn tag(term: &Term) -> &str
 impl PartialEq for Term {
     ghost use Rattle.std.specs.Cmp;
     ghost use Rattle.shx_term.specs.TermOrder.{same_term};
-    ghost use Rattle.shx_term.specs.TermOrderLaws.{same_term_equiv};
+    ghost use Rattle.shx_term.specs.inner.TermOrderLaws.{same_term_equiv};
 
     ghost eq = { same_term };
 
@@ -165,7 +165,7 @@ impl PartialEq for Term {
 }
 
 impl Eq for Term {
-    ghost use Rattle.shx_term.specs.TermOrderLaws.{same_term_equiv};
+    ghost use Rattle.shx_term.specs.inner.TermOrderLaws.{same_term_equiv};
 
     ghost laws = { same_term_equiv };
 }
@@ -174,7 +174,7 @@ impl PartialOrd for Term {
     ghost use Rattle.std.specs.Prelude.{Some};
     ghost use Rattle.std.specs.Cmp.{partial_order_from_total};
     ghost use Rattle.shx_term.specs.TermOrder.{term_cmp};
-    ghost use Rattle.shx_term.specs.TermOrderLaws.{term_cmp_total};
+    ghost use Rattle.shx_term.specs.inner.TermOrderLaws.{term_cmp_total};
 
     ghost partial_cmp = { λ a b. Some (term_cmp a b) };
 
@@ -189,7 +189,7 @@ impl PartialOrd for Term {
 impl Ord for Term {
     ghost use Rattle.std.specs.Prelude.{refl};
     ghost use Rattle.shx_term.specs.TermOrder.{term_cmp};
-    ghost use Rattle.shx_term.specs.TermOrderLaws.{term_cmp_total};
+    ghost use Rattle.shx_term.specs.inner.TermOrderLaws.{term_cmp_total};
 
     ghost cmp = { term_cmp };
 
@@ -206,8 +206,8 @@ impl Ord for Term {
 
 impl Hash for Term {
     ghost use Rattle.std.proofs.Common.{ap};
-    ghost use Rattle.shx_term.specs.TermHash.{hashed};
-    ghost use Rattle.shx_term.specs.TermOrderLaws.{same_term_exact};
+    ghost use Rattle.shx_term.specs.inner.TermHash.{hashed};
+    ghost use Rattle.shx_term.specs.inner.TermOrderLaws.{same_term_exact};
 
     ghost hash_input = { hashed };
 

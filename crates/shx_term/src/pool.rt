@@ -184,8 +184,8 @@ impl Pool {
         Ok(index as u32)
     }
 
-    /// Forgets the terms from a number on: the first `len` are kept. It takes no memory, and time linear in what
-    /// it forgets.
+    /// Forgets the terms from this number on, and keeps those before it. It takes no memory, and time linear
+    /// in what it forgets.
     pub fn cut(&mut self, len: u32)
         requires vocabulary { 62 ≤ len }
         requires within { len ≤ length self.old.terms }

@@ -43,7 +43,7 @@ struct Bytes<'a> {
 impl Pieces for Bytes<'_> {
     ghost use Rattle.std.specs.Prelude.{◌≡◌, refl};
     ghost use Rattle.std.proofs.Common.{◌∙◌};
-    ghost use Rattle.shx_term.specs.Appended.{Appended, Appended-nothing, Appended-in_turn};
+    ghost use Rattle.shx_term.specs.inner.Appended.{Appended, Appended-nothing, Appended-in_turn};
 
     ghost added = { λ a b text. (a.out.ghost_name ≡ b.out.ghost_name)
         × Appended a.outcome b.outcome a.out.now.items b.out.now.items text };

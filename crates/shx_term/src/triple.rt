@@ -24,7 +24,7 @@ pub struct TermTriple {
 impl PartialEq for Triple {
     ghost use Rattle.std.specs.Cmp;
     ghost use Rattle.shx_term.specs.Triple.{same_triple};
-    ghost use Rattle.shx_term.specs.TripleLaws.{same_triple_equiv};
+    ghost use Rattle.shx_term.specs.inner.TripleLaws.{same_triple_equiv};
 
     ghost eq = { same_triple };
 
@@ -36,7 +36,7 @@ impl PartialEq for Triple {
 }
 
 impl Eq for Triple {
-    ghost use Rattle.shx_term.specs.TripleLaws.{same_triple_equiv};
+    ghost use Rattle.shx_term.specs.inner.TripleLaws.{same_triple_equiv};
 
     ghost laws = { same_triple_equiv };
 }
@@ -44,7 +44,7 @@ impl Eq for Triple {
 impl Hash for Triple {
     ghost use Rattle.std.proofs.Common.{ap};
     ghost use Rattle.shx_term.specs.Triple.{hashed_triple};
-    ghost use Rattle.shx_term.specs.TripleLaws.{same_triple_exact};
+    ghost use Rattle.shx_term.specs.inner.TripleLaws.{same_triple_exact};
 
     ghost hash_input = { hashed_triple };
 

@@ -3,7 +3,7 @@ use Rattle.std.proofs.Common.{◌≡◌, ℕ, ◌+◌, ◌≤◌, List, [], ◌+
 use Rattle.std.proofs.Common.{arith, append_assoc, length-append}
 use Rattle.std.proofs.lemmas.Option.{same_Some}
 use Rattle.shx_outside.specs.Told.{Took}
-use Rattle.text_input.specs.LineParts.{TookPart}
+use Rattle.text_input.specs.inner.LineParts.{TookPart}
 use Rattle.text_input.specs.ScriptReader.{ReaderState, new_reader, left_of, IsCounted, KeepsCount}
 use Rattle.text_input.specs.TextRead.{TakesWithin}
 use Rattle.text_input.proofs.LinePartLemmas.{Pending-front}

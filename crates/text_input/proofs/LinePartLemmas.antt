@@ -17,7 +17,7 @@ use Rattle.text_input.specs.declared.script_reader.Line.{Line}
 use Rattle.text_input.specs.declared.script_reader.Line.TheVariants.{Is, TooLong, End, PastLimit}
 use Rattle.text_input.specs.Lines.{is_line_feed, HasNoFeed, script_lines}
 use Rattle.text_input.specs.ScriptReader.{ReaderState, left_of, TakenLine, Takes}
-use Rattle.text_input.specs.LineParts.{TookPart, IsCut, IsKept}
+use Rattle.text_input.specs.inner.LineParts.{TookPart, IsCut, IsKept}
 use Rattle.text_input.proofs.LineLemmas.{HasNoFeed-append}
 use Rattle.text_input.proofs.ScriptLineLemmas.{script_lines-first, script_lines-last, script_lines-cut}
 use Rattle.text_input.proofs.ScriptLineLemmas.{longer-behind, longer-first}

@@ -1,4 +1,4 @@
-pub mod LineParts
 pub mod Lines
 pub mod ScriptReader
 pub mod TextRead
+pub mod inner

@@ -5,7 +5,7 @@ ghost use Rattle.shx_outside.specs.declared.role.Role.TheVariants.{Script};
 ghost use Rattle.shx_outside.specs.Counted.{HasCause};
 ghost use Rattle.shx_outside.specs.Told.{Took, StaysAdmitted, SameTexts, OthersStay};
 ghost use Rattle.text_input.specs.Lines.{is_line_feed};
-ghost use Rattle.text_input.specs.LineParts.{TakesPart, IsKept};
+ghost use Rattle.text_input.specs.inner.LineParts.{TakesPart, IsKept};
 ghost use Rattle.text_input.specs.ScriptReader.{new_reader, left_of, MetEnd, ReadsLine};
 ghost use Rattle.text_input.specs.ScriptReader.{StopsInLine, KeepsCount};
 ghost use Rattle.text_input.specs.TextRead.{HasInputCause};

@@ -26,8 +26,8 @@ use Rattle.shx_term.proofs.MemberLemmas.{Contains-map, Contains-from_map, Contai
 use Rattle.ttl_meaning.specs.declared.document.Document.{Document}
 use Rattle.ttl_meaning.specs.declared.document.Prefix.{Prefix}
 use Rattle.ttl_meaning.specs.declared.reader_state.ReaderState.{ReaderState}
-use Rattle.ttl_meaning.specs.DocumentOf.{ArePrefixes, AreLabels, IsDocumentOf}
-use Rattle.ttl_meaning.specs.IsReading.{Keeps}
+use Rattle.ttl_meaning.specs.inner.DocumentOf.{ArePrefixes, AreLabels, IsDocumentOf}
+use Rattle.ttl_meaning.specs.inner.IsReading.{Keeps}
 use Rattle.ttl_meaning.specs.IsStated.{Bounds, IsWithin}
 use Rattle.ttl_meaning.specs.State.{State}
 

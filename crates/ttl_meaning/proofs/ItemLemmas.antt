@@ -15,8 +15,8 @@ use Rattle.ttl_meaning.specs.declared.reader_state.ReaderState.{ReaderState}
 use Rattle.ttl_meaning.specs.State.{State, unless_fault, enter}
 use Rattle.ttl_meaning.specs.Items.{put_literal, end_string, used_or_blamed, set_base, bind}
 use Rattle.ttl_meaning.specs.IsStated.{Bounds}
-use Rattle.ttl_meaning.specs.IsReading.{Keeps, IsReading, Does, DoesSound, KeepsOn}
-use Rattle.ttl_meaning.specs.Meant.{IsMeant}
+use Rattle.ttl_meaning.specs.inner.IsReading.{Keeps, IsReading, Does, DoesSound, KeepsOn}
+use Rattle.ttl_meaning.specs.inner.Meant.{IsMeant}
 use Rattle.ttl_meaning.specs.Terms.{in_namespace, iri_of_kind, local_of, namespace_of, prefix_of}
 
 none_by_test : {X : Type 0} (o : Option X) → false ≡ is_some o → o ≡ None

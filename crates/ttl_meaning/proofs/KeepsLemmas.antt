@@ -16,7 +16,7 @@ use Rattle.ttl_meaning.specs.declared.context.Context.{Context}
 use Rattle.ttl_meaning.specs.declared.context.Context.TheVariants.{Open, About, Of}
 use Rattle.ttl_meaning.specs.declared.reader_state.ReaderState.{ReaderState}
 use Rattle.ttl_meaning.specs.declared.stated.Stated.{Stated}
-use Rattle.ttl_meaning.specs.IsReading.{Keeps, IsReading, DoesSound, KeepsOn}
+use Rattle.ttl_meaning.specs.inner.IsReading.{Keeps, IsReading, DoesSound, KeepsOn}
 use Rattle.ttl_meaning.specs.IsStated.{Bounds, IsStated, triple_of}
 use Rattle.ttl_meaning.specs.Items.{put_judged, put_label, put_literal, put_new}
 use Rattle.ttl_meaning.specs.State.{State, put, put_in}

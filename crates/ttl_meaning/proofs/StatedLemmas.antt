@@ -1,5 +1,5 @@
 -- What one triple more does to what is stated, and how it is stored.
-use Rattle.std.proofs.Common.{◌≡◌, ℕ, ◌<◌, ◌+◌, true, false, List, [], ◌∷◌, ◌++◌, length}
+use Rattle.std.proofs.Common.{◌≡◌, ◌<◌, ◌+◌, true, false, List, [], ◌∷◌, ◌++◌, length}
 use Rattle.std.proofs.Common.{Option, Some, None, refl, sym, ap, ◌∙◌, arith, length-append, Vec, Global}
 use Rattle.std.specs.Prelude.{is_some}
 use Rattle.std.specs.List.{list_all}
@@ -9,10 +9,10 @@ use Rattle.std.proofs.lemmas.List.Elements.{filter_map-append}
 use Rattle.shx_term.specs.declared.term.Term.{Term}
 use Rattle.shx_term.specs.declared.triple.Triple.{Triple}
 use Rattle.shx_term.specs.declared.triple.TermTriple.{TermTriple}
-use Rattle.shx_term.specs.Pool.{Pooled, is_held, with_term, with_terms}
-use Rattle.shx_term.specs.TripleTerms.{terms_of, number_in, numbered, numbered_all}
+use Rattle.shx_term.specs.Pool.{Pooled, is_held, with_terms}
+use Rattle.shx_term.specs.TripleTerms.{terms_of, numbered, numbered_all}
 use Rattle.shx_term.proofs.HeldLemmas.{with_terms-append, with_terms_grow, length-le-with_terms}
-use Rattle.shx_term.proofs.HeldLemmas.{all_held, number_from_place}
+use Rattle.shx_term.proofs.HeldLemmas.{all_held}
 use Rattle.shx_term.proofs.NumberedLemmas.{numbered-append}
 use Rattle.ttl_meaning.specs.declared.stated.Stated.{Stated}
 use Rattle.ttl_meaning.specs.declared.stated.Excess.{Excess}

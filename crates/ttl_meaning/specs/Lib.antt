@@ -1,9 +1,6 @@
-pub mod Ascending
-pub mod DocumentOf
 pub mod InForce
-pub mod IsReading
 pub mod IsStated
 pub mod Items
-pub mod Meant
 pub mod State
 pub mod Terms
+pub mod inner

@@ -2,7 +2,7 @@
 ghost use Rattle.std.specs.Prelude.{OnOk};
 ghost use Rattle.shx_term.specs.Pool.{Pooled};
 ghost use Rattle.ttl_tokens.specs.Unescaped.{IsGiven};
-ghost use Rattle.ttl_meaning.specs.IsReading.{Does, KeepsOn};
+ghost use Rattle.ttl_meaning.specs.inner.IsReading.{Does, KeepsOn};
 ghost use Rattle.ttl_meaning.specs.Items.{hold_prefix as held_prefix, on_namespace as namespace_item};
 ghost use Rattle.ttl_meaning.specs.Items.{on_base as base_item, bind as bound};
 

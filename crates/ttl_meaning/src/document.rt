@@ -1,7 +1,7 @@
 ghost use Rattle.std.specs.Prelude.{◌<◌, ◌^◌, map};
 ghost use Rattle.std.proofs.Props.{props};
 ghost use Rattle.iri_resolve.specs.Resolution.{IsAbsolute};
-ghost use Rattle.ttl_meaning.specs.Ascending.{AreAscending};
+ghost use Rattle.ttl_meaning.specs.inner.Ascending.{AreAscending};
 
 use shx_term::{IriText, Label, Text, Triple};
 

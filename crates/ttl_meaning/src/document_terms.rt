@@ -4,7 +4,7 @@ ghost use Rattle.std.specs.Bool.{Decides};
 ghost use Rattle.std.specs.Option.{option_copied};
 ghost use Rattle.ttl_tokens.specs.Unescaped.{IsGiven, token_text as text_of};
 ghost use Rattle.ttl_meaning.specs.InForce.{IsNodeCalled, binding, in_force};
-ghost use Rattle.ttl_meaning.specs.Meant.{IsMeant};
+ghost use Rattle.ttl_meaning.specs.inner.Meant.{IsMeant};
 ghost use Rattle.ttl_meaning.specs.Terms.{iri_of as iri_meant, namespace_of};
 
 use crate::document::Document;

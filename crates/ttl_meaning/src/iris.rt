@@ -3,9 +3,9 @@ ghost use Rattle.std.specs.Prelude.{◌≡◌, ◌++◌, OnOk, IfOk};
 ghost use Rattle.std.specs.Option.{option_copied};
 ghost use Rattle.ttl_tokens.specs.Unescaped.{IsGiven};
 ghost use Rattle.iri_resolve.specs.Resolution.{IsAbsolute};
-ghost use Rattle.ttl_meaning.specs.IsReading.{DoesSound, Finds};
+ghost use Rattle.ttl_meaning.specs.inner.IsReading.{DoesSound, Finds};
 ghost use Rattle.ttl_meaning.specs.Items.{used};
-ghost use Rattle.ttl_meaning.specs.Meant.{IsMeant};
+ghost use Rattle.ttl_meaning.specs.inner.Meant.{IsMeant};
 ghost use Rattle.ttl_meaning.specs.Terms.{iri_of as iri_meant, iri_of_reference, in_namespace, local_of};
 ghost use Rattle.ttl_meaning.specs.Terms.{said};
 

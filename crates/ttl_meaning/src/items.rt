@@ -3,7 +3,7 @@ ghost use Rattle.std.specs.Prelude.{◌≡◌, OnOk};
 ghost use Rattle.ttl_tokens.specs.declared.token.TokenKind.TheVariants.{BlankLabel, LangTag};
 ghost use Rattle.shx_term.specs.Pool.{Pooled};
 ghost use Rattle.ttl_tokens.specs.Unescaped.{IsGiven};
-ghost use Rattle.ttl_meaning.specs.IsReading.{Does};
+ghost use Rattle.ttl_meaning.specs.inner.IsReading.{Does};
 ghost use Rattle.ttl_meaning.specs.Items.{on_literal as literal_item, on_string as string_item, plain_string};
 ghost use Rattle.ttl_meaning.specs.Items.{on_tag as tag_item, on_iri as iri_item, on_a as a_item};
 ghost use Rattle.ttl_meaning.specs.Items.{on_label as label_item, on_anon as anon_item, open_node};

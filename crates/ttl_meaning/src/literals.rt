@@ -3,7 +3,7 @@ ghost use Rattle.std.specs.Prelude.{◌≡◌, drop, IfOk};
 ghost use Rattle.shx_term.specs.Spelling.{xsd_string};
 ghost use Rattle.ttl_tokens.specs.declared.token.TokenKind.TheVariants.{LangTag};
 ghost use Rattle.ttl_tokens.specs.Unescaped.{IsGiven, token_text as text_of};
-ghost use Rattle.ttl_meaning.specs.Meant.{IsMeant};
+ghost use Rattle.ttl_meaning.specs.inner.Meant.{IsMeant};
 ghost use Rattle.ttl_meaning.specs.Terms.{datatype_of as kind_datatype, judged as judged_term, said};
 ghost use Rattle.ttl_meaning.specs.Terms.{tagged as tagged_literal, typed as typed_literal};
 

@@ -1,7 +1,7 @@
 //! Where a term belongs: contexts, blank nodes and collections.
 ghost use Rattle.std.specs.Prelude.{OnOk};
 ghost use Rattle.shx_term.specs.Pool.{Pooled};
-ghost use Rattle.ttl_meaning.specs.IsReading.{KeepsOn};
+ghost use Rattle.ttl_meaning.specs.inner.IsReading.{KeepsOn};
 ghost use Rattle.ttl_meaning.specs.Items.{put_new, put_label};
 ghost use Rattle.ttl_meaning.specs.State.{put as put_term, begin_verb, enter, leave};
 

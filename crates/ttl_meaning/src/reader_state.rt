@@ -1,9 +1,9 @@
 ghost use Rattle.std.specs.Prelude.{◌≡◌, None, IfOk};
 ghost use Rattle.iri_resolve.specs.Resolution.{IsAbsolute};
-ghost use Rattle.ttl_meaning.specs.IsReading.{IsReading};
+ghost use Rattle.ttl_meaning.specs.inner.IsReading.{IsReading};
 ghost use Rattle.ttl_meaning.specs.State.{State, first_state};
 ghost use Rattle.ttl_meaning.specs.IsStated.{Bounds};
-ghost use Rattle.ttl_meaning.specs.DocumentOf.{IsDocumentOf};
+ghost use Rattle.ttl_meaning.specs.inner.DocumentOf.{IsDocumentOf};
 ghost use Rattle.shx_term.specs.Pool.{Pooled};
 
 use crate::base::Base;

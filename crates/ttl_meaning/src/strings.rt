@@ -1,7 +1,7 @@
 //! Literals.
 ghost use Rattle.std.specs.Prelude.{◌≡◌, OnOk, string_bytes, []};
 ghost use Rattle.shx_term.specs.Pool.{Pooled};
-ghost use Rattle.ttl_meaning.specs.IsReading.{DoesSound, KeepsOn};
+ghost use Rattle.ttl_meaning.specs.inner.IsReading.{DoesSound, KeepsOn};
 ghost use Rattle.ttl_meaning.specs.Items.{put_literal, end_string};
 
 use crate::fault::TermFault;

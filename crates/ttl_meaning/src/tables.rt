@@ -1,6 +1,6 @@
 //! The tables of a document, from the map and the set that a reader keeps.
 ghost use Rattle.std.specs.Prelude.{IfOk};
-ghost use Rattle.ttl_meaning.specs.DocumentOf.{AreLabels, ArePrefixes};
+ghost use Rattle.ttl_meaning.specs.inner.DocumentOf.{AreLabels, ArePrefixes};
 
 use crate::document::Prefix;
 use shx_term::{IriText, Label, Memory, Text};

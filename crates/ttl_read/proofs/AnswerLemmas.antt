@@ -9,9 +9,10 @@ use Rattle.ttl_read.specs.declared.reader.Reader.{Reader}
 use Rattle.ttl_read.specs.declared.reader.Refused.{Refused}
 use Rattle.ttl_read.specs.declared.reader.Refused.TheVariants.{Syntax, Memory}
 use Rattle.ttl_read.specs.declared.reader.Tokens.{Tokens}
-use Rattle.ttl_read.specs.Follows.{Avoids}
+use Rattle.ttl_read.specs.inner.Follows.{Avoids}
 use Rattle.ttl_read.specs.Grammar.{Rule}
-use Rattle.ttl_read.specs.Reads.{Stands, Advances, Passes, IsNowhere, ParsesAlone, Reads, Refuses, Parses}
+use Rattle.ttl_read.specs.inner.Reads.{Stands, Advances, Passes, IsNowhere, ParsesAlone, Reads, Refuses}
+use Rattle.ttl_read.specs.inner.Reads.{Parses}
 use Rattle.ttl_read.proofs.HereLemmas.{advances_on}
 use Rattle.ttl_read.proofs.PassLemmas.{then_passes, behind_nowhere, left_passes, right_passes, or_nowhere}
 use Rattle.ttl_read.proofs.PassLemmas.{passes_reads, nowhere_refuses, reads_then_passes, reads_then_nowhere}

@@ -10,10 +10,10 @@ use Rattle.ttl_tokens.specs.Form.{Then, Many}
 use Rattle.ttl_meaning.specs.Items.{first_cell, next_cell, end_list, close_node}
 use Rattle.ttl_meaning.specs.State.{State}
 use Rattle.ttl_read.specs.declared.reader.Reader.{Reader}
-use Rattle.ttl_read.specs.Follows.{Avoids, takes_no_token, may_begin}
+use Rattle.ttl_read.specs.inner.Follows.{Avoids, takes_no_token, may_begin}
 use Rattle.ttl_read.specs.Grammar.{Rule, is_close_round, is_close_square, member, members, sign, do_}
-use Rattle.ttl_read.specs.Reads.{Stands, Reads, Refuses, Passes, next_if}
-use Rattle.ttl_read.specs.Stops.{goes_on, stops_nowhere, predicates_go_on}
+use Rattle.ttl_read.specs.inner.Reads.{Stands, Reads, Refuses, Passes, next_if}
+use Rattle.ttl_read.specs.inner.Stops.{goes_on, stops_nowhere, predicates_go_on}
 use Rattle.ttl_read.proofs.HereLemmas.{IsHere, here_refuses, no_follower_unless}
 use Rattle.ttl_read.proofs.KindLemmas.{IsObject, at_kind, apart}
 use Rattle.ttl_read.proofs.PassLemmas.{passes_reads}

@@ -12,7 +12,7 @@ use Rattle.ttl_read.specs.declared.reader.Reader.{Reader}
 use Rattle.ttl_read.specs.declared.reader.Refused.{Refused}
 use Rattle.ttl_read.specs.Grammar.{Rule, tag_word, is_lang_tag, is_word_prefix, is_word_base, is_dot, mark}
 use Rattle.ttl_read.specs.Grammar.{prefix_binding, base_setting, directive}
-use Rattle.ttl_read.specs.Reads.{IsNowhere, ParsesAlone}
+use Rattle.ttl_read.specs.inner.Reads.{IsNowhere, ParsesAlone}
 use Rattle.ttl_read.proofs.AnswerLemmas.{then_alone, left_alone, right_alone, alone_handed_on}
 use Rattle.ttl_read.proofs.HereLemmas.{IsHere, item_passes, mark_passes, keeps_reading, here_nowhere}
 use Rattle.ttl_read.proofs.KindLemmas.{only_tag, only_prefix, only_base}

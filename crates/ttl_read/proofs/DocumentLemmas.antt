@@ -15,8 +15,8 @@ use Rattle.ttl_meaning.specs.declared.document.Document.{Document}
 use Rattle.ttl_meaning.specs.declared.stated.Excess.{Excess}
 use Rattle.ttl_meaning.specs.declared.stated.Excess.TheVariants.{Triples, Terms}
 use Rattle.ttl_meaning.specs.declared.stated.Stated.{Stated}
-use Rattle.ttl_meaning.specs.DocumentOf.{IsDocumentOf}
-use Rattle.ttl_meaning.specs.IsReading.{IsReading}
+use Rattle.ttl_meaning.specs.inner.DocumentOf.{IsDocumentOf}
+use Rattle.ttl_meaning.specs.inner.IsReading.{IsReading}
 use Rattle.ttl_meaning.specs.IsStated.{Bounds, IsWithin, terms_with}
 use Rattle.ttl_meaning.specs.State.{State, first_state}
 use Rattle.ttl_read.specs.declared.fault.TtlFault.{TtlFault}
@@ -26,9 +26,9 @@ use Rattle.ttl_read.specs.Documents.{Setting, IsStatement, HasCause, IsAtEnd, Be
 use Rattle.ttl_read.specs.Documents.{HasFault}
 use Rattle.ttl_read.specs.Documents.{first_byte, code_of, place_of}
 use Rattle.ttl_read.specs.Grammar.{Place}
-use Rattle.ttl_read.specs.Reads.{Stands, IsNext, place, start_of_next}
-use Rattle.ttl_read.specs.Sound.{IsSound, Led, LedWrong, Concludes, is_end, is_end_next}
-use Rattle.ttl_read.specs.Stated.{States, FaultStands}
+use Rattle.ttl_read.specs.inner.Reads.{Stands, IsNext, place, start_of_next}
+use Rattle.ttl_read.specs.inner.Sound.{IsSound, Led, LedWrong, Concludes, is_end, is_end_next}
+use Rattle.ttl_read.specs.inner.Stated.{States, FaultStands}
 use Rattle.ttl_read.specs.Unique.{One, IsOneFault}
 use Rattle.ttl_read.proofs.KindLemmas.{only_end}
 use Rattle.ttl_read.proofs.UniqueLemmas.{chain, end_never}
@@ -42,9 +42,6 @@ times_more R (suc n) x y z s r = (s.0, s.1, times_more R n s.0 y z s.2 r)
 
 abbrev pub Leading : Setting → Reader → Pooled → Reader → Pooled → Type 0
 Leading t r p r' p' = (s : State) → IsReading t.bounds s r.reading p → Led t r p s r' p'
-
-pub leading_nowhere : (t : Setting) (r : Reader) (p : Pooled) → Leading t r p r p
-leading_nowhere t r p s reads = record { state = s; reads = reads; count = zero; statements = refl }
 
 pub leading_on : (t : Setting) (r : Reader) (p : Pooled) (m : Reader) (q : Pooled) (r' : Reader) (p' : Pooled)
     (u : Unit {0}) → Leading t r p m q → IsSound t m q r' p' (Ok u) → Leading t r p r' p'
@@ -78,12 +75,6 @@ pub at_end : (text : List ℕ) (at : ℕ) (n : Result Token NoToken) → IsNext 
     → IsAtEnd text at
 at_end text at (Ok token) here end = (token, here, only_end token.kind end)
 at_end text at (Err none) here end = absurd (cc)
-
-pub concludes_well : (t : Setting) (r : Reader) (p : Pooled) (r' : Reader) (p' : Pooled) (u : Unit {0})
-    → Leading t r p r' p' → Stands t.text r'.tokens → is_end_next r'.tokens.next ≡ true
-    → Concludes t r p r' p' (Ok u)
-concludes_well t r p r' p' u leading stands end s reads =
-    (leading s reads, at_end t.text r'.tokens.place r'.tokens.next stands.next end)
 
 pub concludes_wrong : (t : Setting) (r : Reader) (p : Pooled) (m : Reader) (q : Pooled) (n : Reader)
     (o : Pooled)

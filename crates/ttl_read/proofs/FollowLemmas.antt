@@ -6,7 +6,7 @@ use Rattle.ttl_tokens.specs.declared.token.Token.{Token}
 use Rattle.ttl_tokens.proofs.FormLemmas.{same_trans, same_never, then_same, then_never, then_assoc}
 use Rattle.ttl_tokens.proofs.FormLemmas.{left_same, right_same, or_never}
 use Rattle.ttl_read.specs.Grammar.{Place, Rule, StepsTo}
-use Rattle.ttl_read.specs.Follows.{Avoids, Leads, Fails}
+use Rattle.ttl_read.specs.inner.Follows.{Avoids, Leads, Fails}
 
 pub only_leads : {text : List ℕ} {f : Rule} {stop : Token → Bool} {x y : Place} → Only (StepsTo text) f x y
     → Leads text f stop x y

@@ -1,7 +1,7 @@
 -- What belongs to a string, and what is answered of a term.
 use Rattle.std.proofs.Common.{◌≡◌, ℕ, Bool, true, false, ◌&&◌, List, Result, Ok, Err, refl, sym, ap, ◌∙◌}
 use Rattle.std.proofs.Common.{subst, true≢false}
-use Rattle.std.specs.Prelude.{IfOk, IfErr}
+use Rattle.std.specs.Prelude.{IfOk}
 use Rattle.std.specs.Str.{IsUtf8}
 use Rattle.ttl_tokens.specs.declared.token.Token.{Token}
 use Rattle.ttl_tokens.specs.declared.token.TokenKind.{TokenKind}
@@ -9,17 +9,13 @@ use Rattle.ttl_tokens.specs.declared.token.TokenKind.TheVariants.{End}
 use Rattle.ttl_tokens.specs.Tokens.{IsTokenAt, IsNoTokenAt}
 use Rattle.ttl_tokens.proofs.OneTokenLemmas.{one_token, token_or_none}
 use Rattle.ttl_meaning.specs.declared.document.Document.{Document}
-use Rattle.ttl_meaning.specs.declared.fault.NoTerm.{NoTerm}
-use Rattle.ttl_meaning.specs.declared.fault.NoTerm.TheVariants.{Fault, Memory as NoMemory}
-use Rattle.ttl_meaning.specs.declared.fault.TermFaultKind.{TermFaultKind}
 use Rattle.ttl_read.specs.declared.fault.TtlFault.{TtlFault}
 use Rattle.ttl_read.specs.declared.fault.TtlFault.TheVariants.{At, Memory}
 use Rattle.ttl_read.specs.declared.term.Reading.{Reading}
 use Rattle.ttl_read.specs.declared.term.Suffix.TheVariants.{Nothing}
-use Rattle.ttl_read.specs.Documents.{code_of_term}
-use Rattle.ttl_read.specs.Found.{Answers, IsFaultOf, HasSuffix}
+use Rattle.ttl_read.specs.Found.{Answers, HasSuffix}
 use Rattle.ttl_read.specs.Grammar.{is_iri, is_lang_tag, is_carets}
-use Rattle.ttl_read.specs.ReadTerm.{Found, A, No, IsFound, IsFaultFound}
+use Rattle.ttl_read.specs.ReadTerm.{Found, A, No, IsFound}
 use Rattle.ttl_read.proofs.KindLemmas.{apart}
 
 -- ---- answers
@@ -30,23 +26,11 @@ Answers-weaker P Q more (Ok reading) h = more (A reading.term reading.end) h
 Answers-weaker P Q more (Err (At code at)) h = more (No code at) h
 Answers-weaker P Q more (Err Memory) h = tt
 
--- the fault of what is no term is answered
-pub Answers-fault : (P : Found → Type 0) (none : NoTerm) (at : ℕ) (fault : TtlFault) → IsFaultOf none at fault
-    → ((kind : TermFaultKind) → none ≡ Fault kind → P (No (code_of_term kind) at)) → Answers P (Err fault)
-Answers-fault P (Fault kind) at fault is holds = rw is (holds kind refl)
-Answers-fault P NoMemory at fault is holds = rw is tt
-
 module _ (text : List ℕ) (token : Token) (document : Document) where
   pub term_found : (r : Result Reading TtlFault) → Answers (IsFound text token document) r
       → IfOk r (λ reading. IsFound text token document (A reading.term reading.end))
   term_found (Ok reading) h = h
   term_found (Err fault) h = tt
-
-  pub fault_found : (r : Result Reading TtlFault) → Answers (IsFound text token document) r
-      → IfErr r (IsFaultFound text token document)
-  fault_found (Ok reading) h = tt
-  fault_found (Err (At code at)) h = h
-  fault_found (Err Memory) h = h
 
 -- ---- the next token
 

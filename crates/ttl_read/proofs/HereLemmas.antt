@@ -13,13 +13,13 @@ use Rattle.ttl_tokens.specs.Tokens.{IsTokenAt}
 use Rattle.ttl_tokens.specs.Walks.{Only}
 use Rattle.ttl_tokens.proofs.OneTokenLemmas.{some_token}
 use Rattle.ttl_meaning.specs.declared.reader_state.ReaderState.{ReaderState}
-use Rattle.ttl_meaning.specs.IsReading.{IsReading, Does}
+use Rattle.ttl_meaning.specs.inner.IsReading.{IsReading, Does}
 use Rattle.ttl_meaning.specs.State.{State}
 use Rattle.ttl_read.specs.declared.reader.Reader.{Reader}
 use Rattle.ttl_read.specs.declared.reader.Tokens.{Tokens}
-use Rattle.ttl_read.specs.Follows.{takes_no_token, may_begin}
+use Rattle.ttl_read.specs.inner.Follows.{takes_no_token, may_begin}
 use Rattle.ttl_read.specs.Grammar.{Rule, StepsTo, One, token, sign, mark}
-use Rattle.ttl_read.specs.Reads.{Stands, Advances, IsNext, Passes, IsNowhere, Refuses, place, next_if}
+use Rattle.ttl_read.specs.inner.Reads.{Stands, Advances, IsNext, Passes, IsNowhere, Refuses, place, next_if}
 use Rattle.ttl_read.proofs.PassLemmas.{nowhere_refuses}
 use Rattle.ttl_read.proofs.ReadLemmas.{NoFollower}
 use Rattle.ttl_read.proofs.StepLemmas.{one_only, never_here, never_at_none}

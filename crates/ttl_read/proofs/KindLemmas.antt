@@ -7,8 +7,8 @@ use Rattle.ttl_tokens.specs.declared.token.TokenKind.TheVariants.{End, BlankLabe
 use Rattle.ttl_tokens.specs.declared.token.TokenKind.TheVariants.{Carets, WordPrefix, WordBase, OpenRound}
 use Rattle.ttl_tokens.specs.declared.token.TokenKind.TheVariants.{OpenSquare}
 use Rattle.ttl_tokens.specs.Form.{Or}
-use Rattle.ttl_read.specs.Sound.{is_end}
-use Rattle.ttl_read.specs.Follows.{takes_no_token, may_begin}
+use Rattle.ttl_read.specs.inner.Sound.{is_end}
+use Rattle.ttl_read.specs.inner.Follows.{takes_no_token, may_begin}
 use Rattle.ttl_read.specs.Grammar.{is_iri, is_blank_label, is_anon, is_word_a, is_word_prefix, is_word_base}
 use Rattle.ttl_read.specs.Grammar.{Rule, is_string, is_bare_literal, is_lang_tag, is_carets, is_open_round}
 use Rattle.ttl_read.specs.Grammar.{is_close_round, is_open_square, node, literal, plain_object, object}

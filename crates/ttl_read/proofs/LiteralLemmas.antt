@@ -6,13 +6,13 @@ use Rattle.ttl_tokens.specs.declared.token.Token.{Token}
 use Rattle.ttl_tokens.specs.declared.token.NoToken.{NoToken}
 use Rattle.ttl_tokens.specs.Form.{Then}
 use Rattle.ttl_meaning.specs.declared.iris.IriRole.TheVariants.{Datatype}
-use Rattle.ttl_meaning.specs.IsReading.{Does}
+use Rattle.ttl_meaning.specs.inner.IsReading.{Does}
 use Rattle.ttl_meaning.specs.Items.{on_tag, plain_string}
 use Rattle.ttl_read.specs.declared.reader.Reader.{Reader}
 use Rattle.ttl_read.specs.declared.reader.Refused.{Refused}
 use Rattle.ttl_read.specs.Grammar.{Rule, is_lang_tag, is_carets, mark, token, iri, string_end}
-use Rattle.ttl_read.specs.Reads.{Stands, ParsesAlone, Reads, Parses}
-use Rattle.ttl_read.specs.Stops.{goes_on}
+use Rattle.ttl_read.specs.inner.Reads.{Stands, ParsesAlone, Reads, Parses}
+use Rattle.ttl_read.specs.inner.Stops.{goes_on}
 use Rattle.ttl_read.proofs.AnswerLemmas.{then_alone, alone_parses, left_parses, right_parses}
 use Rattle.ttl_read.proofs.HereLemmas.{IsHere, token_passes, mark_passes}
 use Rattle.ttl_read.proofs.HereLemmas.{here_refuses, here_stops, none_nowhere}

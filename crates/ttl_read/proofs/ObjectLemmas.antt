@@ -10,11 +10,11 @@ use Rattle.ttl_tokens.specs.Form.{Then, Or, Many}
 use Rattle.ttl_read.specs.declared.reader.Reader.{Reader}
 use Rattle.ttl_read.specs.declared.reader.Refused.{Refused}
 use Rattle.ttl_read.specs.Depth.{is_open}
-use Rattle.ttl_read.specs.Follows.{Avoids, may_begin}
+use Rattle.ttl_read.specs.inner.Follows.{Avoids, may_begin}
 use Rattle.ttl_read.specs.Grammar.{Rule, is_open_round, is_open_square, is_comma, mark, object, plain_object}
 use Rattle.ttl_read.specs.Grammar.{collection, property_list}
-use Rattle.ttl_read.specs.Reads.{Reads, Refuses, Parses}
-use Rattle.ttl_read.specs.Stops.{goes_on, stops_nowhere, list_goes_on}
+use Rattle.ttl_read.specs.inner.Reads.{Reads, Refuses, Parses}
+use Rattle.ttl_read.specs.inner.Stops.{goes_on, stops_nowhere, list_goes_on}
 use Rattle.ttl_read.proofs.AnswerLemmas.{handed_on, left_parses, right_parses}
 use Rattle.ttl_read.proofs.HereLemmas.{IsHere, here_refuses, here_stops, mark_passes}
 use Rattle.ttl_read.proofs.KindLemmas.{at_kind, apart, one_more}

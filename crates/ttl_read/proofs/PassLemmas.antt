@@ -6,13 +6,13 @@ use Rattle.ttl_tokens.specs.Form.{Item, Then, Or}
 use Rattle.ttl_tokens.specs.Walks.{Only}
 use Rattle.ttl_tokens.proofs.FormLemmas.{same_only, same_never, then_same, then_never, left_same, right_same}
 use Rattle.ttl_tokens.proofs.FormLemmas.{or_never}
-use Rattle.ttl_meaning.specs.IsReading.{Does}
+use Rattle.ttl_meaning.specs.inner.IsReading.{Does}
 use Rattle.ttl_meaning.specs.State.{State}
 use Rattle.ttl_read.specs.declared.reader.Reader.{Reader}
 use Rattle.ttl_read.specs.declared.reader.Tokens.{Tokens}
-use Rattle.ttl_read.specs.Follows.{Avoids}
+use Rattle.ttl_read.specs.inner.Follows.{Avoids}
 use Rattle.ttl_read.specs.Grammar.{Rule, StepsTo, Do}
-use Rattle.ttl_read.specs.Reads.{Passes, IsNowhere, Reads, Refuses, place}
+use Rattle.ttl_read.specs.inner.Reads.{Passes, IsNowhere, Reads, Refuses, place}
 use Rattle.ttl_read.proofs.StepLemmas.{do_only}
 use Rattle.ttl_read.proofs.FollowLemmas.{only_leads, never_fails}
 

@@ -6,14 +6,14 @@ use Rattle.ttl_tokens.specs.declared.token.Token.{Token}
 use Rattle.ttl_tokens.specs.Form.{Then, Or, Maybe, Many, Item}
 use Rattle.ttl_tokens.specs.Walks.{Same}
 use Rattle.ttl_tokens.proofs.FormLemmas.{same_trans, same_never, then_same, then_assoc}
-use Rattle.ttl_meaning.specs.IsReading.{IsReading}
+use Rattle.ttl_meaning.specs.inner.IsReading.{IsReading}
 use Rattle.ttl_meaning.specs.IsStated.{Bounds}
 use Rattle.ttl_meaning.specs.State.{State}
 use Rattle.ttl_read.specs.declared.reader.Reader.{Reader}
-use Rattle.ttl_read.specs.Follows.{Avoids, takes_no_token}
+use Rattle.ttl_read.specs.inner.Follows.{Avoids, takes_no_token}
 use Rattle.ttl_read.specs.Grammar.{Place, Rule, StepsTo, Do}
-use Rattle.ttl_read.specs.Reads.{Passes, Reads, Refuses, place}
-use Rattle.ttl_read.specs.Stops.{stops_nowhere}
+use Rattle.ttl_read.specs.inner.Reads.{Passes, Reads, Refuses, place}
+use Rattle.ttl_read.specs.inner.Stops.{stops_nowhere}
 use Rattle.ttl_read.proofs.PassLemmas.{passes_reads}
 use Rattle.ttl_read.proofs.StepLemmas.{do_only}
 use Rattle.ttl_read.proofs.FollowLemmas.{then_leads, then_fails, behind_fails, left_leads, right_leads}

@@ -8,7 +8,7 @@ use Rattle.ttl_meaning.specs.declared.fault.TermFault.{TermFault}
 use Rattle.ttl_meaning.specs.declared.reader_state.ReaderState.{ReaderState}
 use Rattle.ttl_meaning.specs.declared.stated.Excess.{Excess}
 use Rattle.ttl_meaning.specs.declared.stated.Excess.TheVariants.{Triples, Terms}
-use Rattle.ttl_meaning.specs.IsReading.{IsReading}
+use Rattle.ttl_meaning.specs.inner.IsReading.{IsReading}
 use Rattle.ttl_meaning.specs.IsStated.{IsWithin}
 use Rattle.ttl_meaning.specs.State.{State}
 use Rattle.ttl_read.specs.declared.fault.TtlFault.{TtlFault}
@@ -18,10 +18,10 @@ use Rattle.ttl_read.specs.Depth.{IsTooDeep, IsNotTooDeep}
 use Rattle.ttl_read.specs.Documents.{Setting, BadTerm, TooManyTriples, TooManyTerms, TooDeep, NoStatement}
 use Rattle.ttl_read.specs.Documents.{code_of_term}
 use Rattle.ttl_read.specs.Grammar.{Place, StepsTo, statement}
-use Rattle.ttl_read.specs.Reads.{Passes, IsNowhere, place, start_of_next}
+use Rattle.ttl_read.specs.inner.Reads.{Passes, IsNowhere, place, start_of_next}
 use Rattle.ttl_read.specs.Unique.{Settled, One, HasOneCauseAt}
 use Rattle.ttl_read.proofs.UniqueLemmas.{one_cause, one_statement, one_deep, one_nowhere}
-use Rattle.ttl_read.specs.Sound.{IsJudged, IsSound}
+use Rattle.ttl_read.specs.inner.Sound.{IsJudged, IsSound}
 
 -- ---- behind a derived statement
 

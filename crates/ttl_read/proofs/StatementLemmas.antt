@@ -6,14 +6,14 @@ use Rattle.ttl_tokens.specs.declared.token.TokenKind.{TokenKind}
 use Rattle.ttl_tokens.specs.declared.token.TokenKind.TheVariants.{End}
 use Rattle.ttl_tokens.specs.Form.{Then, Or}
 use Rattle.ttl_meaning.specs.Items.{begin_statement}
-use Rattle.ttl_meaning.specs.IsReading.{Does}
+use Rattle.ttl_meaning.specs.inner.IsReading.{Does}
 use Rattle.ttl_read.specs.declared.reader.Reader.{Reader}
 use Rattle.ttl_read.specs.declared.reader.Refused.{Refused}
 use Rattle.ttl_read.specs.Grammar.{Rule, is_lang_tag, is_word_prefix, is_word_base, is_dot, mark, directive}
 use Rattle.ttl_read.specs.Grammar.{triples, statement}
-use Rattle.ttl_read.specs.Follows.{Avoids, takes_no_token, may_begin}
-use Rattle.ttl_read.specs.Reads.{ParsesAlone}
-use Rattle.ttl_read.specs.Stops.{predicates_go_on}
+use Rattle.ttl_read.specs.inner.Follows.{Avoids, takes_no_token, may_begin}
+use Rattle.ttl_read.specs.inner.Reads.{ParsesAlone}
+use Rattle.ttl_read.specs.inner.Stops.{predicates_go_on}
 use Rattle.ttl_read.proofs.AnswerLemmas.{then_alone, left_alone, right_alone}
 use Rattle.ttl_read.proofs.HereLemmas.{IsHere, here_nowhere}
 use Rattle.ttl_read.proofs.KindLemmas.{at_kind, apart}

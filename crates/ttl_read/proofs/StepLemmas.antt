@@ -1,7 +1,6 @@
 -- What an item of the grammar takes at a place: one token stands there.
 use Rattle.std.proofs.Common.{◌≡◌, ℕ, Bool, true, false, List, refl, sym, ap, ◌∙◌, subst, ◌⊎◌}
 use Rattle.std.proofs.Common.{inl, inr}
-use Rattle.std.proofs.Common.{true≢false}
 use Rattle.std.specs.Str.{IsUtf8}
 use Rattle.ttl_tokens.specs.declared.token.Token.{Token}
 use Rattle.ttl_tokens.specs.Form.{Item}
@@ -10,7 +9,7 @@ use Rattle.ttl_tokens.specs.Tokens.{IsTokenAt, IsNoTokenAt}
 use Rattle.ttl_tokens.proofs.BeginLemmas.{never_where, never_where_none}
 use Rattle.ttl_tokens.proofs.OneTokenLemmas.{one_token, token_or_none}
 use Rattle.ttl_meaning.specs.State.{State}
-use Rattle.ttl_read.specs.Follows.{is_done, may_take, takes_no_token, may_begin}
+use Rattle.ttl_read.specs.inner.Follows.{is_done, may_take, takes_no_token, may_begin}
 use Rattle.ttl_read.specs.Grammar.{Step, One, Do, Place, Rule, StepsTo}
 
 -- the token at a place, tested, and what it does
@@ -22,20 +21,6 @@ one_only text test act x t utf8 here h = record {
   only = λ z s.
       let same : t ≡ s.0 = one_token text x.at t s.0 utf8 here s.1 in
       subst (λ u. record { at = u.end; state = act u x.state } ≡ z) (sym same) s.3;
-}
-
-pub one_never : (text : List ℕ) (test : Token → Bool) (act : Token → State → State) (x : Place) (t : Token)
-    → IsUtf8 text → IsTokenAt text x.at t → test t ≡ false → Never (StepsTo text) (Item (One test act)) x
-one_never text test act x t utf8 here h = record {
-  none = λ z s.
-      let same : t ≡ s.0 = one_token text x.at t s.0 utf8 here s.1 in
-      true≢false (sym s.2 ∙ ap test (sym same) ∙ h);
-}
-
-pub one_at_none : (text : List ℕ) (test : Token → Bool) (act : Token → State → State) (x : Place) (fault : ℕ)
-    → IsUtf8 text → IsNoTokenAt text x.at fault → Never (StepsTo text) (Item (One test act)) x
-one_at_none text test act x fault utf8 here = record {
-  none = λ z s. token_or_none text x.at fault s.0 utf8 s.1 here;
 }
 
 pub do_only : (text : List ℕ) (act : State → State) (x : Place)

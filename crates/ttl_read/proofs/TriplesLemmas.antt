@@ -9,12 +9,12 @@ use Rattle.ttl_tokens.specs.declared.token.TokenKind.TheVariants.{End}
 use Rattle.ttl_tokens.specs.Form.{Then, Many, Maybe}
 use Rattle.ttl_read.specs.declared.reader.Reader.{Reader}
 use Rattle.ttl_read.specs.declared.reader.Refused.{Refused}
-use Rattle.ttl_read.specs.Follows.{Avoids, takes_no_token, may_begin}
+use Rattle.ttl_read.specs.inner.Follows.{Avoids, takes_no_token, may_begin}
 use Rattle.ttl_read.specs.Grammar.{Rule, is_semicolon, is_open_round, is_open_square, begins_verb, mark, node}
 use Rattle.ttl_read.specs.Grammar.{collection, object, verb_objects, predicate_object_list, subject}
 use Rattle.ttl_read.specs.Grammar.{subject_triples, node_triples, triples}
-use Rattle.ttl_read.specs.Reads.{Reads, Refuses, Parses}
-use Rattle.ttl_read.specs.Stops.{list_goes_on, predicates_go_on, stops_nowhere, verbs_go_on}
+use Rattle.ttl_read.specs.inner.Reads.{Reads, Refuses, Parses}
+use Rattle.ttl_read.specs.inner.Stops.{list_goes_on, predicates_go_on, stops_nowhere, verbs_go_on}
 use Rattle.ttl_read.proofs.AnswerLemmas.{left_parses, right_parses}
 use Rattle.ttl_read.proofs.HereLemmas.{IsHere, here_refuses, here_stops, mark_passes}
 use Rattle.ttl_read.proofs.KindLemmas.{at_kind, apart, one_more}

@@ -17,7 +17,7 @@ use Rattle.ttl_meaning.specs.State.{State}
 use Rattle.ttl_read.specs.Depth.{IsRun, IsTooDeep, first_too_many, first_too_deep, is_open, open_behind}
 use Rattle.ttl_read.specs.Documents.{Setting, IsStatement, Cause, HasCause, TooDeep, NoStatement, BadTerm}
 use Rattle.ttl_read.specs.Documents.{TooManyTriples, TooManyTerms, IsAtEnd}
-use Rattle.ttl_read.specs.Follows.{takes_no_token, may_begin}
+use Rattle.ttl_read.specs.inner.Follows.{takes_no_token, may_begin}
 use Rattle.ttl_read.specs.Grammar.{Place, statement}
 use Rattle.ttl_read.specs.Unique.{Settled, One, OneCause}
 use Rattle.ttl_read.proofs.DepthLemmas.{too_deep_from}

@@ -1,11 +1,7 @@
 pub mod Depth
 pub mod Documents
-pub mod Follows
 pub mod Found
 pub mod Grammar
 pub mod ReadTerm
-pub mod Reads
-pub mod Sound
-pub mod Stated
-pub mod Stops
 pub mod Unique
+pub mod inner

@@ -5,8 +5,8 @@ ghost use Rattle.ttl_tokens.specs.Form.{Then};
 ghost use Rattle.ttl_meaning.specs.Items.{behind_member, close_node};
 ghost use Rattle.ttl_read.specs.Grammar.{collection, do_, is_close_square, is_open_round, is_open_square};
 ghost use Rattle.ttl_read.specs.Grammar.{members, object, property_list, sign};
-ghost use Rattle.ttl_read.specs.Reads.{Advances, Parses, ParsesAlone, Stands};
-ghost use Rattle.ttl_read.specs.Stops.{goes_on, stops_nowhere};
+ghost use Rattle.ttl_read.specs.inner.Reads.{Advances, Parses, ParsesAlone, Stands};
+ghost use Rattle.ttl_read.specs.inner.Stops.{goes_on, stops_nowhere};
 
 use crate::marks::is_close_square;
 use crate::object::object;

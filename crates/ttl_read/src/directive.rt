@@ -3,7 +3,7 @@ ghost use Rattle.std.specs.Prelude.{OnOk};
 ghost use Rattle.shx_term.specs.Pool.{Pooled};
 ghost use Rattle.ttl_meaning.specs.Items.{on_namespace};
 ghost use Rattle.ttl_read.specs.Grammar.{base_setting, is_dot, is_iri_ref, mark, prefix_binding, token};
-ghost use Rattle.ttl_read.specs.Reads.{Advances, ParsesAlone, Stands};
+ghost use Rattle.ttl_read.specs.inner.Reads.{Advances, ParsesAlone, Stands};
 
 use crate::marks::{is_dot, is_iri_ref, is_pname_ns};
 use crate::reader::{Reader, Refused};

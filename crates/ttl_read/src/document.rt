@@ -1,10 +1,10 @@
 ghost use Rattle.std.specs.Prelude.{◌≡◌, ◌≤◌, length, IfOk, IfErr};
 ghost use Rattle.std.specs.Str.{IsCharBoundary, IsUtf8};
 ghost use Rattle.iri_resolve.specs.Resolution.{IsAbsolute};
-ghost use Rattle.ttl_meaning.specs.DocumentOf.{IsDocumentOf};
+ghost use Rattle.ttl_meaning.specs.inner.DocumentOf.{IsDocumentOf};
 ghost use Rattle.ttl_meaning.specs.State.{State};
 ghost use Rattle.ttl_read.specs.Documents.{first_byte, setting};
-ghost use Rattle.ttl_read.specs.Stated.{FaultStands, States};
+ghost use Rattle.ttl_read.specs.inner.Stated.{FaultStands, States};
 
 use crate::fault::TtlFault;
 use crate::reader::{Reader, Tokens};

@@ -9,7 +9,8 @@
 //! | `statements.rt` | the statements of a text, one after the other, and their faults |
 //! | `depth.rt` | the first pass over a statement: how deep its brackets go |
 //! | `statement.rt`, `directive.rt` | the second pass: one statement |
-//! | `triples.rt`, `object.rt`, `collection.rt`, `literal.rt`, `node.rt` | its parts, one function a production |
+//! | `triples.rt`, `object.rt`, `collection.rt` | its parts, one function a production |
+//! | `literal.rt`, `node.rt` | its terms, likewise |
 //! | `marks.rt` | which tokens are which |
 //! | `reader.rt` | `Reader`: the next token, and what was read before it |
 //! | `laws.rt` | that one term is found |

@@ -1,8 +1,8 @@
 //! Literals.
 ghost use Rattle.std.specs.Prelude.{◌≡◌, ◌≤◌, OnOk, Ok, true};
 ghost use Rattle.ttl_read.specs.Grammar.{is_string, literal, string_end, string_literal};
-ghost use Rattle.ttl_read.specs.Reads.{Advances, Parses, Stands};
-ghost use Rattle.ttl_read.specs.Stops.{goes_on};
+ghost use Rattle.ttl_read.specs.inner.Reads.{Advances, Parses, Stands};
+ghost use Rattle.ttl_read.specs.inner.Stops.{goes_on};
 
 use crate::marks::{is_bare_literal, is_carets, is_lang_tag, is_string};
 use crate::node::iri;

@@ -3,7 +3,7 @@ ghost use Rattle.std.specs.Prelude.{◌≡◌, OnOk, Ok, true};
 ghost use Rattle.shx_term.specs.Pool.{Pooled};
 ghost use Rattle.ttl_meaning.specs.Items.{on_a};
 ghost use Rattle.ttl_read.specs.Grammar.{blank_node, iri, is_word_a, node, sign, verb};
-ghost use Rattle.ttl_read.specs.Reads.{Advances, ParsesAlone, Stands};
+ghost use Rattle.ttl_read.specs.inner.Reads.{Advances, ParsesAlone, Stands};
 
 use crate::marks::{is_anon, is_blank_label, is_iri, is_word_a};
 use crate::reader::{Reader, Refused};

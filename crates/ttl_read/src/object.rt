@@ -1,8 +1,8 @@
 //! Objects, and lists of them.
 ghost use Rattle.std.specs.Prelude.{◌≡◌, OnOk, Ok};
 ghost use Rattle.ttl_read.specs.Grammar.{object, object_list, plain_object};
-ghost use Rattle.ttl_read.specs.Reads.{Advances, Parses, Stands};
-ghost use Rattle.ttl_read.specs.Stops.{goes_on, list_goes_on};
+ghost use Rattle.ttl_read.specs.inner.Reads.{Advances, Parses, Stands};
+ghost use Rattle.ttl_read.specs.inner.Stops.{goes_on, list_goes_on};
 
 use crate::collection::{collection, property_list};
 use crate::literal::literal;

@@ -1,7 +1,7 @@
 ghost use Rattle.std.specs.Prelude.{◌≡◌, ◌≤◌, length, Ok};
 ghost use Rattle.std.specs.Str.{IsCharBoundary};
 ghost use Rattle.ttl_read.specs.Grammar.{begins_verb, is_close_round, is_comma, is_semicolon};
-ghost use Rattle.ttl_read.specs.Reads.{Stands, next_if, start_of_next};
+ghost use Rattle.ttl_read.specs.inner.Reads.{Stands, next_if, start_of_next};
 
 use crate::marks::{is_close_round, is_comma, is_semicolon, is_verb};
 use std::alloc::AllocError;

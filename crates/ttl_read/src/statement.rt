@@ -4,7 +4,7 @@ ghost use Rattle.shx_term.specs.Pool.{Pooled};
 ghost use Rattle.ttl_tokens.specs.Form.{Or, Then};
 ghost use Rattle.ttl_read.specs.Grammar.{base_setting, is_dot, is_lang_tag, mark, prefix_binding};
 ghost use Rattle.ttl_read.specs.Grammar.{statement, tag_word};
-ghost use Rattle.ttl_read.specs.Reads.{Advances, ParsesAlone, Stands};
+ghost use Rattle.ttl_read.specs.inner.Reads.{Advances, ParsesAlone, Stands};
 
 use crate::directive::{base_setting, dot, prefix_binding};
 use crate::marks::{is_lang_tag, is_word_base, is_word_prefix};

@@ -3,8 +3,8 @@ ghost use Rattle.std.specs.Prelude.{◌≡◌, List, MatchOption, OnOk};
 ghost use Rattle.shx_term.specs.declared.term.Term.{Term as term};
 ghost use Rattle.ttl_read.specs.Depth.{IsNotTooDeep, IsTooDeep};
 ghost use Rattle.ttl_read.specs.Documents.{setting};
-ghost use Rattle.ttl_read.specs.Reads.{Advances, Stands};
-ghost use Rattle.ttl_read.specs.Sound.{Concludes, IsJudged, IsSound, is_end_next};
+ghost use Rattle.ttl_read.specs.inner.Reads.{Advances, Stands};
+ghost use Rattle.ttl_read.specs.inner.Sound.{Concludes, IsJudged, IsSound, is_end_next};
 
 use crate::depth::too_deep;
 use crate::fault::{TtlFault, code_of};

@@ -7,7 +7,7 @@ ghost use Rattle.ttl_tokens.specs.Tokens.{IsTokenAt};
 ghost use Rattle.ttl_tokens.specs.Unescaped.{IsGiven};
 ghost use Rattle.ttl_meaning.specs.declared.fault.TermFaultKind.{TermFaultKind};
 ghost use Rattle.ttl_meaning.specs.InForce.{in_force};
-ghost use Rattle.ttl_meaning.specs.Meant.{IsMeant};
+ghost use Rattle.ttl_meaning.specs.inner.Meant.{IsMeant};
 ghost use Rattle.ttl_meaning.specs.Terms.{iri_of};
 ghost use Rattle.ttl_read.specs.Found.{Answers, HasSuffix, IsFaultOf};
 ghost use Rattle.ttl_read.specs.Grammar.{is_blank_label, is_iri, is_string};

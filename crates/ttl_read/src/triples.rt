@@ -3,8 +3,8 @@ ghost use Rattle.std.specs.Prelude.{◌≡◌, ◌≤◌, ◌<◌, ◌+◌, ◌^
 ghost use Rattle.ttl_tokens.specs.Form.{Maybe};
 ghost use Rattle.ttl_read.specs.Grammar.{is_open_square, node_triples, object, predicate_object_list};
 ghost use Rattle.ttl_read.specs.Grammar.{subject, triples, verb_objects};
-ghost use Rattle.ttl_read.specs.Reads.{Advances, Parses, Stands};
-ghost use Rattle.ttl_read.specs.Stops.{list_goes_on, predicates_go_on, stops_nowhere, verbs_go_on};
+ghost use Rattle.ttl_read.specs.inner.Reads.{Advances, Parses, Stands};
+ghost use Rattle.ttl_read.specs.inner.Stops.{list_goes_on, predicates_go_on, stops_nowhere, verbs_go_on};
 
 use crate::collection::{collection, property_list};
 use crate::marks::{is_open_round, is_open_square};

@@ -12,8 +12,8 @@ use Rattle.ttl_tokens.specs.declared.lookahead.Lookahead.{Lookahead}
 use Rattle.ttl_tokens.specs.declared.token.TokenKind.{TokenKind}
 use Rattle.ttl_tokens.specs.declared.token.TokenKind.TheVariants.{PnameNs, WordA, WordTrue, WordFalse}
 use Rattle.ttl_tokens.specs.declared.token.TokenKind.TheVariants.{WordPrefix, WordBase}
-use Rattle.ttl_tokens.specs.Lookahead.{KnowsAhead}
-use Rattle.ttl_tokens.specs.NameForms.{is_word}
+use Rattle.ttl_tokens.specs.inner.Lookahead.{KnowsAhead}
+use Rattle.ttl_tokens.specs.inner.NameForms.{is_word}
 use Rattle.ttl_tokens.specs.Tokens.{Stands, IsToken}
 use Rattle.ttl_tokens.specs.Form.{Item, Then, Many, Times, Takes}
 use Rattle.ttl_tokens.specs.Walks.{Never}

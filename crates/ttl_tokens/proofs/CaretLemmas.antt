@@ -7,7 +7,7 @@ use Rattle.ttl_tokens.specs.Form.{Item, Takes}
 use Rattle.ttl_tokens.specs.Walks.{Never, Only}
 use Rattle.ttl_tokens.specs.Chars.{Chars, PastChar, word}
 use Rattle.ttl_tokens.specs.Tokens.{Stands}
-use Rattle.ttl_tokens.specs.Groups.{kind_group, IsTokenOf, IsNoTokenOf}
+use Rattle.ttl_tokens.specs.inner.Groups.{kind_group, IsTokenOf, IsNoTokenOf}
 use Rattle.ttl_tokens.proofs.FormLemmas.{then_same, then_never, same_only, same_never}
 use Rattle.ttl_tokens.proofs.LeavesLemmas.{only_leaves}
 use Rattle.ttl_tokens.proofs.OneKindLemmas.{IsOneKind, one_kind_token, one_kind_none}

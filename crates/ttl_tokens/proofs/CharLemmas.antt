@@ -7,7 +7,7 @@ use Rattle.std.specs.Str.{chars}
 use Rattle.ttl_tokens.specs.Form.{Empty, Item, Then, Or, Maybe, Many, Times, Takes, is_empty, begins}
 use Rattle.ttl_tokens.specs.Walks.{Never, Only, Same, Apart, Greedy}
 use Rattle.ttl_tokens.specs.Chars.{Chars, PastChar}
-use Rattle.ttl_tokens.specs.CharWalks.{Longest}
+use Rattle.ttl_tokens.specs.inner.CharWalks.{Longest}
 use Rattle.ttl_tokens.proofs.BeginLemmas.{begins_with, never_where, never_where_none}
 use Rattle.ttl_tokens.proofs.FormLemmas.{times_takes, match_only}
 
@@ -93,9 +93,6 @@ apart_begins f g some_f some_g other = record { apart = λ xs ys zs s t. at xs y
 pub same_longest : {f g : Chars} {xs ys zs : List ℕ} → Same PastChar f xs g ys → Longest g ys zs
     → Longest f xs zs
 same_longest s l = record { takes = s.back _ l.takes; longest = λ ws t. l.longest ws (s.to ws t) }
-
-pub only_longest : {f : Chars} {xs ys : List ℕ} → Only PastChar f xs ys → Longest f xs ys
-only_longest o = record { takes = o.takes; longest = λ zs t. rw (o.only zs t) (omega arith) }
 
 not_longer : (f : Chars) (m : List ℕ) → Never PastChar f m → (k n : ℕ) (xs zs : List ℕ)
     → Times (Only PastChar f) k xs m → Times (Takes PastChar f) n xs zs → length m ≤ length zs

@@ -7,8 +7,9 @@ use Rattle.ttl_tokens.specs.Walks.{Never, Only, Same, Apart}
 use Rattle.ttl_tokens.specs.Chars.{Chars, PastChar, word, between, is_hex}
 use Rattle.ttl_tokens.specs.Terminals.{four_digits, eight_digits, uchar, echar, is_d, is_escaped, hex_2}
 use Rattle.ttl_tokens.specs.Terminals.{hex_3, hex_4}
-use Rattle.ttl_tokens.specs.EscapeForms.{behind_2_zeros, behind_3_zeros, below_surrogates, long_uchar_rest}
-use Rattle.ttl_tokens.specs.EscapeForms.{low_plane, plane_16, uchar_rest}
+use Rattle.ttl_tokens.specs.inner.EscapeForms.{behind_2_zeros, behind_3_zeros, below_surrogates}
+use Rattle.ttl_tokens.specs.inner.EscapeForms.{long_uchar_rest}
+use Rattle.ttl_tokens.specs.inner.EscapeForms.{low_plane, plane_16, uchar_rest}
 use Rattle.ttl_tokens.proofs.FormLemmas.{same_trans, same_only, then_same, then_never, or_never, left_same}
 use Rattle.ttl_tokens.proofs.FormLemmas.{right_same, apart_never, or_same, past_two, past_two_never}
 use Rattle.ttl_tokens.proofs.FormLemmas.{then_step}

@@ -127,9 +127,6 @@ module _ {I P : Type 0} {R : I → P → P → Type 0} where
 
   -- ---- what comes many times
 
-  runs_none : {f : Form I} {x : P} → Runs R f x x
-  runs_none = (zero, refl)
-
   pub runs_more : {f : Form I} {x m y : P} → Runs R f x m → Only R f m y → Runs R f x y
   runs_more {f = f} {x = x} {m = m} {y = y} r o = (suc r.0, times_one_more (Only R f) r.0 x m y r.1 o)
 
@@ -156,10 +153,6 @@ module _ {I P : Type 0} {R : I → P → P → Type 0} where
     to = λ z t. (t.1.0, t.1.1, (t.0, t.1.2, t.2));
     back = λ z t. (t.2.0, (t.0, t.1, t.2.1), t.2.2);
   }
-
-  pub some_same : {f g : Form I} {x d m : P} → Apart R f g → Only R f x d → Greedy R f d m
-      → Same R (Then (Then f (Many f)) g) x g m
-  some_same a o r = same_trans then_assoc (same_trans (then_same o) (many_same a r))
 
   pub then_nothing : {f : Form I} {x : P} → Same R f x (Then f Empty) x
   then_nothing {f = f} {x = x} = record {

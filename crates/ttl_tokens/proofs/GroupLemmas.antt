@@ -17,7 +17,7 @@ use Rattle.ttl_tokens.specs.declared.token.TokenKind.TheVariants.{CloseRound, En
 use Rattle.ttl_tokens.specs.Chars.{is_digit, is_letter, is_name_start}
 use Rattle.ttl_tokens.specs.Terminals.{terminal}
 use Rattle.ttl_tokens.specs.Tokens.{Stands, IsAnon, IsToken, IsNoToken}
-use Rattle.ttl_tokens.specs.Groups.{char_group, kind_group, IsTokenOf, IsNoTokenOf}
+use Rattle.ttl_tokens.specs.inner.Groups.{char_group, kind_group, IsTokenOf, IsNoTokenOf}
 use Rattle.ttl_tokens.proofs.CharLemmas.{first, takes_begins, never_at_end}
 
 -- ---- which group a character is of

@@ -9,8 +9,8 @@ use Rattle.ttl_tokens.specs.Form.{Takes}
 use Rattle.ttl_tokens.specs.Walks.{Never, Only, Same, Apart, Greedy}
 use Rattle.ttl_tokens.specs.Chars.{Chars, PastChar, word}
 use Rattle.ttl_tokens.specs.Terminals.{iri_ref, is_iri_char, uchar}
-use Rattle.ttl_tokens.specs.IriRefForms.{iri_item}
-use Rattle.ttl_tokens.specs.Groups.{IsNoTokenOf, IsTokenOf, kind_group}
+use Rattle.ttl_tokens.specs.inner.IriRefForms.{iri_item}
+use Rattle.ttl_tokens.specs.inner.Groups.{IsNoTokenOf, IsTokenOf, kind_group}
 use Rattle.ttl_tokens.specs.Tokens.{Stands}
 use Rattle.ttl_tokens.proofs.FormLemmas.{same_trans, then_same, many_same, right_same}
 use Rattle.ttl_tokens.proofs.CharLemmas.{apart_begins, char_never}

@@ -6,11 +6,11 @@ use Rattle.ttl_tokens.specs.declared.token.TokenKind.TheVariants.{BlankLabel}
 use Rattle.ttl_tokens.specs.Form.{Then}
 use Rattle.ttl_tokens.specs.Walks.{Never, Only, Same}
 use Rattle.ttl_tokens.specs.Chars.{PastChar, word}
-use Rattle.ttl_tokens.specs.CharWalks.{Longest}
+use Rattle.ttl_tokens.specs.inner.CharWalks.{Longest}
 use Rattle.ttl_tokens.specs.Terminals.{blank_label}
 use Rattle.ttl_tokens.specs.Tokens.{Stands}
-use Rattle.ttl_tokens.specs.Groups.{kind_group, IsTokenOf, IsNoTokenOf}
-use Rattle.ttl_tokens.specs.NameForms.{label_start, name_tail}
+use Rattle.ttl_tokens.specs.inner.Groups.{kind_group, IsTokenOf, IsNoTokenOf}
+use Rattle.ttl_tokens.specs.inner.NameForms.{label_start, name_tail}
 use Rattle.ttl_tokens.proofs.FormLemmas.{same_trans, same_never, then_same, then_never}
 use Rattle.ttl_tokens.proofs.CharLemmas.{same_longest}
 use Rattle.ttl_tokens.proofs.RestLemmas.{longest_other}

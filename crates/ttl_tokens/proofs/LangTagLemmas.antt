@@ -9,9 +9,9 @@ use Rattle.ttl_tokens.specs.Walks.{Never, Only, Greedy}
 use Rattle.ttl_tokens.specs.Chars.{Chars, PastChar, some, is_letter, is_letter_or_digit}
 use Rattle.ttl_tokens.specs.Terminals.{lang_tag}
 use Rattle.ttl_tokens.specs.Tokens.{Stands}
-use Rattle.ttl_tokens.specs.Groups.{kind_group, IsTokenOf, IsNoTokenOf}
-use Rattle.ttl_tokens.specs.LangTagForms.{subtag}
-use Rattle.ttl_tokens.specs.Leaves.{Leaves}
+use Rattle.ttl_tokens.specs.inner.Groups.{kind_group, IsTokenOf, IsNoTokenOf}
+use Rattle.ttl_tokens.specs.inner.LangTagForms.{subtag}
+use Rattle.ttl_tokens.specs.inner.Leaves.{Leaves}
 use Rattle.ttl_tokens.proofs.FormLemmas.{then_same, then_never, same_trans, then_assoc}
 use Rattle.ttl_tokens.proofs.CharLemmas.{apart_begins, takes_shorter, only_le}
 use Rattle.ttl_tokens.proofs.LeavesLemmas.{Stops, same_leaves, leaves_trans, then_leaves, stops_many}

@@ -4,7 +4,7 @@ use Rattle.std.proofs.Common.{length, refl, sym, ◌∙◌, subst, ◌⊎◌, in
 use Rattle.ttl_tokens.specs.Form.{Empty, Then, Or, Maybe, Many, Times, Takes}
 use Rattle.ttl_tokens.specs.Walks.{Never, Only, Same, Apart, Greedy, Passes}
 use Rattle.ttl_tokens.specs.Chars.{Chars, PastChar, some}
-use Rattle.ttl_tokens.specs.Leaves.{Leaves}
+use Rattle.ttl_tokens.specs.inner.Leaves.{Leaves}
 use Rattle.ttl_tokens.proofs.FormLemmas.{times_takes, same_trans, then_same, passes_same, then_assoc}
 use Rattle.ttl_tokens.proofs.FormLemmas.{then_nothing}
 use Rattle.ttl_tokens.proofs.CharLemmas.{takes_nothing, takes_le, takes_shorter, only_le}

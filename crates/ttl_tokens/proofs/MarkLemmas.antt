@@ -21,7 +21,7 @@ use Rattle.ttl_tokens.specs.Chars.{Chars, PastChar, exactly}
 use Rattle.ttl_tokens.specs.Terminals.{is_iri_char, uchar, three_quotes, short_char, short_string}
 use Rattle.ttl_tokens.specs.Terminals.{long_char, long_string}
 use Rattle.ttl_tokens.specs.Tokens.{IsNext}
-use Rattle.ttl_tokens.specs.Marks.{HasMarks}
+use Rattle.ttl_tokens.specs.inner.Marks.{HasMarks}
 use Rattle.ttl_tokens.specs.Unescaped.{mark_length, IsGiven, token_text, without_ends}
 use Rattle.ttl_tokens.proofs.RestLemmas.{takes_rest}
 

@@ -8,11 +8,11 @@ use Rattle.ttl_tokens.specs.declared.token.TokenKind.TheVariants.{WordFalse, Wor
 use Rattle.ttl_tokens.specs.Form.{Takes}
 use Rattle.ttl_tokens.specs.Walks.{Never, Only}
 use Rattle.ttl_tokens.specs.Chars.{PastChar}
-use Rattle.ttl_tokens.specs.CharWalks.{Longest}
+use Rattle.ttl_tokens.specs.inner.CharWalks.{Longest}
 use Rattle.ttl_tokens.specs.Terminals.{pname_ns, pname_ln, pn_local, terminal}
 use Rattle.ttl_tokens.specs.Tokens.{Stands}
-use Rattle.ttl_tokens.specs.Groups.{kind_group, IsTokenOf, IsNoTokenOf}
-use Rattle.ttl_tokens.specs.NameForms.{is_word, IsWord, IsNoWord}
+use Rattle.ttl_tokens.specs.inner.Groups.{kind_group, IsTokenOf, IsNoTokenOf}
+use Rattle.ttl_tokens.specs.inner.NameForms.{is_word, IsWord, IsNoWord}
 use Rattle.ttl_tokens.proofs.FormLemmas.{same_never, then_same}
 use Rattle.ttl_tokens.proofs.CharLemmas.{same_longest, takes_shorter}
 use Rattle.ttl_tokens.proofs.RestLemmas.{longest_other}

@@ -10,10 +10,10 @@ use Rattle.ttl_tokens.specs.Walks.{Never, Only, Same, Apart, Greedy, Passes}
 use Rattle.ttl_tokens.specs.Chars.{Chars, PastChar, some, is_digit}
 use Rattle.ttl_tokens.specs.Terminals.{none, digits, some_digits, point, integer, decimal, exponent, double}
 use Rattle.ttl_tokens.specs.Tokens.{Stands}
-use Rattle.ttl_tokens.specs.Groups.{kind_group, IsTokenOf, IsNoTokenOf}
-use Rattle.ttl_tokens.specs.Leaves.{Leaves}
-use Rattle.ttl_tokens.specs.NumberForms.{is_sign, is_letter_e, fraction, fraction_exponent}
-use Rattle.ttl_tokens.specs.NumberForms.{double_behind_digits, number_form, IsNumberOf}
+use Rattle.ttl_tokens.specs.inner.Groups.{kind_group, IsTokenOf, IsNoTokenOf}
+use Rattle.ttl_tokens.specs.inner.Leaves.{Leaves}
+use Rattle.ttl_tokens.specs.inner.NumberForms.{is_sign, is_letter_e, fraction, fraction_exponent}
+use Rattle.ttl_tokens.specs.inner.NumberForms.{double_behind_digits, number_form, IsNumberOf}
 use Rattle.ttl_tokens.proofs.FormLemmas.{same_trans, same_never, then_same, then_never, left_same}
 use Rattle.ttl_tokens.proofs.FormLemmas.{right_same, passes_same, many_same, same_sym, many_some}
 use Rattle.ttl_tokens.proofs.FormLemmas.{apart_never, greedy_none, greedy_more}

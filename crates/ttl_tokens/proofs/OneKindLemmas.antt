@@ -5,9 +5,9 @@ use Rattle.ttl_tokens.specs.declared.token.TokenKind.{TokenKind}
 use Rattle.ttl_tokens.specs.Form.{Empty, Takes}
 use Rattle.ttl_tokens.specs.Walks.{Never}
 use Rattle.ttl_tokens.specs.Chars.{Chars, PastChar}
-use Rattle.ttl_tokens.specs.Leaves.{Leaves}
+use Rattle.ttl_tokens.specs.inner.Leaves.{Leaves}
 use Rattle.ttl_tokens.specs.Tokens.{Stands}
-use Rattle.ttl_tokens.specs.Groups.{kind_group, IsTokenOf, IsNoTokenOf}
+use Rattle.ttl_tokens.specs.inner.Groups.{kind_group, IsTokenOf, IsNoTokenOf}
 
 -- the group has this kind alone, and the kind this form
 pub record IsOneKind (group : Group) (kind : TokenKind) (f : Chars) : Type 0 where

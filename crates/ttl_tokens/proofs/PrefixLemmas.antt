@@ -9,9 +9,9 @@ use Rattle.ttl_tokens.specs.Form.{Item, Then, Or, Maybe, Many, Times, Takes}
 use Rattle.ttl_tokens.specs.Walks.{Never, Only, Same, Apart}
 use Rattle.ttl_tokens.specs.Chars.{Chars, PastChar, word, any_case, between, is_letter, is_name_char}
 use Rattle.ttl_tokens.specs.Chars.{is_name_start, exactly}
-use Rattle.ttl_tokens.specs.CharWalks.{Longest}
+use Rattle.ttl_tokens.specs.inner.CharWalks.{Longest}
 use Rattle.ttl_tokens.specs.Terminals.{pn_prefix, pname_ns, terminal}
-use Rattle.ttl_tokens.specs.NameForms.{is_word}
+use Rattle.ttl_tokens.specs.inner.NameForms.{is_word}
 use Rattle.ttl_tokens.proofs.CharLemmas.{many_longest, apart_char, takes_shorter}
 use Rattle.ttl_tokens.proofs.RestLemmas.{same_place}
 use Rattle.ttl_tokens.proofs.FormLemmas.{times_one_more}

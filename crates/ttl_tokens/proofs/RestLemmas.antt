@@ -4,7 +4,7 @@ use Rattle.std.proofs.Common.{◌⊎◌, inl, inr, arith, append_assoc, length-a
 use Rattle.std.proofs.Math.Nat.{eq-or-lt_of_le}
 use Rattle.ttl_tokens.specs.Form.{Empty, Item, Then, Or, Maybe, Many, Times, Takes}
 use Rattle.ttl_tokens.specs.Chars.{Chars, PastChar}
-use Rattle.ttl_tokens.specs.CharWalks.{Longest}
+use Rattle.ttl_tokens.specs.inner.CharWalks.{Longest}
 
 -- ys is what is left of xs behind a front
 abbrev pub IsRest : List ℕ → List ℕ → Type 0

@@ -12,7 +12,7 @@ use Rattle.ttl_tokens.specs.Walks.{Never, Only}
 use Rattle.ttl_tokens.specs.Chars.{PastChar, is_white, is_line_end}
 use Rattle.ttl_tokens.specs.Blanks.{behind, behind_blanks}
 use Rattle.ttl_tokens.specs.Tokens.{Stands, IsAnon}
-use Rattle.ttl_tokens.specs.Groups.{kind_group, IsTokenOf, IsNoTokenOf}
+use Rattle.ttl_tokens.specs.inner.Groups.{kind_group, IsTokenOf, IsNoTokenOf}
 
 pub behind_le : (b : Bool) (xs : List ℕ) → length (behind b xs) ≤ length xs
 behind_le true [] = omega arith

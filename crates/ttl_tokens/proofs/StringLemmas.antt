@@ -12,8 +12,8 @@ use Rattle.ttl_tokens.specs.Walks.{Never, Only, Same, Apart, Greedy, Passes}
 use Rattle.ttl_tokens.specs.Chars.{PastChar, exactly}
 use Rattle.ttl_tokens.specs.Terminals.{up_to_2_quotes, echar, uchar, short_char, long_char, short_string}
 use Rattle.ttl_tokens.specs.Terminals.{long_string, three_quotes, block}
-use Rattle.ttl_tokens.specs.StringForms.{IsQuote, long_rest}
-use Rattle.ttl_tokens.specs.Groups.{IsNoTokenOf, IsTokenOf, kind_group}
+use Rattle.ttl_tokens.specs.inner.StringForms.{IsQuote, long_rest}
+use Rattle.ttl_tokens.specs.inner.Groups.{IsNoTokenOf, IsTokenOf, kind_group}
 use Rattle.ttl_tokens.specs.Tokens.{BeginsLong, Stands}
 use Rattle.ttl_tokens.proofs.FormLemmas.{same_trans, same_only, same_never, then_same, then_never, or_never}
 use Rattle.ttl_tokens.proofs.FormLemmas.{left_same, right_same, many_same, maybe_yes, maybe_no, apart_never}

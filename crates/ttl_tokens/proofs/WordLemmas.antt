@@ -10,7 +10,7 @@ use Rattle.ttl_tokens.specs.Form.{Empty, Takes}
 use Rattle.ttl_tokens.specs.Walks.{Never, Only, Same}
 use Rattle.ttl_tokens.specs.Chars.{Chars, PastChar, word, any_case, exactly, either_case}
 use Rattle.ttl_tokens.specs.Terminals.{terminal}
-use Rattle.ttl_tokens.specs.NameForms.{is_word, IsWord, IsNoWord}
+use Rattle.ttl_tokens.specs.inner.NameForms.{is_word, IsWord, IsNoWord}
 use Rattle.ttl_tokens.proofs.FormLemmas.{same_never, same_only, same_trans, then_never, then_same}
 use Rattle.ttl_tokens.proofs.FormLemmas.{empty_same}
 use Rattle.ttl_tokens.proofs.CharLemmas.{first, never_at_end, takes_begins, takes_nothing}

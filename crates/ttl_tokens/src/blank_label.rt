@@ -1,8 +1,8 @@
 ghost use Rattle.std.specs.Prelude.{MatchOption, codes};
 ghost use Rattle.std.specs.Str.{chars};
 ghost use Rattle.ttl_tokens.specs.Chars.{PastChar, word};
-ghost use Rattle.ttl_tokens.specs.Groups.{IsNoTokenOf, IsTokenOf};
-ghost use Rattle.ttl_tokens.specs.NameForms.{label_start};
+ghost use Rattle.ttl_tokens.specs.inner.Groups.{IsNoTokenOf, IsTokenOf};
+ghost use Rattle.ttl_tokens.specs.inner.NameForms.{label_start};
 ghost use Rattle.ttl_tokens.specs.Walks.{Never, Only};
 ghost use Rattle.ttl_tokens.specs.declared.group.Group.TheVariants.{Underscore};
 

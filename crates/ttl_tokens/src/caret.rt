@@ -1,7 +1,7 @@
 ghost use Rattle.std.specs.Prelude.{MatchOption};
 ghost use Rattle.std.specs.Str.{chars};
 ghost use Rattle.ttl_tokens.specs.declared.group.Group.TheVariants.{Caret};
-ghost use Rattle.ttl_tokens.specs.Groups.{IsTokenOf, IsNoTokenOf};
+ghost use Rattle.ttl_tokens.specs.inner.Groups.{IsTokenOf, IsNoTokenOf};
 
 use crate::token::TokenKind;
 use crate::walk::past_char;

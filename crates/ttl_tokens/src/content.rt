@@ -1,6 +1,6 @@
 ghost use Rattle.std.specs.Prelude.{◌≡◌};
 ghost use Rattle.std.specs.Str.{chars};
-ghost use Rattle.ttl_tokens.specs.Marks.{HasMarks};
+ghost use Rattle.ttl_tokens.specs.inner.Marks.{HasMarks};
 ghost use Rattle.ttl_tokens.specs.Unescaped.{behind_colon, content, mark_length, without_ends};
 
 use crate::token::TokenKind;

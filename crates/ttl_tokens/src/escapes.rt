@@ -1,8 +1,8 @@
 ghost use Rattle.std.specs.Prelude.{◌≡◌, MatchOption};
 ghost use Rattle.std.specs.Str.{chars};
 ghost use Rattle.ttl_tokens.specs.Chars.{PastChar, is_hex};
-ghost use Rattle.ttl_tokens.specs.EscapeForms.{behind_2_zeros, behind_3_zeros, below_surrogates};
-ghost use Rattle.ttl_tokens.specs.EscapeForms.{long_uchar_rest, low_plane, plane_16, uchar_rest};
+ghost use Rattle.ttl_tokens.specs.inner.EscapeForms.{behind_2_zeros, behind_3_zeros, below_surrogates};
+ghost use Rattle.ttl_tokens.specs.inner.EscapeForms.{long_uchar_rest, low_plane, plane_16, uchar_rest};
 ghost use Rattle.ttl_tokens.specs.Terminals.{hex_2, hex_3, hex_4, hex, four_digits, eight_digits, uchar};
 ghost use Rattle.ttl_tokens.specs.Terminals.{echar, is_d, is_escaped};
 ghost use Rattle.ttl_tokens.specs.Form.{Item, Or};

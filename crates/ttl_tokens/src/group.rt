@@ -1,5 +1,5 @@
 ghost use Rattle.std.specs.Prelude.{◌≡◌};
-ghost use Rattle.ttl_tokens.specs.Groups.{char_group};
+ghost use Rattle.ttl_tokens.specs.inner.Groups.{char_group};
 
 use crate::classes::is_name_start;
 

@@ -1,8 +1,8 @@
 ghost use Rattle.std.specs.Prelude.{◌≡◌, MatchOption};
 ghost use Rattle.std.specs.Str.{chars};
 ghost use Rattle.ttl_tokens.specs.Chars.{PastChar};
-ghost use Rattle.ttl_tokens.specs.Groups.{IsNoTokenOf, IsTokenOf};
-ghost use Rattle.ttl_tokens.specs.IriRefForms.{iri_item};
+ghost use Rattle.ttl_tokens.specs.inner.Groups.{IsNoTokenOf, IsTokenOf};
+ghost use Rattle.ttl_tokens.specs.inner.IriRefForms.{iri_item};
 ghost use Rattle.ttl_tokens.specs.Terminals.{iri_ref, is_iri_char};
 ghost use Rattle.ttl_tokens.specs.Walks.{Greedy, Never, Only};
 ghost use Rattle.ttl_tokens.specs.declared.group.Group.TheVariants.{Angle};

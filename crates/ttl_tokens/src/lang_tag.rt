@@ -3,9 +3,9 @@ ghost use Rattle.std.specs.Str.{chars};
 ghost use Rattle.ttl_tokens.specs.declared.group.Group.TheVariants.{At};
 ghost use Rattle.ttl_tokens.specs.Chars.{PastChar, some, is_letter, is_letter_or_digit};
 ghost use Rattle.ttl_tokens.specs.Form.{Empty, Item, Many};
-ghost use Rattle.ttl_tokens.specs.Groups.{IsTokenOf, IsNoTokenOf};
-ghost use Rattle.ttl_tokens.specs.LangTagForms.{subtag};
-ghost use Rattle.ttl_tokens.specs.Leaves.{Leaves};
+ghost use Rattle.ttl_tokens.specs.inner.Groups.{IsTokenOf, IsNoTokenOf};
+ghost use Rattle.ttl_tokens.specs.inner.LangTagForms.{subtag};
+ghost use Rattle.ttl_tokens.specs.inner.Leaves.{Leaves};
 ghost use Rattle.ttl_tokens.specs.Walks.{Never, Only, Greedy};
 
 use crate::token::TokenKind;

@@ -1,6 +1,6 @@
 ghost use Rattle.std.specs.Prelude.{◌≡◌, ◌∷◌, MatchOption};
 ghost use Rattle.std.specs.Str.{chars};
-ghost use Rattle.ttl_tokens.specs.Groups.{IsTokenOf, IsNoTokenOf, mark_of};
+ghost use Rattle.ttl_tokens.specs.inner.Groups.{IsTokenOf, IsNoTokenOf, mark_of};
 ghost use Rattle.ttl_tokens.specs.declared.group.Group.TheVariants.{Mark, Square};
 
 use crate::TokenKind;

@@ -1,9 +1,9 @@
 ghost use Rattle.std.specs.Prelude.{MatchOption};
 ghost use Rattle.std.specs.Str.{chars};
-ghost use Rattle.ttl_tokens.specs.CharWalks.{Longest};
+ghost use Rattle.ttl_tokens.specs.inner.CharWalks.{Longest};
 ghost use Rattle.ttl_tokens.specs.Chars.{PastChar, is_name_char, exactly};
 ghost use Rattle.ttl_tokens.specs.Form.{Item, Or};
-ghost use Rattle.ttl_tokens.specs.NameForms.{Steps, name_tail};
+ghost use Rattle.ttl_tokens.specs.inner.NameForms.{Steps, name_tail};
 ghost use Rattle.ttl_tokens.specs.Walks.{Never, Only};
 
 use crate::classes::is_name_char;

@@ -1,9 +1,9 @@
 ghost use Rattle.std.specs.Prelude.{◌≡◌, true, MatchOption};
 ghost use Rattle.std.specs.Str.{chars};
-ghost use Rattle.ttl_tokens.specs.CharWalks.{Longest};
+ghost use Rattle.ttl_tokens.specs.inner.CharWalks.{Longest};
 ghost use Rattle.ttl_tokens.specs.Chars.{PastChar, is_name_start};
 ghost use Rattle.ttl_tokens.specs.Form.{Item};
-ghost use Rattle.ttl_tokens.specs.Groups.{IsNoTokenOf, IsTokenOf};
+ghost use Rattle.ttl_tokens.specs.inner.Groups.{IsNoTokenOf, IsTokenOf};
 ghost use Rattle.ttl_tokens.specs.Terminals.{pn_prefix, pname_ns};
 ghost use Rattle.ttl_tokens.specs.Walks.{Never, Only};
 ghost use Rattle.ttl_tokens.specs.declared.group.Group.TheVariants.{Name};

@@ -4,10 +4,10 @@ ghost use Rattle.ttl_tokens.specs.declared.group.Group.TheVariants.{Number};
 ghost use Rattle.ttl_tokens.specs.declared.token.TokenKind.TheVariants.{Dot};
 ghost use Rattle.ttl_tokens.specs.Chars.{PastChar, is_digit};
 ghost use Rattle.ttl_tokens.specs.Form.{Empty, Item};
-ghost use Rattle.ttl_tokens.specs.Groups.{IsTokenOf, IsNoTokenOf};
-ghost use Rattle.ttl_tokens.specs.Leaves.{Leaves};
-ghost use Rattle.ttl_tokens.specs.NumberForms.{IsNumberOf, fraction, fraction_exponent, is_letter_e};
-ghost use Rattle.ttl_tokens.specs.NumberForms.{is_sign, double_behind_digits};
+ghost use Rattle.ttl_tokens.specs.inner.Groups.{IsTokenOf, IsNoTokenOf};
+ghost use Rattle.ttl_tokens.specs.inner.Leaves.{Leaves};
+ghost use Rattle.ttl_tokens.specs.inner.NumberForms.{IsNumberOf, fraction, fraction_exponent, is_letter_e};
+ghost use Rattle.ttl_tokens.specs.inner.NumberForms.{is_sign, double_behind_digits};
 ghost use Rattle.ttl_tokens.specs.Terminals.{none, point, exponent};
 ghost use Rattle.ttl_tokens.specs.Walks.{Never, Only, Greedy, Passes};
 

@@ -1,7 +1,7 @@
 ghost use Rattle.std.specs.Prelude.{◌≡◌, ◌≤◌, true, IfOk, IfErr, length, MatchOption};
 ghost use Rattle.std.specs.Str.{chars, IsCharBoundary};
 ghost use Rattle.ttl_tokens.specs.Chars.{PastChar};
-ghost use Rattle.ttl_tokens.specs.Lookahead.{KnowsAhead};
+ghost use Rattle.ttl_tokens.specs.inner.Lookahead.{KnowsAhead};
 ghost use Rattle.ttl_tokens.specs.Terminals.{pname_ns};
 ghost use Rattle.ttl_tokens.specs.Tokens.{IsToken, IsNoToken, IsTokenAt, IsNoTokenAt};
 ghost use Rattle.ttl_tokens.specs.Walks.{Never};

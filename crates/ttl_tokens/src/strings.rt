@@ -1,8 +1,8 @@
 ghost use Rattle.std.specs.Prelude.{MatchOption};
 ghost use Rattle.std.specs.Str.{chars};
 ghost use Rattle.ttl_tokens.specs.Chars.{PastChar, exactly};
-ghost use Rattle.ttl_tokens.specs.Groups.{IsNoTokenOf, IsTokenOf};
-ghost use Rattle.ttl_tokens.specs.StringForms.{IsQuote, long_rest};
+ghost use Rattle.ttl_tokens.specs.inner.Groups.{IsNoTokenOf, IsTokenOf};
+ghost use Rattle.ttl_tokens.specs.inner.StringForms.{IsQuote, long_rest};
 ghost use Rattle.ttl_tokens.specs.Terminals.{block, long_char, short_char, short_string, three_quotes};
 ghost use Rattle.ttl_tokens.specs.Walks.{Greedy, Never, Only, Passes};
 ghost use Rattle.ttl_tokens.specs.declared.group.Group.TheVariants.{DoubleQuoted, SingleQuoted};

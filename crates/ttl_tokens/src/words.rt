@@ -1,7 +1,7 @@
 ghost use Rattle.std.specs.Prelude.{◌≡◌, ◌+◌, ◌||◌, ◌==◌, MatchOption};
 ghost use Rattle.std.specs.Str.{chars};
 ghost use Rattle.ttl_tokens.specs.Chars.{PastChar, any_case, word, either_case};
-ghost use Rattle.ttl_tokens.specs.NameForms.{IsNoWord, IsWord, is_word};
+ghost use Rattle.ttl_tokens.specs.inner.NameForms.{IsNoWord, IsWord, is_word};
 ghost use Rattle.ttl_tokens.specs.Walks.{Never, Only};
 
 use crate::token::TokenKind;

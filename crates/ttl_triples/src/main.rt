@@ -1,5 +1,5 @@
-//! `ttl_triples BASE TEXT`: the triples that a text of Turtle states over a base, a line each, by the spelling
-//! of their terms; or the fault of the text. It serves to compare `ttl_read` with other readers.
+//! `ttl_triples BASE TEXT`: the triples that a text of Turtle states over a base, a line each, by the
+//! spelling of their terms; or the fault of the text. It serves to compare `ttl_read` with other readers.
 //!
 //! | file | what it holds |
 //! |---|---|

@@ -7,8 +7,8 @@ use Rattle.ttl_read.specs.declared.reader.Reader.{Reader}
 use Rattle.ttl_read.specs.Depth.{is_open}
 use Rattle.ttl_read.specs.Grammar.{is_close_round, is_comma, is_open_round, is_open_square}
 use Rattle.ttl_read.specs.Grammar.{is_semicolon, begins_verb, mark, object, sign, verb_objects}
-use Rattle.ttl_read.specs.Reads.{Passes}
-use Rattle.ttl_read.specs.Stops.{goes_on, list_goes_on, stops_nowhere, verbs_go_on}
+use Rattle.ttl_read.specs.inner.Reads.{Passes}
+use Rattle.ttl_read.specs.inner.Stops.{goes_on, list_goes_on, stops_nowhere, verbs_go_on}
 use Rattle.ttl_read.proofs.AnswerLemmas.{alone_parses, alone_passed_on, handed_on, leads_alone, passed_on}
 use Rattle.ttl_read.proofs.AnswerLemmas.{passes_then_parses, right_parses, then_alone}
 use Rattle.ttl_read.proofs.CollectionLemmas.{do_avoids, members_avoid, members_read, no_close}

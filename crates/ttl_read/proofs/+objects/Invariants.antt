@@ -2,8 +2,8 @@ use Rattle.std.proofs.Common.{◌+◌, ◌-◌, ◌*◌, length}
 use Rattle.ttl_tokens.specs.Form.{Maybe, Then}
 use Rattle.ttl_read.specs.Grammar.{is_comma, is_semicolon, mark, object, object_list, predicate_object_list}
 use Rattle.ttl_read.specs.Grammar.{verb_objects}
-use Rattle.ttl_read.specs.Reads.{Advances}
-use Rattle.ttl_read.specs.Stops.{list_goes_on, predicates_go_on}
+use Rattle.ttl_read.specs.inner.Reads.{Advances}
+use Rattle.ttl_read.specs.inner.Stops.{list_goes_on, predicates_go_on}
 use Rattle.ttl_read.proofs.ReadLemmas.{Goes}
 use Rattle.ttl_read.proofs.CollectionLemmas.{first_members, next_member, goes_without_close}
 use Rattle.ttl_read.proofs.+objects.Given as goal

@@ -1,5 +1,5 @@
 use Rattle.std.proofs.Common.{rules}
-use Rattle.report_write.specs.AddedLaws.{Sent-on, FellShort-on}
+use Rattle.report_write.specs.inner.AddedLaws.{Sent-on, FellShort-on}
 use Rattle.report_write.proofs.WriterLemmas.{Put-front, FellShort-at_once, Writes-short}
 use Rattle.report_write.proofs.put_all.put_all.Goals as goal
 

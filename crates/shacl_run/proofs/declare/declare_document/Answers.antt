@@ -2,13 +2,15 @@ use Rattle.std.proofs.Common.{◌≡◌, None, Some, ap, ◌∙◌, subst}
 use Rattle.graph_view.specs.Graph.{graph_of}
 use Rattle.graph_view.specs.ListGraph.{PlainGraph, plain_graph}
 use Rattle.graph_view.specs.SameGraph.{SameGraph}
-use Rattle.graph_view.proofs.SameGraphLemmas.{HoldsSame-sym, HoldsSame-then, first_places_same}
+use Rattle.shx_term.proofs.SetLemmas.{SameMembers-sym, SameMembers-then}
+use Rattle.graph_view.proofs.SameGraphLemmas.{first_places_same}
 use Rattle.shacl_run.proofs.SameReportLemmas.{declared_by-same}
 use Rattle.shacl_run.proofs.declare.declare_document.Goals as goal
 
 pub read_shapes-requires : goal.read_shapes-requires
 read_shapes-requires c =
-    HoldsSame-then (HoldsSame-sym (first_places_same c.args.triples.now)) c.in_ok-load.ensures.loaded.triples
+    SameMembers-then (SameMembers-sym (first_places_same c.args.triples.now))
+    c.in_ok-load.ensures.loaded.triples
 
 pub returns-in-Some-clause-declared : goal.returns-in-Some-clause-declared
 returns-in-Some-clause-declared c =

@@ -1,6 +1,6 @@
 use Rattle.std.proofs.Common.{ℕ, List, subst}
 use Rattle.ttl_read.specs.Documents.{setting}
-use Rattle.ttl_read.specs.Stated.{States}
+use Rattle.ttl_read.specs.inner.Stated.{States}
 use Rattle.shacl_run.proofs.ReadingLemmas.{states_known}
 use Rattle.shacl_run.proofs.document.read_triples.Goals as goal
 

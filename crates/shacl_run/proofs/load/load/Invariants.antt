@@ -1,5 +1,5 @@
 use Rattle.std.proofs.Common.{◌≡◌, ◌≤◌, length, take}
-use Rattle.graph_view.specs.SameGraph.{HoldsSame}
+use Rattle.shx_term.specs.Members.{SameMembers}
 use Rattle.shacl_run.proofs.load.load.Given as goal
 
 abbrev pub invariant-loop-triple : goal.invariant-loop-triple
@@ -8,5 +8,5 @@ invariant-loop-triple g l = record {
   term_limit : g.E.GraphView.term_limit l.graph ≡ g.E.GraphView.term_limit l.fn.graph;
   triple_limit : g.E.GraphEdit.triple_limit l.graph ≡ g.E.GraphEdit.triple_limit l.fn.graph;
   few : length (g.E.GraphView.graph l.graph).triples ≤ l.triple-index;
-  same : HoldsSame (g.E.GraphView.graph l.graph).triples (take l.triple-index l.triples);
+  same : SameMembers (g.E.GraphView.graph l.graph).triples (take l.triple-index l.triples);
 }

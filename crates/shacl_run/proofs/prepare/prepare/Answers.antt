@@ -4,9 +4,9 @@ use Rattle.shx_term.specs.Vocabulary.{vocabulary}
 use Rattle.shx_outside.specs.declared.role.Role.TheVariants.{Shapes as shapes_role, Data as data_role}
 use Rattle.shx_term.specs.declared.fault_codes.TheConstants.{TEXT_TOO_LONG}
 use Rattle.shacl_run.specs.declared.refusal.Refusal.{Refusal}
-use Rattle.shacl_run.specs.Declares.{declarations}
+use Rattle.shacl_run.specs.inner.Declares.{declarations}
 use Rattle.shacl_run.specs.Readings.{Faulty, IsReadAs}
-use Rattle.shacl_run.specs.Refusal.{RefusesAs}
+use Rattle.shacl_run.specs.inner.Refusal.{RefusesAs}
 use Rattle.shacl_run.specs.Run.{faulty}
 use Rattle.shacl_run.specs.Run.Opening.{ends}
 use Rattle.shacl_run.proofs.PrepareLemmas.{shapes_refused, shapes_told, data_long, data_told, opened_read}

@@ -6,8 +6,8 @@ use Rattle.shacl_run.specs.declared.stop.Stop.TheVariants.{Input}
 use Rattle.shacl_run.specs.Run.{validation_output, script_text}
 use Rattle.shacl_run.specs.Script.{said_text}
 use Rattle.shacl_run.specs.Script.Said.{reports}
-use Rattle.shacl_run.specs.Serving.{due_at}
-use Rattle.shacl_run.specs.Stops.{end_status}
+use Rattle.shacl_run.specs.inner.Serving.{due_at}
+use Rattle.shacl_run.specs.inner.Stops.{end_status}
 use Rattle.shacl_run.proofs.EndLemmas.{Ends-after, Ends-input, passed_on, input_stop}
 use Rattle.shacl_run.proofs.ValidationRunLemmas.{validation_prefixed, Ends-unreported, Ends-unscripted}
 use Rattle.shacl_run.proofs.ValidationRunLemmas.{StopsFed-reported, unreported_quiet, reported_quiet}

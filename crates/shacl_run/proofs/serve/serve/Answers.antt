@@ -6,10 +6,10 @@ use Rattle.text_input.specs.ScriptReader.{left_of}
 use Rattle.text_input.proofs.CountLemmas.{IsCounted-start}
 use Rattle.shacl_run.specs.declared.stop.Stop.TheVariants.{Write}
 use Rattle.shacl_run.specs.declared.take_line.Taken.{Taken}
-use Rattle.shacl_run.specs.Ends.{Ends}
+use Rattle.shacl_run.specs.inner.Ends.{Ends}
 use Rattle.shacl_run.specs.Run.{not_built}
-use Rattle.shacl_run.specs.Serving.{due_at}
-use Rattle.shacl_run.specs.Stops.{end_status, stop_status}
+use Rattle.shacl_run.specs.inner.Serving.{due_at}
+use Rattle.shacl_run.specs.inner.Stops.{end_status, stop_status}
 use Rattle.shacl_run.proofs.EndLemmas.{Ends-told, passed_on, input_stop}
 use Rattle.shacl_run.proofs.ServingLemmas.{Reached-start, Reached-step, Reached-short, stops_here, not_ended}
 use Rattle.shacl_run.proofs.ServingLemmas.{Ends-stopped, Ends-finished, last_quiet, TakesWithin-kept}

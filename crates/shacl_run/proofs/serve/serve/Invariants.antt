@@ -3,7 +3,7 @@ use Rattle.shx_outside.specs.declared.role.Role.TheVariants.{Script}
 use Rattle.shx_outside.specs.Told.{OthersStay}
 use Rattle.text_input.specs.ScriptReader.{MetEnd, IsCounted}
 use Rattle.shacl_run.specs.ScriptState.{ScriptState}
-use Rattle.shacl_run.specs.Validation.{IsValidation}
+use Rattle.shacl_run.specs.inner.Validation.{IsValidation}
 use Rattle.shacl_run.proofs.ServingLemmas.{Reached}
 use Rattle.shacl_run.proofs.serve.serve.Given as goal
 

@@ -1,13 +1,13 @@
 use Rattle.std.proofs.Common.{Some, sym, subst}
 use Rattle.std.specs.Option.{option_map}
 use Rattle.shacl_run.specs.declared.prepare.Prepared.{Prepared}
-use Rattle.shacl_run.specs.Ends.{Ends}
-use Rattle.shacl_run.specs.Files.{files_of, files_output}
+use Rattle.shacl_run.specs.inner.Ends.{Ends}
+use Rattle.shacl_run.specs.inner.Files.{files_of, files_output}
 use Rattle.shacl_run.specs.Run.{faulty, validation_output, script_text, texts_opening, opening_fed}
 use Rattle.shacl_run.specs.Run.Opening.{opens}
 use Rattle.shacl_run.specs.RunClauses.{StopsFed}
 use Rattle.shx_outside.specs.declared.role.Role.TheVariants.{Script}
-use Rattle.shacl_run.specs.Stops.{end_status}
+use Rattle.shacl_run.specs.inner.Stops.{end_status}
 use Rattle.shacl_run.proofs.EndLemmas.{Ends-told, passed_on}
 use Rattle.shacl_run.proofs.ServingLemmas.{Ends-stopped}
 use Rattle.shacl_run.proofs.ValidationRunLemmas.{script_text-fixed, ended_told, opened_told, opening_told}

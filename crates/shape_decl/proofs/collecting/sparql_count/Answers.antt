@@ -1,4 +1,4 @@
-use Rattle.std.proofs.Common.{ap, ◌∙◌, length}
+use Rattle.std.proofs.Common.{◌∙◌}
 use Rattle.shx_term.specs.declared.vocabulary.TheConstants.{SH_SPARQL}
 use Rattle.shape_decl.proofs.CountLemmas.{length-triples_with}
 use Rattle.shape_decl.proofs.collecting.sparql_count.Goals as goal

@@ -1,7 +1,4 @@
-use Rattle.std.proofs.Common.{sym, ap, ◌∙◌, map}
-use Rattle.shx_term.specs.IdOrder.{in_term_order}
 use Rattle.graph_view.specs.declared.key.Key.TheVariants.{Out}
-use Rattle.graph_view.specs.Key.{look}
 use Rattle.shape_decl.proofs.ObjectLemmas.{objects_among}
 use Rattle.shape_decl.proofs.declaring.values_among.Goals as goal
 

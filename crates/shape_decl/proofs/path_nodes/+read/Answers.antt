@@ -2,7 +2,7 @@ use Rattle.std.proofs.Common.{◌≡◌, ◌-◌, map, ap}
 use Rattle.std.proofs.lemmas.Result.{err_from_is_err_and}
 use Rattle.path_eval.specs.Route.{route_of}
 use Rattle.shape_decl.specs.PathReadings.{route_at}
-use Rattle.shape_decl.specs.ToldForm.{told_form}
+use Rattle.shape_decl.specs.inner.ToldForm.{told_form}
 use Rattle.shape_decl.proofs.RouteReadLemmas.{alternative_read, sequence_read}
 use Rattle.shape_decl.proofs.VisitLemmas.{routes_more, row_fault, row_more}
 use Rattle.shape_decl.proofs.path_nodes.+read.Goals as goal

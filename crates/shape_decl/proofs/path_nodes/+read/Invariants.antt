@@ -1,7 +1,7 @@
 use Rattle.std.proofs.Common.{◌≡◌, ◌+◌, ◌*◌, map, take, Ok}
 use Rattle.path_eval.specs.Route.{route_of}
 use Rattle.shape_decl.specs.PathReadings.{route_at}
-use Rattle.shape_decl.specs.Visits.{counted, row_visits}
+use Rattle.shape_decl.specs.inner.Visits.{counted, row_visits}
 use Rattle.shape_decl.proofs.path_nodes.+read.Given as goal
 
 abbrev pub decreases-read_node : goal.decreases-read_node

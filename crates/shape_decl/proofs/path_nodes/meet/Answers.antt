@@ -1,5 +1,5 @@
 use Rattle.std.proofs.Common.{arith}
-use Rattle.shape_decl.specs.ToldForm.{told_form}
+use Rattle.shape_decl.specs.inner.ToldForm.{told_form}
 use Rattle.shape_decl.proofs.VisitLemmas.{no_level, node_meets, too_many}
 use Rattle.shape_decl.proofs.path_nodes.meet.Goals as goal
 use Rattle.shape_decl.proofs.path_nodes.meet.Goals.{then-left-eq0-via-then-left-eq0}

@@ -1,4 +1,4 @@
-use Rattle.std.proofs.Common.{rules, get_or, take, flat_map}
+use Rattle.std.proofs.Common.{rules, get_or, take}
 use Rattle.std.proofs.lemmas.List.{take_more, flat_map_more}
 use Rattle.shape_decl.specs.Shapes.{members_with}
 use Rattle.shape_decl.proofs.shapes.gather_members.Goals as goal

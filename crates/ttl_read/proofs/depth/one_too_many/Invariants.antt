@@ -1,6 +1,6 @@
 use Rattle.std.proofs.Common.{ℕ, ◌-◌, ◌≤◌, length}
 use Rattle.std.specs.Str.{IsCharBoundary}
-use Rattle.ttl_tokens.specs.Lookahead.{KnowsAhead}
+use Rattle.ttl_tokens.specs.inner.Lookahead.{KnowsAhead}
 use Rattle.ttl_read.specs.Depth.{IsOneTooMany, NoneTooMany}
 use Rattle.ttl_read.proofs.depth.one_too_many.Given as goal
 

@@ -1,5 +1,5 @@
 use Rattle.std.proofs.Common.{ℕ, ◌≤◌, length, ◌∙◌, subst, arith}
-use Rattle.ttl_meaning.specs.IsReading.{IsReading}
+use Rattle.ttl_meaning.specs.inner.IsReading.{IsReading}
 use Rattle.ttl_meaning.specs.State.{first_state}
 use Rattle.ttl_read.specs.declared.reader.Reader.{Reader}
 use Rattle.ttl_read.specs.Documents.{setting}

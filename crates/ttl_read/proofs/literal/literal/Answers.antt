@@ -1,7 +1,7 @@
 use Rattle.std.proofs.Common.{◌≡◌, true, false, refl, sym, ◌∙◌, rules}
 use Rattle.ttl_meaning.specs.Items.{on_literal}
 use Rattle.ttl_read.specs.Grammar.{is_string, is_bare_literal, string_literal, literal, token}
-use Rattle.ttl_read.specs.Stops.{goes_on}
+use Rattle.ttl_read.specs.inner.Stops.{goes_on}
 use Rattle.ttl_read.proofs.AnswerLemmas.{left_parses}
 use Rattle.ttl_read.proofs.HereLemmas.{is_here, token_passes, pass_advances, here_refuses, none_nowhere}
 use Rattle.ttl_read.proofs.KindLemmas.{apart, string_or_bare}

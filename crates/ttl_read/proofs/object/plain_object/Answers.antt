@@ -1,6 +1,6 @@
 use Rattle.std.proofs.Common.{◌≡◌, true, false, refl, sym, ◌∙◌}
 use Rattle.ttl_read.specs.Grammar.{node, literal}
-use Rattle.ttl_read.specs.Stops.{goes_on}
+use Rattle.ttl_read.specs.inner.Stops.{goes_on}
 use Rattle.ttl_read.proofs.AnswerLemmas.{alone_parses, left_parses, right_parses}
 use Rattle.ttl_read.proofs.HereLemmas.{is_here, here_refuses}
 use Rattle.ttl_read.proofs.KindLemmas.{apart, begins_literal, literal_begins_no_node, begins_other}

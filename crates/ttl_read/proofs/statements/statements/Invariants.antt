@@ -1,7 +1,7 @@
 use Rattle.std.proofs.Common.{◌-◌, List, length}
 use Rattle.shx_term.specs.declared.term.Term.{Term}
 use Rattle.ttl_read.specs.Documents.{setting}
-use Rattle.ttl_read.specs.Reads.{Stands}
+use Rattle.ttl_read.specs.inner.Reads.{Stands}
 use Rattle.ttl_read.proofs.DocumentLemmas.{Leading}
 use Rattle.ttl_read.proofs.statements.statements.Given as goal
 

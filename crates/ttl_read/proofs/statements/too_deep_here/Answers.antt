@@ -1,7 +1,7 @@
 use Rattle.std.proofs.Common.{Result, subst}
 use Rattle.ttl_tokens.specs.declared.token.Token.{Token}
 use Rattle.ttl_tokens.specs.declared.token.NoToken.{NoToken}
-use Rattle.ttl_read.specs.Reads.{IsNext}
+use Rattle.ttl_read.specs.inner.Reads.{IsNext}
 use Rattle.ttl_read.proofs.DepthLemmas.{none_at_none, not_too_deep}
 use Rattle.ttl_read.proofs.statements.too_deep_here.Goals as goal
 

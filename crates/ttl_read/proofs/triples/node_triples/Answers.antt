@@ -1,8 +1,8 @@
 use Rattle.std.proofs.Common.{◌≡◌, ◌+◌, suc, refl, sym, ◌∙◌, subst, arith}
 use Rattle.ttl_tokens.specs.Form.{Maybe}
 use Rattle.ttl_read.specs.Grammar.{begins_verb, object, predicate_object_list}
-use Rattle.ttl_read.specs.Reads.{Parses}
-use Rattle.ttl_read.specs.Stops.{predicates_go_on}
+use Rattle.ttl_read.specs.inner.Reads.{Parses}
+use Rattle.ttl_read.specs.inner.Stops.{predicates_go_on}
 use Rattle.ttl_read.proofs.AnswerLemmas.{handed_on, passed_on, then_parses}
 use Rattle.ttl_read.proofs.HereLemmas.{found, found_here, here_stops, not_found, refuses_unless}
 use Rattle.ttl_read.proofs.ReadLemmas.{nothing_goes_on, maybe_reads, maybe_reads_none, maybe_refuses}

@@ -1,6 +1,6 @@
 use Rattle.std.proofs.Common.{refl, rules}
 use Rattle.std.specs.Str.{chars}
-use Rattle.ttl_tokens.specs.IriRefForms.{iri_item}
+use Rattle.ttl_tokens.specs.inner.IriRefForms.{iri_item}
 use Rattle.ttl_tokens.proofs.CharLemmas.{only_shorter}
 use Rattle.ttl_tokens.proofs.FormLemmas.{runs_more}
 use Rattle.ttl_tokens.proofs.iri_ref.skip_iri_items.Goals as goal

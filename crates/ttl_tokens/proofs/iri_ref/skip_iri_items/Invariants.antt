@@ -3,7 +3,7 @@ use denote.Text.{Utf8}
 use denote.Shadow.{shadow}
 use Rattle.std.specs.Str.{chars}
 use Rattle.ttl_tokens.specs.Chars.{PastChar}
-use Rattle.ttl_tokens.specs.IriRefForms.{iri_item}
+use Rattle.ttl_tokens.specs.inner.IriRefForms.{iri_item}
 use Rattle.ttl_tokens.specs.Walks.{Runs}
 use Rattle.ttl_tokens.proofs.iri_ref.skip_iri_items.Given as goal
 

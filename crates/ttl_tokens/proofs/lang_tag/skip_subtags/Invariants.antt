@@ -3,8 +3,8 @@ use denote.Text.{Utf8}
 use denote.Shadow.{shadow}
 use Rattle.std.specs.Str.{chars}
 use Rattle.ttl_tokens.specs.Form.{Many}
-use Rattle.ttl_tokens.specs.LangTagForms.{subtag}
-use Rattle.ttl_tokens.specs.Leaves.{Leaves}
+use Rattle.ttl_tokens.specs.inner.LangTagForms.{subtag}
+use Rattle.ttl_tokens.specs.inner.Leaves.{Leaves}
 use Rattle.ttl_tokens.proofs.lang_tag.skip_subtags.Given as goal
 
 abbrev pub invariant-loop-behind : goal.invariant-loop-behind

@@ -1,6 +1,6 @@
 use Rattle.std.proofs.Common.{refl, sym}
 use Rattle.std.specs.Str.{chars}
-use Rattle.ttl_tokens.specs.NameForms.{local_start}
+use Rattle.ttl_tokens.specs.inner.NameForms.{local_start}
 use Rattle.ttl_tokens.specs.Terminals.{plx}
 use Rattle.ttl_tokens.proofs.LocalLemmas.{escape_same, plain_only}
 use Rattle.ttl_tokens.proofs.FormLemmas.{match_only}

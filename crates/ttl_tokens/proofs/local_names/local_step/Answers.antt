@@ -1,5 +1,5 @@
 use Rattle.std.proofs.Common.{refl}
-use Rattle.ttl_tokens.specs.NameForms.{local_char}
+use Rattle.ttl_tokens.specs.inner.NameForms.{local_char}
 use Rattle.ttl_tokens.proofs.DottedLemmas.{last_no_dot}
 use Rattle.ttl_tokens.proofs.FormLemmas.{or_never}
 use Rattle.ttl_tokens.proofs.local_names.local_step.Goals as goal

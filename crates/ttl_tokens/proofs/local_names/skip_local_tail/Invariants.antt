@@ -2,7 +2,7 @@ use Rattle.std.proofs.Common.{length}
 use denote.Text.{Utf8}
 use denote.Shadow.{shadow}
 use Rattle.std.specs.Str.{chars}
-use Rattle.ttl_tokens.specs.NameForms.{local_char}
+use Rattle.ttl_tokens.specs.inner.NameForms.{local_char}
 use Rattle.ttl_tokens.specs.Chars.{exactly}
 use Rattle.ttl_tokens.proofs.DottedLemmas.{Walked}
 use Rattle.ttl_tokens.proofs.local_names.skip_local_tail.Given as goal

@@ -1,6 +1,6 @@
 use Rattle.std.proofs.Common.{List, ℕ, sym, subst}
 use Rattle.std.specs.Str.{chars}
-use Rattle.ttl_tokens.specs.Marks.{HasMarks}
+use Rattle.ttl_tokens.specs.inner.Marks.{HasMarks}
 use Rattle.ttl_tokens.specs.Unescaped.{mark_length}
 use Rattle.ttl_tokens.proofs.MarkLemmas.{given_marks}
 use Rattle.ttl_tokens.proofs.meaning.unescape.Goals as goal

@@ -1,4 +1,4 @@
-use Rattle.report_write.specs.AddedLaws.{Added-then}
+use Rattle.report_write.specs.inner.AddedLaws.{Added-then}
 use Rattle.report_write.proofs.writer.Writer.add.Goals as goal
 
 pub returns-then-text-le-ROOM : goal.returns-then-text-le-ROOM

@@ -1,7 +1,7 @@
 use Rattle.std.proofs.Common.{List, Some, None}
 use Rattle.shx_outside.specs.declared.named_text.NamedText.{NamedText}
 use Rattle.shx_outside.specs.declared.places.Places.{Places}
-use Rattle.shx_outside.specs.Places.{with_place, IsWithin}
+use Rattle.shx_outside.specs.inner.Places.{with_place, IsWithin}
 use Rattle.shx_outside.proofs.PlaceLemmas.{AreWithin-with_place}
 use Rattle.shx_outside.proofs.memory_inputs.MemoryInputsInputs.open.Goals as goal
 

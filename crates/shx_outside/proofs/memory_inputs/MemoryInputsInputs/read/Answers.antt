@@ -1,7 +1,7 @@
 use Rattle.std.proofs.Common.{◌≡◌, ◌≤◌, ◌∙◌, ap, sym, List, ℕ, Some, length, drop, arith}
 use Rattle.shx_outside.specs.declared.named_text.NamedText.{NamedText}
 use Rattle.shx_outside.specs.declared.places.Places.{Places}
-use Rattle.shx_outside.specs.Places.{place_of, moved_on, left_at, state_of}
+use Rattle.shx_outside.specs.inner.Places.{place_of, moved_on, left_at, state_of}
 use Rattle.shx_outside.specs.MemoryInputs.{MemoryTexts, left_for}
 use Rattle.shx_outside.proofs.PlaceLemmas.{AreWithin-with_place, IsWithin-place_of, IsWithin-moved}
 use Rattle.shx_outside.proofs.LeftLemmas.{left_for-at, left_for-moved}

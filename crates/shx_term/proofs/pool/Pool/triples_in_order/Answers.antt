@@ -2,7 +2,7 @@ use Rattle.std.proofs.Common.{rules, ◌∙◌}
 use Rattle.std.proofs.lemmas.Fn.{always_returns_same}
 use Rattle.std.proofs.lemmas.List.Filters.{dedup_is}
 use Rattle.std.proofs.lemmas.List.MinMax.{ranks_by}
-use Rattle.shx_term.specs.TripleLaws.{same_triple_equiv, same_triple_exact}
+use Rattle.shx_term.specs.inner.TripleLaws.{same_triple_equiv, same_triple_exact}
 use Rattle.shx_term.specs.TripleOrder.{triple_cmp}
 use Rattle.shx_term.proofs.TripleOrderLemmas.{triple_cmp_total, triple_order}
 use Rattle.shx_term.proofs.SortLemmas.{dedup_in_order}

@@ -1,7 +1,7 @@
 use Rattle.std.proofs.Common.{◌≡◌, ap, ◌∙◌, subst}
 use Rattle.std.specs.BTreeMap.{get_by_text}
 use Rattle.std.specs.Option.{option_copied}
-use Rattle.ttl_meaning.specs.Meant.{IsMeant}
+use Rattle.ttl_meaning.specs.inner.Meant.{IsMeant}
 use Rattle.ttl_meaning.specs.Terms.{in_namespace, local_of, namespace_of, prefix_of}
 use Rattle.ttl_meaning.proofs.ItemLemmas.{prefixed_meant}
 use Rattle.ttl_meaning.proofs.reader_state.ReaderState.iri_of.Goals as goal

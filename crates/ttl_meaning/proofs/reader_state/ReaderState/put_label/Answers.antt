@@ -4,7 +4,9 @@ use Rattle.std.proofs.lemmas.Map.Text.{btree_set_updates_text}
 use Rattle.std.proofs.lemmas.Result.{on_ok_weaker}
 use Rattle.ttl_meaning.proofs.KeepsLemmas.{KeepsOn-put_label, KnowsLabel, HasAlso, HasAlso-itself}
 use Rattle.ttl_meaning.proofs.reader_state.ReaderState.put_label.Goals as goal
-use Rattle.ttl_meaning.proofs.reader_state.ReaderState.put_label.Goals.{then-not-contains+in_ok-from_str+in_ok-insert}
+use Rattle.ttl_meaning.proofs.reader_state.ReaderState.put_label.Goals.{
+  then-not-contains+in_ok-from_str+in_ok-insert,
+}
 use Rattle.ttl_meaning.proofs.reader_state.ReaderState.put_label.Goals.{else-not-contains}
 
 pub returns : goal.returns

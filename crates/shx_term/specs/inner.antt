@@ -1,0 +1,5 @@
+-- Words of the inside: what is proved of public calls can be believed without them.
+pub mod Appended
+pub mod TermHash
+pub mod TermOrderLaws
+pub mod TripleLaws

@@ -1,0 +1,6 @@
+-- Words of the inside: what is proved of public calls can be believed without them.
+pub mod Follows
+pub mod Reads
+pub mod Sound
+pub mod Stated
+pub mod Stops

@@ -1,0 +1,71 @@
+-- What the reader of statements finds: that they have no fault, or which one.
+use Rattle.std.specs.Prelude.{ℕ, Bool, true, false, Result, Ok, Err}
+use Rattle.shx_term.specs.Pool.{Pooled}
+use Rattle.ttl_tokens.specs.declared.token.Token.{Token}
+use Rattle.ttl_tokens.specs.declared.token.TokenKind.{TokenKind}
+use Rattle.ttl_tokens.specs.declared.token.TokenKind.TheVariants.{End}
+use Rattle.ttl_tokens.specs.declared.token.NoToken.{NoToken}
+use Rattle.ttl_tokens.specs.Form.{Times}
+use Rattle.ttl_meaning.specs.inner.IsReading.{IsReading}
+use Rattle.ttl_meaning.specs.State.{State}
+use Rattle.ttl_read.specs.declared.fault.TtlFault.{TtlFault}
+use Rattle.ttl_read.specs.declared.fault.TtlFault.TheVariants.{At, Memory}
+use Rattle.ttl_read.specs.declared.reader.Reader.{Reader}
+use Rattle.ttl_read.specs.Documents.{Setting, IsAtEnd, BeginsAt}
+use Rattle.ttl_read.specs.Grammar.{Place}
+use Rattle.ttl_read.specs.inner.Reads.{place, start_of_next}
+use Rattle.ttl_read.specs.Unique.{Settled, One, HasOneCauseAt}
+
+abbrev pub is_end : TokenKind → Bool
+is_end End = true
+is_end kind = false
+
+-- whether the end comes next
+abbrev pub is_end_next : Result Token NoToken → Bool
+is_end_next (Ok token) = is_end token.kind
+is_end_next (Err none) = false
+
+-- behind a statement that has a derivation, by the state that is kept: no fault, or this one
+abbrev pub IsJudged : Reader → Pooled → ℕ → Result (Unit {0}) TtlFault → Type 0
+IsJudged r p start (Ok u) =
+    (t : Setting) (x y : Place) → IsReading t.bounds y.state r.reading p → Settled t x y → One t x y
+IsJudged r p start (Err (At code at)) =
+    (t : Setting) (x y : Place) → IsReading t.bounds y.state r.reading p → Settled t x y
+    → HasOneCauseAt t x start code at
+IsJudged r p start (Err Memory) = Unit
+
+-- one statement without fault, or its fault
+abbrev pub IsSound : Setting → Reader → Pooled → Reader → Pooled → Result (Unit {0}) TtlFault → Type 0
+IsSound t r p r' p' (Ok u) =
+    (s : State) → IsReading t.bounds s r.reading p
+    → (s' : State) × IsReading t.bounds s' r'.reading p' × One t (place r s) (place r' s')
+IsSound t r p r' p' (Err (At code at)) =
+    (s : State) → IsReading t.bounds s r.reading p
+    → HasOneCauseAt t (place r s) (start_of_next r.tokens.next) code at
+IsSound t r p r' p' (Err Memory) = Unit
+
+-- from one reader another is reached by statements without fault
+pub record Led (t : Setting) (r : Reader) (p : Pooled) (s : State) (r' : Reader) (p' : Pooled) : Type 0 where
+  pub state : State
+  pub reads : IsReading t.bounds state r'.reading p'
+  pub count : ℕ
+  pub statements : Times (One t) count (place r s) (place r' state)
+
+-- of the statements from here on, the first that has a fault has this one
+pub record LedWrong (t : Setting) (x : Place) (code at : ℕ) : Type 0 where
+  pub reached : Place
+  pub count : ℕ
+  pub statements : Times (One t) count x reached
+  pub start : ℕ
+  pub begins : BeginsAt t.text reached.at start
+  pub more : IsAtEnd t.text reached.at → ⊥
+  pub cause : HasOneCauseAt t reached start code at
+
+-- statements without fault to the end, or the fault of the first that has one
+abbrev pub Concludes : Setting → Reader → Pooled → Reader → Pooled → Result (Unit {0}) TtlFault → Type 0
+Concludes t r p r' p' (Ok u) =
+    (s : State) → IsReading t.bounds s r.reading p
+    → Led t r p s r' p' × IsAtEnd t.text r'.tokens.place
+Concludes t r p r' p' (Err (At code at)) =
+    (s : State) → IsReading t.bounds s r.reading p → LedWrong t (place r s) code at
+Concludes t r p r' p' (Err Memory) = Unit

@@ -1,0 +1,62 @@
+ghost use Rattle.std.specs.Prelude.{◌≡◌, ℕ, List, ◌++◌, All, OnOk};
+ghost use Rattle.shx_term.specs.Members.{Adds};
+ghost use Rattle.graph_view.specs.declared.key.Key.{Key};
+ghost use Rattle.graph_view.specs.Graph.{Graph, HasTerms};
+ghost use Rattle.graph_view.specs.Valid.{IsValidView};
+ghost use Rattle.comp_core.specs.declared.pair.Pair.{Pair};
+ghost use Rattle.comp_core.specs.declared.pair.At.{At};
+ghost use Rattle.comp_core.specs.declared.row.ResultRow.{ResultRow};
+ghost use Rattle.comp_core.specs.Laws.{Agreement, AsksValues};
+
+use crate::{At, Conform, Pair, ResultRow};
+use graph_view::{GraphView, Reads};
+use shx_term::{Id, Memory};
+use std::alloc::Global;
+
+/// A constraint component (SHACL, section 4) with its parameters.
+///
+/// It is checked in two steps. First `asks` names the pairs of a shape and a node whose results it needs, and
+/// somebody finds these; then `check` finds its own, by the graph and by answers for those pairs.
+pub trait Component {
+    /// The numbers whose terms matter to it.
+    ghost numbers_of: { Self → List ℕ };
+
+    /// Which pairs it asks, by the value nodes.
+    ghost asks_of: { Self → List ℕ → List Pair };
+
+    /// Its results at value nodes of a graph, by the results of the pairs that it asks.
+    ghost hits_of: { Self → Graph → (Pair → List ResultRow) → At → List ℕ → List ResultRow };
+
+    /// What it reads of the graph for them, by what the pairs that it asks were read from.
+    ghost reads_of: { Self → Graph → (Pair → List Key) → At → List ℕ → List Key };
+
+    /// Appends the pairs that it asks: by value node, and for each in the order of the shapes that it names.
+    fn asks(&self, values: &[Id], out: &mut Vec<Pair>) -> Result<(), Memory>
+        ensures { OnOk result (out.new.items ≡ out.old.items ++ asks_of self.now values.now) };
+
+    /// Appends its results in order, and adds what it reads. No early answer shortens what it reads.
+    fn check<V: GraphView, C: Conform>(
+        &self,
+        alloc: Global,
+        view: &V,
+        conform: &C,
+        at: At,
+        values: &[Id],
+        reads: &mut Reads,
+        out: &mut Vec<ResultRow>,
+    ) -> Result<(), Memory>
+        requires valid { IsValidView (V.graph view.now) }
+        requires numbers { HasTerms (V.graph view.now) (numbers_of self.now) }
+        requires values { HasTerms (V.graph view.now) values.now }
+        requires held { All (C.holds conform.now) (asks_of self.now values.now) }
+        ensures rows { OnOk result (out.new.items ≡ out.old.items
+            ++ hits_of self.now (V.graph view.now) (C.rows_of conform.now) at values.now) }
+        ensures reads { OnOk result (Adds reads.old reads.new
+            (reads_of self.now (V.graph view.now) (C.reads_of conform.now) at values.now)) };
+
+    /// Its laws: nothing but what it reads, and what it is told of the pairs that it asks, matters to it; and
+    /// it asks of value nodes alone. It does nothing.
+    fn laws()
+        ensures agreement { Agreement numbers_of asks_of hits_of reads_of }
+        ensures asks_values { AsksValues asks_of };
+}

@@ -1,0 +1,4 @@
+pub mod ComponentLemmas
+pub mod ClassLemmas
+pub mod RepeatedLemmas
+pub mod TagLemmas

@@ -1,0 +1,12 @@
+use Rattle.comp_core.proofs.LawLemmas.{asks_none}
+use Rattle.value_space.specs.Compared.{is_less_term}
+use Rattle.comp_core.specs.declared.kinds.TheConstants.{MIN_EXCLUSIVE}
+use Rattle.value_components.specs.declared.min_exclusive.MinExclusive.{MinExclusive}
+use Rattle.value_components.proofs.ComponentLemmas.{pairs_agree}
+use Rattle.value_components.proofs.min_exclusive.MinExclusiveComponent.laws.Goals as goal
+
+pub returns-clause-agreement : goal.returns-clause-agreement
+returns-clause-agreement c = pairs_agree (λ (own : MinExclusive). own.value) is_less_term MIN_EXCLUSIVE
+
+pub returns-clause-asks_values : goal.returns-clause-asks_values
+returns-clause-asks_values c = asks_none

@@ -1,0 +1,17 @@
+-- Results as components give them (SHACL, section 3.6.2).
+use Rattle.std.specs.Prelude.{ℕ, Bool, List, [], ◌∷◌, Some, None, flat_map, if◌then◌else◌}
+use Rattle.comp_core.specs.declared.pair.At.{At}
+use Rattle.comp_core.specs.declared.row.ResultRow.{ResultRow}
+use Rattle.comp_core.specs.Rows.{plain_row}
+
+-- one result without a value, where it is so
+abbrev pub once_if : Bool → ℕ → At → List ResultRow
+once_if is_so kind at = if is_so then plain_row at.focus None None at.shape kind ∷ [] else []
+
+-- a result at the node, unless it is as it should be
+abbrev pub unless : Bool → ℕ → At → ℕ → List ResultRow
+unless is_fine kind at node = if is_fine then [] else plain_row at.focus (Some node) None at.shape kind ∷ []
+
+-- a result for each value node that is not as it should be
+abbrev pub each_unless : (ℕ → Bool) → ℕ → At → List ℕ → List ResultRow
+each_unless is_fine kind at vs = flat_map (λ v. unless (is_fine v) kind at v) vs

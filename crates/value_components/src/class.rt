@@ -1,0 +1,83 @@
+//! sh:class (SHACL, section 4.1.1).
+ghost use Rattle.std.specs.Prelude.{◌≡◌, IfOk, OnOk};
+ghost use Rattle.shx_term.specs.Members.{Adds};
+ghost use Rattle.value_components.specs.Class.{is_of_class, class_reads_at};
+
+use crate::rows::add_unless;
+use comp_core::kinds::CLASS;
+use comp_core::{At, Component, Conform, Pair, ResultRow};
+use graph_view::{GraphView, Reads};
+use path_eval::{is_instance, paths_depend_on_their_reads};
+use shx_term::{Id, Memory};
+use std::alloc::Global;
+
+/// Each value node is no literal, and a SHACL instance of the class.
+#[derive(Drop)]
+pub struct Class {
+    /// The class.
+    pub value: Id,
+}
+
+impl Class {
+    /// The component with its parameter. It takes no memory.
+    pub fn new(value: Id) -> Class
+        ensures { result.value ≡ value }
+    {
+        Class { value }
+    }
+}
+
+// Whether the node is no literal, and an instance of the class.
+fn is_of_class<V: GraphView>(
+    alloc: Global,
+    view: &V,
+    class: Id,
+    node: Id,
+    reads: &mut Reads,
+) -> Result<bool, Memory>
+    ensures answer { IfOk result (λ is. is ≡ is_of_class (V.graph view.now) class node) }
+    ensures reads { OnOk result (Adds reads.old reads.new (class_reads_at (V.graph view.now) node)) }
+{
+    if !view.pool().is_iri_or_blank(node) {
+        return Ok(false);
+    }
+    is_instance(alloc, view, node, class, reads)
+}
+
+impl Component for Class {
+    ghost use Rattle.std.specs.Prelude.{[]};
+    ghost use Rattle.value_components.specs.Class.{class_hits, class_reads};
+
+    ghost numbers_of = { λ c. [] };
+
+    ghost asks_of = { λ c vs. [] };
+
+    ghost hits_of = { λ c g m at vs. class_hits c g at vs };
+
+    ghost reads_of = { λ c g r at vs. class_reads g vs };
+
+    fn asks(&self, _values: &[Id], _out: &mut Vec<Pair>) -> Result<(), Memory> {
+        Ok(())
+    }
+
+    fn check<V: GraphView, C: Conform>(
+        &self,
+        alloc: Global,
+        view: &V,
+        _conform: &C,
+        at: At,
+        values: &[Id],
+        reads: &mut Reads,
+        out: &mut Vec<ResultRow>,
+    ) -> Result<(), Memory> {
+        for v in values {
+            let is_fine = is_of_class(alloc, view, self.value, *v, reads)?;
+            add_unless(alloc, is_fine, CLASS, at, *v, out)?;
+        }
+        Ok(())
+    }
+
+    fn laws() {
+        paths_depend_on_their_reads();
+    }
+}

@@ -1,0 +1,59 @@
+//! sh:maxCount (SHACL, section 4.2.2).
+ghost use Rattle.std.specs.Prelude.{◌≡◌};
+
+use crate::rows::add_once_if;
+use comp_core::kinds::MAX_COUNT;
+use comp_core::{At, Component, Conform, Pair, ResultRow};
+use graph_view::{GraphView, Reads, term_of};
+use shx_term::{Id, Memory};
+use std::alloc::Global;
+use value_space::is_more;
+
+/// There are as many value nodes as the count says, or fewer.
+#[derive(Drop)]
+pub struct MaxCount {
+    /// The greatest count.
+    pub value: Id,
+}
+
+impl MaxCount {
+    /// The component with its parameter. It takes no memory.
+    pub fn new(value: Id) -> MaxCount
+        ensures { result.value ≡ value }
+    {
+        MaxCount { value }
+    }
+}
+
+impl Component for MaxCount {
+    ghost use Rattle.std.specs.Prelude.{[], ◌∷◌};
+    ghost use Rattle.value_components.specs.MaxCount.{max_count_hits};
+
+    ghost numbers_of = { λ c. c.value ∷ [] };
+
+    ghost asks_of = { λ c vs. [] };
+
+    ghost hits_of = { λ c g m at vs. max_count_hits c g at vs };
+
+    ghost reads_of = { λ c g r at vs. [] };
+
+    fn asks(&self, _values: &[Id], _out: &mut Vec<Pair>) -> Result<(), Memory> {
+        Ok(())
+    }
+
+    fn check<V: GraphView, C: Conform>(
+        &self,
+        alloc: Global,
+        view: &V,
+        _conform: &C,
+        at: At,
+        values: &[Id],
+        _reads: &mut Reads,
+        out: &mut Vec<ResultRow>,
+    ) -> Result<(), Memory> {
+        let too_many = is_more(values.len(), term_of(view, self.value));
+        add_once_if(alloc, too_many, MAX_COUNT, at, out)
+    }
+
+    fn laws() {}
+}

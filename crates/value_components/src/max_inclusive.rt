@@ -1,0 +1,66 @@
+//! sh:maxInclusive (SHACL, section 4.3.4).
+ghost use Rattle.std.specs.Prelude.{◌≡◌};
+
+use crate::bounds::{Side, check_bound};
+use comp_core::kinds::MAX_INCLUSIVE;
+use comp_core::{At, Component, Conform, Pair, ResultRow};
+use graph_view::{GraphView, Reads};
+use shx_term::{Id, Memory};
+use std::alloc::Global;
+
+/// Each value node is less than the bound or equal to it.
+#[derive(Drop)]
+pub struct MaxInclusive {
+    /// The bound.
+    pub value: Id,
+}
+
+impl MaxInclusive {
+    /// The component with its parameter. It takes no memory.
+    pub fn new(value: Id) -> MaxInclusive
+        ensures { result.value ≡ value }
+    {
+        MaxInclusive { value }
+    }
+}
+
+impl Component for MaxInclusive {
+    ghost use Rattle.std.specs.Prelude.{[], ◌∷◌};
+    ghost use Rattle.value_components.specs.MaxInclusive.{max_inclusive_hits};
+
+    ghost numbers_of = { λ c. c.value ∷ [] };
+
+    ghost asks_of = { λ c vs. [] };
+
+    ghost hits_of = { λ c g m at vs. max_inclusive_hits c g at vs };
+
+    ghost reads_of = { λ c g r at vs. [] };
+
+    fn asks(&self, _values: &[Id], _out: &mut Vec<Pair>) -> Result<(), Memory> {
+        Ok(())
+    }
+
+    fn check<V: GraphView, C: Conform>(
+        &self,
+        alloc: Global,
+        view: &V,
+        _conform: &C,
+        at: At,
+        values: &[Id],
+        _reads: &mut Reads,
+        out: &mut Vec<ResultRow>,
+    ) -> Result<(), Memory> {
+        check_bound(
+            alloc,
+            view,
+            Side::UpTo,
+            self.value,
+            MAX_INCLUSIVE,
+            at,
+            values,
+            out,
+        )
+    }
+
+    fn laws() {}
+}

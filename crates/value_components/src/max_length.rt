@@ -1,0 +1,66 @@
+//! sh:maxLength (SHACL, section 4.4.2).
+ghost use Rattle.std.specs.Prelude.{◌≡◌};
+
+use crate::lengths::{Limit, check_length};
+use comp_core::kinds::MAX_LENGTH;
+use comp_core::{At, Component, Conform, Pair, ResultRow};
+use graph_view::{GraphView, Reads};
+use shx_term::{Id, Memory};
+use std::alloc::Global;
+
+/// Each value node is no blank node, and has as many code points as the number says, or fewer.
+#[derive(Drop)]
+pub struct MaxLength {
+    /// The greatest number of code points.
+    pub value: Id,
+}
+
+impl MaxLength {
+    /// The component with its parameter. It takes no memory.
+    pub fn new(value: Id) -> MaxLength
+        ensures { result.value ≡ value }
+    {
+        MaxLength { value }
+    }
+}
+
+impl Component for MaxLength {
+    ghost use Rattle.std.specs.Prelude.{[], ◌∷◌};
+    ghost use Rattle.value_components.specs.MaxLength.{max_length_hits};
+
+    ghost numbers_of = { λ c. c.value ∷ [] };
+
+    ghost asks_of = { λ c vs. [] };
+
+    ghost hits_of = { λ c g m at vs. max_length_hits c g at vs };
+
+    ghost reads_of = { λ c g r at vs. [] };
+
+    fn asks(&self, _values: &[Id], _out: &mut Vec<Pair>) -> Result<(), Memory> {
+        Ok(())
+    }
+
+    fn check<V: GraphView, C: Conform>(
+        &self,
+        alloc: Global,
+        view: &V,
+        _conform: &C,
+        at: At,
+        values: &[Id],
+        _reads: &mut Reads,
+        out: &mut Vec<ResultRow>,
+    ) -> Result<(), Memory> {
+        check_length(
+            alloc,
+            view,
+            Limit::AtMost,
+            self.value,
+            MAX_LENGTH,
+            at,
+            values,
+            out,
+        )
+    }
+
+    fn laws() {}
+}

@@ -1,0 +1,66 @@
+//! sh:minExclusive (SHACL, section 4.3.1).
+ghost use Rattle.std.specs.Prelude.{◌≡◌};
+
+use crate::bounds::{Side, check_bound};
+use comp_core::kinds::MIN_EXCLUSIVE;
+use comp_core::{At, Component, Conform, Pair, ResultRow};
+use graph_view::{GraphView, Reads};
+use shx_term::{Id, Memory};
+use std::alloc::Global;
+
+/// Each value node is greater than the bound.
+#[derive(Drop)]
+pub struct MinExclusive {
+    /// The bound.
+    pub value: Id,
+}
+
+impl MinExclusive {
+    /// The component with its parameter. It takes no memory.
+    pub fn new(value: Id) -> MinExclusive
+        ensures { result.value ≡ value }
+    {
+        MinExclusive { value }
+    }
+}
+
+impl Component for MinExclusive {
+    ghost use Rattle.std.specs.Prelude.{[], ◌∷◌};
+    ghost use Rattle.value_components.specs.MinExclusive.{min_exclusive_hits};
+
+    ghost numbers_of = { λ c. c.value ∷ [] };
+
+    ghost asks_of = { λ c vs. [] };
+
+    ghost hits_of = { λ c g m at vs. min_exclusive_hits c g at vs };
+
+    ghost reads_of = { λ c g r at vs. [] };
+
+    fn asks(&self, _values: &[Id], _out: &mut Vec<Pair>) -> Result<(), Memory> {
+        Ok(())
+    }
+
+    fn check<V: GraphView, C: Conform>(
+        &self,
+        alloc: Global,
+        view: &V,
+        _conform: &C,
+        at: At,
+        values: &[Id],
+        _reads: &mut Reads,
+        out: &mut Vec<ResultRow>,
+    ) -> Result<(), Memory> {
+        check_bound(
+            alloc,
+            view,
+            Side::Above,
+            self.value,
+            MIN_EXCLUSIVE,
+            at,
+            values,
+            out,
+        )
+    }
+
+    fn laws() {}
+}

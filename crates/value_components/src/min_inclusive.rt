@@ -1,0 +1,66 @@
+//! sh:minInclusive (SHACL, section 4.3.2).
+ghost use Rattle.std.specs.Prelude.{◌≡◌};
+
+use crate::bounds::{Side, check_bound};
+use comp_core::kinds::MIN_INCLUSIVE;
+use comp_core::{At, Component, Conform, Pair, ResultRow};
+use graph_view::{GraphView, Reads};
+use shx_term::{Id, Memory};
+use std::alloc::Global;
+
+/// Each value node is greater than the bound or equal to it.
+#[derive(Drop)]
+pub struct MinInclusive {
+    /// The bound.
+    pub value: Id,
+}
+
+impl MinInclusive {
+    /// The component with its parameter. It takes no memory.
+    pub fn new(value: Id) -> MinInclusive
+        ensures { result.value ≡ value }
+    {
+        MinInclusive { value }
+    }
+}
+
+impl Component for MinInclusive {
+    ghost use Rattle.std.specs.Prelude.{[], ◌∷◌};
+    ghost use Rattle.value_components.specs.MinInclusive.{min_inclusive_hits};
+
+    ghost numbers_of = { λ c. c.value ∷ [] };
+
+    ghost asks_of = { λ c vs. [] };
+
+    ghost hits_of = { λ c g m at vs. min_inclusive_hits c g at vs };
+
+    ghost reads_of = { λ c g r at vs. [] };
+
+    fn asks(&self, _values: &[Id], _out: &mut Vec<Pair>) -> Result<(), Memory> {
+        Ok(())
+    }
+
+    fn check<V: GraphView, C: Conform>(
+        &self,
+        alloc: Global,
+        view: &V,
+        _conform: &C,
+        at: At,
+        values: &[Id],
+        _reads: &mut Reads,
+        out: &mut Vec<ResultRow>,
+    ) -> Result<(), Memory> {
+        check_bound(
+            alloc,
+            view,
+            Side::From,
+            self.value,
+            MIN_INCLUSIVE,
+            at,
+            values,
+            out,
+        )
+    }
+
+    fn laws() {}
+}

@@ -1,0 +1,45 @@
+use row_tools::{RowFault, cut, in_three};
+
+/// The cells of a row: a component with its parameter and the members of its list, the value nodes, and the
+/// values of the results that are due. Behind these may stand the triples of the graph, and the keys that are
+/// read.
+#[derive(Clone, Copy)]
+pub(super) struct Row<'a> {
+    pub(super) component: &'a str,
+    pub(super) value: &'a str,
+    pub(super) members: &'a str,
+    pub(super) nodes: &'a str,
+    pub(super) due: &'a str,
+    pub(super) triples: &'a str,
+    pub(super) keys: &'a str,
+}
+
+// What stands before the first mark, and what stands behind it, if anything.
+fn divided<'a>(text: &'a str, mark: &str) -> (&'a str, &'a str) {
+    match text.split_once(mark) {
+        Some(parts) => parts,
+        None => (text, ""),
+    }
+}
+
+fn words(cell: &str) -> &str {
+    if cell == "-" { "" } else { cell }
+}
+
+/// The cells of a line.
+pub(super) fn row_of(line: &str) -> Result<Row<'_>, RowFault> {
+    let (asked, nodes, rest) = in_three(line, " | ")?;
+    let (component, parameter) = cut(asked, " ")?;
+    let (value, members) = divided(parameter, " ");
+    let (due, graph) = divided(rest, " | ");
+    let (triples, keys) = divided(graph, " | ");
+    Ok(Row {
+        component,
+        value,
+        members,
+        nodes: words(nodes),
+        due: words(due),
+        triples: words(triples),
+        keys: words(keys),
+    })
+}

@@ -31,29 +31,29 @@ pub record Notes (g : Graph) (T : ℕ → ℕ → Type 0) (K : Key → Type 0) (
       → Contains ((label_way g edge.label).reads x) k → K k
 
 module _ (g : Graph) (T : ℕ → ℕ → Type 0) where
-  Carries-left : (xs ys : List Edge) → Carries g T (xs ++ ys) → Carries g T xs
+  pub Carries-left : (xs ys : List Edge) → Carries g T (xs ++ ys) → Carries g T xs
   Carries-left xs ys kept = record { each = λ edge c. kept.each edge (Contains-append_left xs ys edge c) }
 
-  Carries-right : (xs ys : List Edge) → Carries g T (xs ++ ys) → Carries g T ys
+  pub Carries-right : (xs ys : List Edge) → Carries g T (xs ++ ys) → Carries g T ys
   Carries-right xs ys kept = record { each = λ edge c. kept.each edge (Contains-append_right xs ys edge c) }
 
-  Carries-tail : (edge : Edge) (edges : List Edge) → Carries g T (edge ∷ edges) → Carries g T edges
+  pub Carries-tail : (edge : Edge) (edges : List Edge) → Carries g T (edge ∷ edges) → Carries g T edges
   Carries-tail edge edges kept =
       record { each = λ other c. kept.each other (Contains-tail edge other edges c) }
 
   -- a free edge
-  moved : (s e : ℕ) (edges : List Edge) → Carries g T (edge_by Free s e ∷ edges) → (x : ℕ) → T s x → T e x
+  pub moved : (s e : ℕ) (edges : List Edge) → Carries g T (edge_by Free s e ∷ edges) → (x : ℕ) → T s x → T e x
   moved s e edges kept x t =
       kept.each (edge_by Free s e) (Contains-head (edge_by Free s e) edges) x x t ((Contains-one x x).1 refl)
 
   module _ (K : Key → Type 0) where
-    Notes-left : (xs ys : List Edge) → Notes g T K (xs ++ ys) → Notes g T K xs
+    pub Notes-left : (xs ys : List Edge) → Notes g T K (xs ++ ys) → Notes g T K xs
     Notes-left xs ys kept = record { each = λ edge c. kept.each edge (Contains-append_left xs ys edge c) }
 
-    Notes-right : (xs ys : List Edge) → Notes g T K (xs ++ ys) → Notes g T K ys
+    pub Notes-right : (xs ys : List Edge) → Notes g T K (xs ++ ys) → Notes g T K ys
     Notes-right xs ys kept = record { each = λ edge c. kept.each edge (Contains-append_right xs ys edge c) }
 
-    Notes-tail : (edge : Edge) (edges : List Edge) → Notes g T K (edge ∷ edges) → Notes g T K edges
+    pub Notes-tail : (edge : Edge) (edges : List Edge) → Notes g T K (edge ∷ edges) → Notes g T K edges
     Notes-tail edge edges kept =
         record { each = λ other c. kept.each other (Contains-tail edge other edges c) }
 
@@ -68,7 +68,7 @@ module _ (g : Graph) (T : ℕ → ℕ → Type 0) where
 
 module _ (g : Graph) (known : AllKnown g) (T : ℕ → ℕ → Type 0) where
   -- any number of times, from a place to itself
-  around : (d : Direction) (a : Route) (m x y : ℕ)
+  pub around : (d : Direction) (a : Route) (m x y : ℕ)
       → ((u v : ℕ) → T m u → Contains ((way g d a).to u) v → T m v)
       → T m x → Contains ((closed (length g.terms) (way g d a)).to x) y → T m y
   around d a m x y kept t c = elim (closed_cases g T (length g.terms) (way g d a) x y c) [
@@ -79,7 +79,7 @@ module _ (g : Graph) (known : AllKnown g) (T : ℕ → ℕ → Type 0) where
   ]
 
   -- once or more, from a place to another from which a free edge leads back
-  around_on : (d : Direction) (a : Route) (m n x y : ℕ)
+  pub around_on : (d : Direction) (a : Route) (m n x y : ℕ)
       → ((u v : ℕ) → T m u → Contains ((way g d a).to u) v → T n v) → ((u : ℕ) → T n u → T m u)
       → T m x → Contains ((repeated (length g.terms) (way g d a)).to x) y → T n y
   around_on d a m n x y kept back t c =

@@ -1,5 +1,5 @@
 -- Loops that lay parts: with what is left to be laid, the edges are those of the whole.
-use Rattle.std.specs.Prelude.{◌≡◌, ℕ, ◌+◌, ◌≤◌, ◌<◌, List, [], ◌∷◌, ◌++◌, map, length, drop}
+use Rattle.std.specs.Prelude.{◌≡◌, ℕ, ◌+◌, ◌≤◌, ◌<◌, List, ◌∷◌, ◌++◌, map, length, drop}
 use Rattle.std.proofs.Common.{refl, sym, ap, ◌∙◌, subst, get_or, append_assoc, append-nil}
 use Rattle.std.proofs.lemmas.List.{drop_more, drop_all}
 use Rattle.path_eval.specs.declared.direction.Direction.{Direction}
@@ -97,13 +97,6 @@ module _ (d : Direction) (all : List Edge) (places : ℕ) where
     Completes-members left =
         subst (λ ps. Completes d (alternative (map route_of ps)) s e now all places) (drop_all i paths done)
         left
-
--- what is laid from nothing is the whole
-pub Lays-whole : (old : Edges) (d : Direction) (route : Route) (new : Edges) → old.edges.items ≡ []
-    → old.places ≡ 2
-    → Lays old d route 0 1 new → (edges : List Edge) → edges ≡ new.edges.items → edges ≡ laid d route 0 1 2
-Lays-whole old d route new empty places lays edges same =
-    same ∙ lays.edges ∙ ap (λ es. es ++ laid d route 0 1 old.places) empty ∙ ap (laid d route 0 1) places
 
 pub Lays-none : (d : Direction) (s e : ℕ) (now : Edges) → Lays now d none s e now
 Lays-none d s e now = record { edges = sym (append-nil now.edges.items); places = refl }

@@ -19,20 +19,20 @@ use Rattle.path_eval.specs.declared.edge.Edge.{Edge}
 use Rattle.path_eval.specs.inner.Laid.{edge_by, after, laid, label_way}
 use Rattle.path_eval.proofs.SubLemmas.{SubWay, SubWay-itself, SubWay-trans, SubWay-left, SubWay-right}
 use Rattle.path_eval.proofs.SubLemmas.{SubWay-before}
-use Rattle.path_eval.proofs.SubLemmas.{SubWay-together, SubWay-stay, SubWay-end, SubWay-once_more}
+use Rattle.path_eval.proofs.SubLemmas.{SubWay-together, SubWay-stay, SubWay-once_more}
 
 -- one more place
 abbrev pub put : (ℕ → Way) → ℕ → Way → ℕ → Way
 put M n w q = if q == n then w else M q
 
-put_same : (M : ℕ → Way) (n : ℕ) (w : Way) → put M n w n ≡ w
+pub put_same : (M : ℕ → Way) (n : ℕ) (w : Way) → put M n w n ≡ w
 put_same M n w =
     elim (n == n) as (λ b. (n == n) ≡ b → (if b then w else M n) ≡ w) [
       | true ↦ λ h. refl
       | false ↦ λ h. absurd (true≢false (sym (eq-eqb n n refl) ∙ h))
     ] refl
 
-put_below : (M : ℕ → Way) (n : ℕ) (w : Way) (q : ℕ) → q < n → put M n w q ≡ M q
+pub put_below : (M : ℕ → Way) (n : ℕ) (w : Way) (q : ℕ) → q < n → put M n w q ≡ M q
 put_below M n w q inside =
     elim (q == n) as (λ b. (q == n) ≡ b → (if b then w else M q) ≡ M q) [
       | true ↦ λ h. let same = eqb-true q n h in absurd (omega (arith, same, inside))
@@ -52,17 +52,17 @@ module _ (g : Graph) where
     pub inside : (edge : Edge) → Contains edges edge → (edge.from < m) × (edge.to < m)
     pub more : n ≤ m
 
-  kept : (M : ℕ → Way) (label : Label) (s e : ℕ) (ws we : Way) → M s ≡ ws → M e ≡ we
+  pub kept : (M : ℕ → Way) (label : Label) (s e : ℕ) (ws we : Way) → M s ≡ ws → M e ≡ we
       → SubWay (then_by (label_way g label) we) ws → IsKept M (edge_by label s e)
   kept M label s e ws we ms me sub =
       subst (λ v. SubWay (then_by (label_way g label) v) (M s)) (sym me)
       (subst (λ v. SubWay (then_by (label_way g label) we) v) (sym ms) sub)
 
-  kept_as : (M N : ℕ → Way) (edge : Edge) → N edge.from ≡ M edge.from → N edge.to ≡ M edge.to
+  pub kept_as : (M N : ℕ → Way) (edge : Edge) → N edge.from ≡ M edge.from → N edge.to ≡ M edge.to
       → IsKept M edge → IsKept N edge
   kept_as M N edge from to sub = kept N edge.label edge.from edge.to (M edge.from) (M edge.to) from to sub
 
-  Left-none : (M : ℕ → Way) (n : ℕ) → Left M n n []
+  abbrev pub Left-none : (M : ℕ → Way) (n : ℕ) → Left M n n []
   Left-none M n = record {
     at = M;
     same = λ q h. refl;
@@ -71,8 +71,8 @@ module _ (g : Graph) where
     more = omega arith;
   }
 
-  Left-edge : (M : ℕ → Way) (n m : ℕ) (edges : List Edge) (edge : Edge) → edge.from < n → edge.to < n
-      → IsKept M edge → Left M n m edges → Left M n m (edge ∷ edges)
+  abbrev pub Left-edge : (M : ℕ → Way) (n m : ℕ) (edges : List Edge) (edge : Edge) → edge.from < n
+      → edge.to < n → IsKept M edge → Left M n m edges → Left M n m (edge ∷ edges)
   Left-edge M n m edges edge from to sub left = record {
     at = left.at;
     same = left.same;
@@ -89,7 +89,7 @@ module _ (g : Graph) where
     more = left.more;
   }
 
-  Left-append : (M : ℕ → Way) (n k m : ℕ) (xs ys : List Edge) (first : Left M n k xs)
+  abbrev pub Left-append : (M : ℕ → Way) (n k m : ℕ) (xs ys : List Edge) (first : Left M n k xs)
       → Left first.at k m ys → Left M n m (xs ++ ys)
   Left-append M n k m xs ys first second = record {
     at = second.at;
@@ -110,8 +110,8 @@ module _ (g : Graph) where
     more = omega (arith, first.more, second.more);
   }
 
-  Left-put : (M : ℕ → Way) (n m : ℕ) (w : Way) (edges : List Edge) → Left (put M n w) (n + 1) m edges
-      → Left M n m edges
+  abbrev pub Left-put : (M : ℕ → Way) (n m : ℕ) (w : Way) (edges : List Edge)
+      → Left (put M n w) (n + 1) m edges → Left M n m edges
   Left-put M n m w edges left = record {
     at = left.at;
     same = λ q h. left.same q (omega (arith, h)) ∙ put_below M n w q h;
@@ -241,13 +241,3 @@ module _ (g : Graph) (known : AllKnown g) where
       (SubWay-trans (SubWay-before stay (either stay w) we (SubWay-left stay w)) sub))
       (left d a s e n M ws we ms me hs he
       (SubWay-trans (SubWay-before w (either stay w) we (SubWay-right stay w)) sub))
-
-  -- the whole path is left at its start, and nothing at its end
-  abbrev pub at_ends : Way → ℕ → Way
-  at_ends w = put (λ q. w) 1 stay
-
-  pub left_whole : (d : Direction) (a : Route)
-      → Left g (at_ends (way g d a)) 2 (after a 2) (laid d a 0 1 2)
-  left_whole d a =
-      let w = way g d a in
-      left d a 0 1 2 (at_ends w) w stay refl refl (omega arith) (omega arith) (SubWay-end w)

@@ -1,6 +1,8 @@
 pub mod AgreementLemmas
 pub mod CarriedLemmas
 pub mod ChainLemmas
+pub mod CourseCarriedLemmas
+pub mod CourseLemmas
 pub mod FewLemmas
 pub mod FlatMapLemmas
 pub mod InstanceLemmas

@@ -77,7 +77,7 @@ opened (level.ZeroOrMore inner) = (inner, refl)
 opened (level.OneOrMore inner) = (inner, refl)
 opened (level.ZeroOrOne inner) = (inner, refl)
 
-of_its_form : (p : Path) → IsOfForm (path_form (route_of p)) p
+pub of_its_form : (p : Path) → IsOfForm (path_form (route_of p)) p
 of_its_form p = subst (λ q. IsOfForm (path_form (route_of q)) q) (roll-out-Path p) (opened (out-Path p))
 
 -- one path has the form, and the other has not

@@ -10,14 +10,16 @@ use Rattle.graph_view.specs.declared.key.Key.{Key}
 use Rattle.graph_view.specs.Graph.{Graph, AllKnown}
 use Rattle.path_eval.specs.declared.direction.Direction.{Direction}
 use Rattle.path_eval.specs.Route.{Route}
-use Rattle.path_eval.specs.Way.{Way, way, stay}
+use Rattle.path_eval.specs.Way.{Way, way}
 use Rattle.path_eval.specs.declared.edge.Edge.{Edge}
 use Rattle.path_eval.specs.declared.edge.State.{State}
-use Rattle.path_eval.specs.inner.Laid.{laid, label_way}
+use Rattle.path_eval.specs.inner.Course.{nothing_laid, whole}
+use Rattle.path_eval.specs.inner.Laid.{label_way}
 use Rattle.path_eval.specs.inner.States.{state_at, goes, looks, next_states, next_keys, Track, IsReached}
 use Rattle.path_eval.specs.inner.States.{IsLookedUp}
-use Rattle.path_eval.proofs.CarriedLemmas.{Carries, Notes, carried, noted}
-use Rattle.path_eval.proofs.LeftLemmas.{left_whole}
+use Rattle.path_eval.proofs.CarriedLemmas.{Carries, Notes}
+use Rattle.path_eval.proofs.CourseCarriedLemmas.{carried_line, noted_line}
+use Rattle.path_eval.proofs.CourseLemmas.{whole_left}
 
 -- ---- tracks
 
@@ -88,13 +90,16 @@ record IsPart (at : ℕ → Way) (w : Way) (x : ℕ) (t : State) : Type 0 where
 
 module _ (g : Graph) (known : AllKnown g) (d : Direction) (route : Route) where
   abbrev edges : List Edge
-  edges = laid d route 0 1 2
+  edges = (whole d route).edges
+
+  abbrev end : ℕ
+  end = (whole d route).end
 
   abbrev w : Way
   w = way g d route
 
   abbrev at : ℕ → Way
-  at = (left_whole g known d route).at
+  at = (whole_left g known d route).left.at
 
   part_keeps : (x : ℕ) (t u : State) → IsPart at w x t → Contains (next_states g edges t) u → IsPart at w x u
   part_keeps x t u part c =
@@ -103,7 +108,7 @@ module _ (g : Graph) (known : AllKnown g) (d : Direction) (route : Route) where
       let there = (label_way g edge.label).to t.node in
       let told = where_given edge.from t.place (map (state_at edge.to) there) u found.2 in
       let image = Contains-from_map (state_at edge.to) there u told.1 in
-      let kept = (left_whole g known d route).each edge found.1 in
+      let kept = (whole_left g known d route).left.each edge found.1 in
       let here : IsPart at w x (state_at edge.from t.node) =
       subst (λ q. IsPart at w x (state_at q t.node)) (sym told.0) part in
       let y = image.0 in
@@ -117,20 +122,19 @@ module _ (g : Graph) (known : AllKnown g) (d : Direction) (route : Route) where
 
   part_reached : (x : ℕ) (t : State) → IsReached (next_states g edges) (state_at 0 x) t → IsPart at w x t
   part_reached x t reached =
-      let same : at 0 ≡ w = (left_whole g known d route).same 0 (omega arith) in
+      let same : at 0 ≡ w = (whole_left g known d route).left.same 0 (omega arith) in
       reached_keeps (next_states g edges) (IsPart at w x) (part_keeps x) (state_at 0 x) t reached (record {
         to = λ y c. subst (λ (v : Way). Contains (v.to x) y) same c;
         reads = λ k c. subst (λ (v : Way). Contains (v.reads x) k) same c;
       })
 
   -- the states that are reached at the last place
-  pub states_nodes : (x y : ℕ) → IsReached (next_states g edges) (state_at 0 x) (state_at 1 y)
+  pub states_nodes : (x y : ℕ) → IsReached (next_states g edges) (state_at 0 x) (state_at end y)
       ↔ Contains (w.to x) y
   states_nodes x y = (
     λ reached.
-        let same : at 1 ≡ stay = (left_whole g known d route).same 1 (omega arith) in
-        (part_reached x (state_at 1 y) reached).to y
-        (subst (λ (v : Way). Contains (v.to y) y) (sym same) ((Contains-one y y).1 refl)),
+        (part_reached x (state_at end y) reached).to y
+        ((whole_left g known d route).least.to y y ((Contains-one y y).1 refl)),
     λ c.
         let T = λ (q z : ℕ). IsReached (next_states g edges) (state_at 0 x) (state_at q z) in
         let carries : Carries g T edges = record {
@@ -138,7 +142,8 @@ module _ (g : Graph) (known : AllKnown g) (d : Direction) (route : Route) where
               reached_step (next_states g edges) (state_at 0 x) (state_at edge.from u) (state_at edge.to v) t
               (next_by g edges (state_at edge.from u) edge v c refl step);
         } in
-        carried g known T d route 0 1 2 carries x y (reached_itself (next_states g edges) (state_at 0 x)) c,
+        carried_line g known T d route nothing_laid carries x y
+        (reached_itself (next_states g edges) (state_at 0 x)) c,
   )
 
   -- the keys that are looked up at the states that are reached
@@ -150,7 +155,7 @@ module _ (g : Graph) (known : AllKnown g) (d : Direction) (route : Route) where
         let found = Contains-from_flat_map (looks g t) edges k looked.2 in
         let edge = found.0 in
         let told = where_given edge.from t.place ((label_way g edge.label).reads t.node) k found.2 in
-        let kept = (left_whole g known d route).each edge found.1 in
+        let kept = (whole_left g known d route).left.each edge found.1 in
         part.reads k (subst (λ q. Contains ((at q).reads t.node) k) told.0 (kept.reads t.node k
         (Contains-append_left ((label_way g edge.label).reads t.node)
         (flat_map (at edge.to).reads ((label_way g edge.label).to t.node)) k told.1))),
@@ -165,6 +170,6 @@ module _ (g : Graph) (known : AllKnown g) (d : Direction) (route : Route) where
           each = λ edge c u k t look.
               (state_at edge.from u, t, key_by g edges (state_at edge.from u) edge k c refl look);
         } in
-        noted g known T (IsLookedUp g edges (state_at 0 x)) d route 0 1 2 carries notes x k
+        noted_line g known T (IsLookedUp g edges (state_at 0 x)) d route nothing_laid carries notes x k
         (reached_itself (next_states g edges) (state_at 0 x)) c,
   )

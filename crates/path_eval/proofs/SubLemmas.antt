@@ -48,6 +48,21 @@ SubWay-before a b w sub = record {
   ];
 }
 
+-- no more behind w
+pub SubWay-after : (w a b : Way) → SubWay a b → SubWay (then_by w a) (then_by w b)
+SubWay-after w a b sub = record {
+  to = λ x y c.
+      let found = Contains-from_flat_map a.to (w.to x) y c in
+      Contains-flat_map b.to (w.to x) found.0 y found.1 (sub.to found.0 y found.2);
+  reads = λ x k c. elim (Contains-append_cases (w.reads x) (flat_map a.reads (w.to x)) k c) [
+    | inl l ↦ Contains-append_left (w.reads x) (flat_map b.reads (w.to x)) k l
+    | inr r ↦
+        let found = Contains-from_flat_map a.reads (w.to x) k r in
+        Contains-append_right (w.reads x) (flat_map b.reads (w.to x)) k
+        (Contains-flat_map b.reads (w.to x) found.0 k found.1 (sub.reads found.0 k found.2))
+  ];
+}
+
 -- the first two together
 pub SubWay-together : (a b w : Way) → SubWay (then_by a (then_by b w)) (then_by (then_by a b) w)
 SubWay-together a b w =
@@ -81,6 +96,41 @@ SubWay-together a b w =
           ];
     }
 
+-- and the last two
+pub SubWay-apart : (a b w : Way) → SubWay (then_by (then_by a b) w) (then_by a (then_by b w))
+SubWay-apart a b w =
+    let both = flat_map (then_by b w).reads in
+    record {
+      to = λ x y c.
+          let found = Contains-from_flat_map w.to (flat_map b.to (a.to x)) y c in
+          let more = Contains-from_flat_map b.to (a.to x) found.0 found.1 in
+          Contains-flat_map (then_by b w).to (a.to x) more.0 y more.1
+          (Contains-flat_map w.to (b.to more.0) found.0 y more.2 found.2);
+      reads = λ x k c.
+          let first = a.reads x in
+          let second = flat_map b.reads (a.to x) in
+          let third = flat_map w.reads (flat_map b.to (a.to x)) in
+          elim (Contains-append_cases (first ++ second) third k c) [
+            | inl l ↦ elim (Contains-append_cases first second k l) [
+              | inl one ↦ Contains-append_left first (both (a.to x)) k one
+              | inr two ↦
+                  let found = Contains-from_flat_map b.reads (a.to x) k two in
+                  let z = found.0 in
+                  Contains-append_right first (both (a.to x)) k
+                  (Contains-flat_map (then_by b w).reads (a.to x) z k found.1
+                  (Contains-append_left (b.reads z) (flat_map w.reads (b.to z)) k found.2))
+            ]
+            | inr r ↦
+                let found = Contains-from_flat_map w.reads (flat_map b.to (a.to x)) k r in
+                let more = Contains-from_flat_map b.to (a.to x) found.0 found.1 in
+                let z = more.0 in
+                Contains-append_right first (both (a.to x)) k
+                (Contains-flat_map (then_by b w).reads (a.to x) z k more.1
+                (Contains-append_right (b.reads z) (flat_map w.reads (b.to z)) k
+                (Contains-flat_map w.reads (b.to z) found.0 k more.2 found.2)))
+          ];
+    }
+
 -- to stay first, or last, is nothing
 pub SubWay-stay : (w : Way) → SubWay (then_by stay w) w
 SubWay-stay w = record {
@@ -90,6 +140,12 @@ SubWay-stay w = record {
   reads = λ x k c.
       let found = Contains-from_flat_map w.reads (x ∷ []) k c in
       subst (λ z. Contains (w.reads z) k) ((Contains-one x found.0).0 found.1) found.2;
+}
+
+pub SubWay-stayed : (w : Way) → SubWay w (then_by stay w)
+SubWay-stayed w = record {
+  to = λ x y c. Contains-flat_map w.to (x ∷ []) x y (Contains-head x []) c;
+  reads = λ x k c. Contains-flat_map w.reads (x ∷ []) x k (Contains-head x []) c;
 }
 
 pub SubWay-end : (w : Way) → SubWay (then_by w stay) w
@@ -103,6 +159,12 @@ SubWay-end w = record {
         let found = Contains-from_flat_map stay.reads (w.to x) k r in
         absurd (none_in_empty k found.2)
   ];
+}
+
+pub SubWay-ended : (w : Way) → SubWay w (then_by w stay)
+SubWay-ended w = record {
+  to = λ x y c. Contains-flat_map stay.to (w.to x) y y c (Contains-head y []);
+  reads = λ x k c. Contains-append_left (w.reads x) (flat_map stay.reads (w.to x)) k c;
 }
 
 -- once, and then any number of times, is once or more

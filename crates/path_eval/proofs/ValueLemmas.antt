@@ -16,7 +16,7 @@ use Rattle.path_eval.specs.Route.{Route, along}
 use Rattle.path_eval.specs.Values.{nodes_reached, path_reads}
 use Rattle.path_eval.specs.Way.{way, step_to}
 use Rattle.path_eval.specs.declared.edge.Edge.{Edge}
-use Rattle.path_eval.specs.inner.Laid.{laid}
+use Rattle.path_eval.specs.inner.Course.{whole}
 use Rattle.path_eval.specs.inner.Reached.{AddsThose, HasThose}
 use Rattle.path_eval.specs.inner.States.{IsLookedUp, IsReached, next_states, state_at}
 use Rattle.path_eval.proofs.MeetsLemmas.{path_known}
@@ -30,16 +30,18 @@ ordered_again terms xs =
     (told.1, told.0))
 
 module _ (g : Graph) (known : AllKnown g) (d : Direction) (route : Route) (x : ℕ) (edges : List Edge)
-    (same : edges ≡ laid d route 0 1 2) where
+    (end : ℕ) (same : edges ≡ (whole d route).edges) (last : end ≡ (whole d route).end) where
   pub found_nodes : (nodes : List ℕ)
-      → HasThose nodes (λ y. IsReached (next_states g edges) (state_at 0 x) (state_at 1 y))
+      → HasThose nodes (λ y. IsReached (next_states g edges) (state_at 0 x) (state_at end y))
       → (held : List Term) (answer : List ℕ) → held ≡ g.terms → answer ≡ in_term_order held nodes
       → answer ≡ nodes_reached g d route x
   found_nodes nodes has held answer terms e =
       let those : HasThose nodes
-      (λ y. IsReached (next_states g (laid d route 0 1 2)) (state_at 0 x) (state_at 1 y)) =
-      subst (λ es. HasThose nodes (λ y. IsReached (next_states g es) (state_at 0 x) (state_at 1 y))) same
-      has in
+      (λ y. IsReached (next_states g (whole d route).edges) (state_at 0 x) (state_at (whole d route).end y)) =
+      subst (λ q. HasThose nodes (λ y. IsReached (next_states g (whole d route).edges) (state_at 0 x)
+      (state_at q y))) last
+      (subst (λ es. HasThose nodes (λ y. IsReached (next_states g es) (state_at 0 x) (state_at end y))) same
+      has) in
       e ∙ ap (λ ts. in_term_order ts nodes) terms
       ∙ in_term_order_same g.terms nodes ((way g d route).to x) (λ y.
       let told = states_nodes g known d route x y in
@@ -48,7 +50,7 @@ module _ (g : Graph) (known : AllKnown g) (d : Direction) (route : Route) (x : �
   pub found_reads : (a b : List Key) → AddsThose a b (IsLookedUp g edges (state_at 0 x))
       → Adds a b (path_reads g d route x)
   found_reads a b adds =
-      let those : AddsThose a b (IsLookedUp g (laid d route 0 1 2) (state_at 0 x)) =
+      let those : AddsThose a b (IsLookedUp g (whole d route).edges (state_at 0 x)) =
       subst (λ es. AddsThose a b (IsLookedUp g es (state_at 0 x))) same adds in
       record {
         each = λ k.

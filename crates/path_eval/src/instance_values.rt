@@ -4,30 +4,21 @@ ghost use Rattle.shx_term.specs.Members.{Adds};
 ghost use Rattle.graph_view.specs.Graph.{HasTerms};
 ghost use Rattle.path_eval.specs.declared.direction.Direction.{Direction};
 ghost use Rattle.path_eval.specs.Instances.{instance_route, is_instance};
-ghost use Rattle.path_eval.specs.inner.Laid.{edge_by, laid};
-ghost use Rattle.path_eval.specs.Route.{route_of};
+ghost use Rattle.path_eval.specs.inner.Laid.{edge_by};
+ghost use Rattle.path_eval.specs.inner.Course.{whole};
 ghost use Rattle.path_eval.specs.Values.{nodes_reached, path_reads};
 
+use crate::Direction;
+use crate::course::START;
 use crate::edge::{Edge, Label};
-use crate::path_values::{END, START, follow_laid};
-use crate::{Direction, Path};
+use crate::path_values::follow_laid;
 use graph_view::{GraphView, Reads};
 use shx_term::vocabulary::{RDF_TYPE, RDFS_SUB_CLASS_OF};
 use shx_term::{Id, Memory};
 use std::alloc::Global;
 
-/// The path from a node to the classes of which it is a SHACL instance (SHACL, section 1.3): `rdf:type`, and
-/// then `rdfs:subClassOf` none or more times.
-pub fn instance_path(alloc: Global) -> Result<Path, Memory>
-    ensures { IfOk result (λ path. route_of path ≡ instance_route) }
-{
-    let kind = Path::Pred(RDF_TYPE);
-    let wider = Path::ZeroOrMore(Box::new(alloc, Path::Pred(RDFS_SUB_CLASS_OF))?);
-    let mut parts = Vec::with_capacity(alloc, 2)?;
-    parts.push(kind)?;
-    parts.push(wider)?;
-    Ok(Path::Seq(parts))
-}
+// The place at which the path of instances ends, in either direction.
+const END: u32 = 1;
 
 /// The classes of which a node is a SHACL instance, in term order, each once: its types, and the classes of
 /// which these are subclasses. It looks up the types of the node, and each class once, however they lead to
@@ -101,31 +92,18 @@ fn follow<V: GraphView>(
 {
     let rows: Vec<Vec<Edge>> = Vec::new(alloc);
     let edges = instance_edges(direction);
-    follow_laid(alloc, view, &rows, &edges, start, reads)
+    follow_laid(alloc, view, &rows, &edges, END, start, reads)
 }
 
-// The path of instances as it is laid from the first place to the last. It takes no memory, and is too short
-// for rows.
-fn instance_edges(direction: Direction) -> [Edge; 5]
-    ensures { result ≡ laid direction instance_route 0 1 2 }
+// The path of instances as it is laid. It takes no memory, and is too short for rows.
+fn instance_edges(direction: Direction) -> [Edge; 2]
+    ensures { result ≡ (whole direction instance_route).edges }
 {
     let kind = Label::Step(direction, RDF_TYPE);
     let wider = Label::Step(direction, RDFS_SUB_CLASS_OF);
     match direction {
-        Direction::Forward => [
-            edge(START, kind, 2),
-            edge(2, Label::Free, 4),
-            edge(4, Label::Free, 3),
-            edge(4, wider, 4),
-            edge(3, Label::Free, END),
-        ],
-        Direction::Backward => [
-            edge(2, kind, END),
-            edge(3, Label::Free, 4),
-            edge(4, Label::Free, 2),
-            edge(4, wider, 4),
-            edge(START, Label::Free, 3),
-        ],
+        Direction::Forward => [edge(START, kind, END), edge(END, wider, END)],
+        Direction::Backward => [edge(START, wider, START), edge(START, kind, END)],
     }
 }
 

@@ -28,8 +28,8 @@ impl Edges {
         }
     }
 
-    // A new place.
-    fn place(&mut self) -> Result<u32, Memory>
+    /// A new place.
+    pub(crate) fn place(&mut self) -> Result<u32, Memory>
         ensures place { IfOk result (λ place. place ≡ self.old.places) }
         ensures places { OnOk result (self.new.places ≡ self.old.places + 1) }
         ensures edges { self.new.edges ≡ self.old.edges }
@@ -44,7 +44,8 @@ impl Edges {
         }
     }
 
-    fn add(&mut self, from: u32, label: Label, to: u32) -> Result<(), Memory>
+    /// An edge behind the others.
+    pub(crate) fn add(&mut self, from: u32, label: Label, to: u32) -> Result<(), Memory>
         ensures edges { OnOk result
             (self.new.edges.items ≡ self.old.edges.items ++ edge_by label from to ∷ []) }
         ensures places { self.new.places ≡ self.old.places }

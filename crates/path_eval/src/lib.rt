@@ -8,7 +8,8 @@
 //! | `instance_values.rt` | SHACL instances: the classes of a node, the instances of a class, and the test |
 //! | `direction.rt` | `Direction`: a path is followed forward or backward |
 //! | `edge.rt` | `Edge` and `State`: places of a path, and nodes at them |
-//! | `lay.rt` | a path laid as edges between places |
+//! | `lay.rt` | a path laid as edges between two places |
+//! | `course.rt` | a whole path, laid part behind part: a closure ends at its own place |
 //! | `rows.rt` | edges by the places that they begin at |
 //! | `search.rt` | the search over states, and one step along a predicate |
 //! | `states.rt` | `States`: the states that a search has met |
@@ -21,6 +22,7 @@
 //! same as lists. `specs/inner` has the words of contracts that no caller meets.
 #![tactic(auto)]
 
+mod course;
 mod direction;
 mod edge;
 mod instance_laws;
@@ -39,7 +41,7 @@ pub use direction::Direction;
 pub use instance_laws::{
     a_type_tells_of_its_node_alone, instances_are_told, instances_depend_on_their_reads,
 };
-pub use instance_values::{classes, instance_path, instances, is_instance};
+pub use instance_values::{classes, instances, is_instance};
 pub use laws::{edits_beside_a_path, paths_depend_on_their_reads, paths_lead_to_what_they_relate};
 pub use path::Path;
 pub use path_equality::equal_paths_have_one_route;

@@ -3,25 +3,19 @@ ghost use Rattle.std.specs.Prelude.{◌≡◌, ◌<◌, length, IfOk, OnOk};
 ghost use Rattle.shx_term.specs.Members.{Adds};
 ghost use Rattle.graph_view.specs.Graph.{HasTerms};
 ghost use Rattle.path_eval.specs.declared.direction.Direction.{Direction};
-ghost use Rattle.path_eval.specs.inner.Laid.{laid};
+ghost use Rattle.path_eval.specs.inner.Course.{whole};
 ghost use Rattle.path_eval.specs.Route.{Route, route_of};
 ghost use Rattle.path_eval.specs.inner.Rows.{IsByPlace};
 ghost use Rattle.path_eval.specs.Values.{nodes_reached, path_reads};
 
+use crate::course::{Course, START};
 use crate::edge::{Edge, State};
-use crate::lay::{Edges, lay};
 use crate::rows::by_place;
 use crate::search::{search, step};
 use crate::{Direction, Path};
 use graph_view::{GraphView, Reads};
 use shx_term::{Id, Memory};
 use std::alloc::Global;
-
-/// The place at which a path begins.
-pub(crate) const START: u32 = 0;
-
-/// The place at which it ends.
-pub(crate) const END: u32 = 1;
 
 /// The nodes that a path leads to from a node, in term order, each once (SHACL, section 2.3.1). It adds the
 /// keys that it reads to `reads`, and no others. Where memory is refused, some of them may have been added.
@@ -49,28 +43,34 @@ pub fn values<V: GraphView>(
         let found = step(alloc, view, Direction::Forward, *p, start, reads)?;
         return Ok(found);
     }
-    let mut edges = Edges::new(alloc, 2);
-    lay(path, Direction::Forward, START, END, &mut edges)?;
+    let mut course = Course::new(alloc);
+    course.lead(path)?;
+    let edges = &course.edges;
     let rows = by_place(alloc, &edges.edges, edges.places)?;
-    follow_laid(alloc, view, &rows, &edges.edges, start, reads)
+    follow_laid(alloc, view, &rows, &edges.edges, course.end, start, reads)
 }
 
-/// The nodes to which the edges lead, as they are laid for a path, in term order. `rows` has them by place.
+/// The nodes to which the edges lead, as they are laid for a whole path, in term order. `rows` has the edges
+/// by place.
 pub(crate) fn follow_laid<V: GraphView>(
     alloc: Global,
     view: &V,
     rows: &[Vec<Edge>],
     edges: &[Edge],
+    end: u32,
     start: Id,
     reads: &mut Reads,
 ) -> Result<Vec<Id>, Memory>
     requires { IsByPlace rows.now edges.now }
-    ensures values { (d : Direction) (route : Route) → edges.now ≡ laid d route 0 1 2
+    ensures values { (d : Direction) (route : Route) → edges.now ≡ (whole d route).edges
+        → end ≡ (whole d route).end
         → IfOk result (λ found. found.items ≡ nodes_reached (V.graph view.now) d route start) }
-    ensures known { (d : Direction) (route : Route) → edges.now ≡ laid d route 0 1 2
+    ensures known { (d : Direction) (route : Route) → edges.now ≡ (whole d route).edges
+        → end ≡ (whole d route).end
         → IfOk result (λ found. start < length (V.graph view.now).terms
         → HasTerms (V.graph view.now) found.items) }
-    ensures reads { (d : Direction) (route : Route) → edges.now ≡ laid d route 0 1 2
+    ensures reads { (d : Direction) (route : Route) → edges.now ≡ (whole d route).edges
+        → end ≡ (whole d route).end
         → OnOk result (Adds reads.old reads.new (path_reads (V.graph view.now) d route start)) }
 {
     let pool = view.pool();
@@ -78,6 +78,6 @@ pub(crate) fn follow_laid<V: GraphView>(
         place: START,
         node: start,
     };
-    let nodes = search(alloc, view, rows, edges, first, END, reads)?;
+    let nodes = search(alloc, view, rows, edges, first, end, reads)?;
     Ok(pool.in_order(nodes))
 }

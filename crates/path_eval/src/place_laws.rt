@@ -7,7 +7,8 @@ ghost use Rattle.path_eval.specs.declared.direction.Direction.{Direction};
 ghost use Rattle.path_eval.specs.declared.edge.State.{State};
 ghost use Rattle.path_eval.specs.Route.{Route};
 ghost use Rattle.path_eval.specs.Way.{way};
-ghost use Rattle.path_eval.specs.inner.Laid.{after, laid};
+ghost use Rattle.path_eval.specs.inner.Course.{whole};
+ghost use Rattle.path_eval.specs.inner.Laid.{after};
 ghost use Rattle.path_eval.specs.inner.StateLaws.{same_state};
 ghost use Rattle.path_eval.specs.inner.States.{IsReached, IsLookedUp, state_at, next_states};
 
@@ -15,16 +16,18 @@ ghost use Rattle.path_eval.specs.inner.States.{IsReached, IsLookedUp, state_at, 
 /// them is what the path reads.
 pub fn places_lead_where_paths_do()
     ensures nodes { (g : Graph) → AllKnown g → (d : Direction) (route : Route) (x y : ℕ)
-        → IsReached (next_states g (laid d route 0 1 2)) (state_at 0 x) (state_at 1 y)
+        → IsReached (next_states g (whole d route).edges) (state_at 0 x) (state_at (whole d route).end y)
         ↔ Contains ((way g d route).to x) y }
     ensures reads { (g : Graph) → AllKnown g → (d : Direction) (route : Route) (x : ℕ) (k : Key)
-        → IsLookedUp g (laid d route 0 1 2) (state_at 0 x) k ↔ Contains ((way g d route).reads x) k }
+        → IsLookedUp g (whole d route).edges (state_at 0 x) k ↔ Contains ((way g d route).reads x) k }
 {}
 
 /// No more states are reached than the places of a path times the nodes: those with a term, and the start.
+/// The path has no more places than if it were laid between two.
 pub fn few_states_are_reached()
-    ensures { (g : Graph) → AllKnown g → (d : Direction) (route : Route) (x : ℕ) (ts : List State)
+    ensures states { (g : Graph) → AllKnown g → (d : Direction) (route : Route) (x : ℕ) (ts : List State)
         → IsDistinct same_state ts
-        → ((t : State) → Contains ts t → IsReached (next_states g (laid d route 0 1 2)) (state_at 0 x) t)
-        → length ts ≤ after route 2 * (length g.terms + 1) }
+        → ((t : State) → Contains ts t → IsReached (next_states g (whole d route).edges) (state_at 0 x) t)
+        → length ts ≤ (whole d route).places * (length g.terms + 1) }
+    ensures places { (d : Direction) (route : Route) → (whole d route).places ≤ after route 2 }
 {}

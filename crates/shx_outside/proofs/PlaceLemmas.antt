@@ -46,4 +46,4 @@ IsWithin-moved files place left n within e h =
     let bytes = bytes_at files place.file in
     let k : length bytes - place.offset ≡ length left =
     sym (length-drop place.offset bytes) ∙ ap length (same_Some _ _ e) in
-    (within.0, omega (arith, within.1, k, h))
+    omega (arith, within, k, h)

@@ -1,17 +1,16 @@
 -- The first place at which a test passes, against the first element that passes it.
-use Rattle.std.proofs.Common.{◌≡◌, ℕ, suc, ◌+◌, List, [], ◌∷◌, Bool, true, false, cond, not, ◌||◌, Some, None}
-use Rattle.std.proofs.Common.{is_some, length, nat_lt, refl, sym, ap, ◌∙◌, arith}
+use Rattle.std.proofs.Common.{◌≡◌, ℕ, suc, ◌+◌, ◌≤◌, List, [], ◌∷◌, Bool, true, false, cond, not, ◌||◌}
+use Rattle.std.proofs.Common.{Some, None}
+use Rattle.std.proofs.Common.{is_some, length, nat_lt, refl, sym, ◌∙◌, arith}
 use Rattle.std.specs.List.{find, list_any, position, position_or_len, slice_get}
+use Rattle.std.specs.Option.{unwrap_or}
 use Rattle.std.proofs.lemmas.List.Folds.{find_at}
 use Rattle.std.proofs.lemmas.Bool.Decides.{nat_tests}
+use Rattle.std.proofs.lemmas.Option.{slice_get_past}
 
 is_some-cond : (b : Bool) (n : ℕ) → is_some (cond b (Some n) None) ≡ b
 is_some-cond true n = refl
 is_some-cond false n = refl
-
-cond_Some : (b : Bool) (n i : ℕ) → cond b (Some n) None ≡ Some i → n ≡ i
-cond_Some true n i e = cc
-cond_Some false n i e = cc
 
 nat_lt-step : (b any : Bool) (n m : ℕ)
     → nat_lt n m ≡ any → nat_lt (cond (not b) (1 + n) 0) (suc m) ≡ (b || any)
@@ -29,8 +28,15 @@ is_some-position p xs =
     is_some-cond (nat_lt (position_or_len p xs) (length xs)) (position_or_len p xs)
     ∙ list_any-position_or_len p xs
 
-pub slice_get-position : {X : Type 0} (p : X → Bool) (xs : List X) (i : ℕ)
-    → position p xs ≡ Some i → slice_get xs i ≡ find p xs
-slice_get-position p xs i e =
-    let at : position_or_len p xs ≡ i = cond_Some (nat_lt (position_or_len p xs) (length xs)) _ i e in
-    sym (find_at p xs ∙ ap (slice_get xs) at)
+-- where none passes, nothing stands at the length either
+pub slice_get-position : {X : Type 0} (p : X → Bool) (xs : List X)
+    → slice_get xs (unwrap_or (position p xs) (length xs)) ≡ find p xs
+slice_get-position p xs = at (nat_lt (position_or_len p xs) (length xs)) refl ∙ sym (find_at p xs)
+  where
+    at : (b : Bool) → nat_lt (position_or_len p xs) (length xs) ≡ b
+        → slice_get xs (unwrap_or (cond b (Some (position_or_len p xs)) None) (length xs))
+        ≡ slice_get xs (position_or_len p xs)
+    at true e = refl
+    at false e =
+        let past : length xs ≤ position_or_len p xs = grind (arith, nat_tests) in
+        slice_get_past xs (length xs) (omega arith) ∙ sym (slice_get_past xs (position_or_len p xs) past)

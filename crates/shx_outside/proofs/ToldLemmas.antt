@@ -44,7 +44,7 @@ OthersStay-then first next = record {
   rest = λ other apart. next.rest other apart ∙ first.rest other apart;
 }
 
-pub StaysAdmitted-then : {a0 a1 a2 : Role → List ℕ → Type 0}
+pub StaysAdmitted-then : {X : Type 0} {a0 a1 a2 : X → List ℕ → Type 0}
     → StaysAdmitted a0 a1 → StaysAdmitted a1 a2 → StaysAdmitted a0 a2
 StaysAdmitted-then first next =
-    record { each = λ role name admitted. next.each role name (first.each role name admitted) }
+    record { each = λ x text admitted. next.each x text (first.each x text admitted) }

@@ -1,8 +1,13 @@
 pub mod Counted
 pub mod Failing
+pub mod FailingHost
 pub mod FileInputs
+pub mod HonestSink
 pub mod MemoryInputs
 pub mod MemorySink
+pub mod OpenTexts
 pub mod Outside
+pub mod Patterns
+pub mod Roomy
 pub mod Told
 pub mod inner

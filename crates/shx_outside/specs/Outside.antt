@@ -1,5 +1,6 @@
 -- What inputs, a sink and a pattern host tell of themselves at one moment.
 use Rattle.std.specs.Prelude.{ℕ, List, Bool, Option}
+use Rattle.shx_outside.specs.declared.flags.Flags.{Flags}
 use Rattle.shx_outside.specs.declared.role.Role.{Role}
 
 -- what each name holds, which roles are opened, what is left for each, and how often the inputs failed
@@ -22,3 +23,7 @@ pub record PatternState : Type 0 where
 -- every name may be opened for every role
 abbrev pub admits_all : {X : Type 0} → X → Role → List ℕ → Type 0
 admits_all inputs role name = Unit {0}
+
+-- every text may be built, with any flags
+abbrev pub builds_all : {X : Type 0} → X → Flags → List ℕ → Type 0
+builds_all host flags text = Unit {0}

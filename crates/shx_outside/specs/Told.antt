@@ -23,9 +23,9 @@ pub record Took (old new : Option (List ℕ)) (bytes : List ℕ) : Type 0 where
 pub record IsAtEnd (rest : Option (List ℕ)) : Type 0 where
   pub told : (left : List ℕ) → rest ≡ Some left → left ≡ []
 
--- a name that might be opened for a role still may
-pub record StaysAdmitted (before after : Role → List ℕ → Type 0) : Type 0 where
-  pub each : (role : Role) (name : List ℕ) → before role name → after role name
+-- what was admitted, a name for a role or a text with flags, still is
+pub record StaysAdmitted {X : Type 0} (before after : X → List ℕ → Type 0) : Type 0 where
+  pub each : (x : X) (text : List ℕ) → before x text → after x text
 
 -- each name holds what it held
 pub record SameTexts (before after : InputState) : Type 0 where

@@ -1,5 +1,5 @@
-ghost use Rattle.std.specs.Prelude.{◌≡◌, ◌+◌, ◌≤◌, length, position, is_some, IsSome};
-ghost use Rattle.shx_outside.specs.MemoryInputs.{is_named, is_held, bytes_named};
+ghost use Rattle.std.specs.Prelude.{◌≡◌, ◌+◌, ◌≤◌, length, position, Some};
+ghost use Rattle.shx_outside.specs.OpenTexts.{is_named, bytes_named};
 ghost use Rattle.shx_outside.specs.inner.Places.{no_places, place_of, with_place, left_at, IsWithin};
 
 use crate::{NamedText, Role};
@@ -51,14 +51,13 @@ impl Places {
     }
 }
 
-/// Where the first text of this name starts.
-pub(crate) fn start_of(files: &[NamedText], name: &str) -> Option<Place>
-    ensures held { is_some result ≡ is_held files.now name.now }
-    ensures within { IsWithin files.now result }
-    ensures text { IsSome result → left_at files.now result ≡ Some (bytes_named files.now name.now) }
+/// Where the first text of this name starts: past the last text, where the empty text stands, if none has it.
+pub(crate) fn start_of(files: &[NamedText], name: &str) -> Place
+    ensures within { IsWithin files.now (Some result) }
+    ensures text { left_at files.now (Some result) ≡ Some (bytes_named files.now name.now) }
 {
-    let file = first_named(files, name)?;
-    Some(Place { file, offset: 0 })
+    let file = first_named(files, name).unwrap_or(files.len());
+    Place { file, offset: 0 }
 }
 
 /// What is left of a text from a place on.
@@ -67,11 +66,14 @@ pub(crate) fn left_from(files: &[NamedText], place: Place) -> &[u8]
     ensures left { left_at files.now (Some place) ≡ Some result.now }
     ensures fits { place.offset + length result.now ≤ usize.MAX }
 {
-    &files[place.file].bytes.as_slice()[place.offset..]
+    match files.get(place.file) {
+        Some(file) => &file.bytes.as_slice()[place.offset..],
+        None => &[],
+    }
 }
 
-// The index of the first text of this name.
-fn first_named(files: &[NamedText], name: &str) -> Option<usize>
+/// The index of the first text of this name.
+pub(crate) fn first_named(files: &[NamedText], name: &str) -> Option<usize>
     ensures { result ≡ position (is_named name.now) files.now }
 {
     files.iter().position(|file| file.name.as_str() == name)

@@ -1,4 +1,5 @@
 mod answers;
 mod lines;
 mod outside;
+mod patterns;
 mod texts;

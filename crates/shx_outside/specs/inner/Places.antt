@@ -1,11 +1,11 @@
 -- Places in the texts that are held: a text by its index, and how much of it was read.
-use Rattle.std.specs.Prelude.{ℕ, ◌+◌, ◌<◌, ◌≤◌, List, length, drop, Option, Some, None, slice_get}
+use Rattle.std.specs.Prelude.{ℕ, ◌+◌, ◌≤◌, List, length, drop, Option, Some, None, slice_get}
 use Rattle.shx_outside.specs.declared.named_text.NamedText.{NamedText}
 use Rattle.shx_outside.specs.declared.places.Place.{Place}
 use Rattle.shx_outside.specs.declared.places.Places.{Places}
 use Rattle.shx_outside.specs.declared.role.Role.{Role}
 use Rattle.shx_outside.specs.declared.role.Role.TheVariants.{Shapes, Data, Script}
-use Rattle.shx_outside.specs.MemoryInputs.{MemoryTexts, bytes_of}
+use Rattle.shx_outside.specs.OpenTexts.{OpenTexts, bytes_of}
 
 -- no role is opened
 abbrev pub no_places : Places
@@ -36,25 +36,21 @@ abbrev pub left_at : List NamedText → Option Place → Option (List ℕ)
 left_at files (Some place) = Some (drop place.offset (bytes_at files place.file))
 left_at files None = None
 
--- the place lies in a text
+-- the place lies in a text, or past the last one, where the empty text stands
 abbrev pub IsWithin : List NamedText → Option Place → Type 0
-IsWithin files (Some place) =
-    (place.file < length files) × (place.offset ≤ length (bytes_at files place.file))
+IsWithin files (Some place) = place.offset ≤ length (bytes_at files place.file)
 IsWithin files None = Unit {0}
 
 -- the place of each role lies in a text
 pub record AreWithin (files : List NamedText) (places : Places) : Type 0 where
   pub each : (role : Role) → IsWithin files (place_of places role)
 
--- what is known of texts that are read from these places
-abbrev pub state_of : List NamedText → ℕ → List ℕ → ℕ → ℕ → Places → MemoryTexts
-state_of files piece failing calls faults places =
+-- what is seen of texts that are read from these places
+abbrev pub texts_from : List NamedText → ℕ → Places → OpenTexts
+texts_from files piece places =
     record {
       files = files;
       piece = piece;
-      failing = failing;
-      calls = calls;
-      faults = faults;
       shapes_left = left_at files places.shapes;
       data_left = left_at files places.«data»;
       script_left = left_at files places.script;

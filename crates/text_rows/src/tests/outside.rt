@@ -1,6 +1,6 @@
 use shx_outside::{
-    Bytes, Failed, FileInputs, Inputs, Memory, MemoryInputs, MemorySink, Name, NamedText,
-    RegexHost, Role, Sink,
+    Bytes, Failed, FileInputs, HonestInputs, HonestSink, Inputs, Memory, MemoryInputs, MemorySink,
+    Name, NamedText, Role, Roomy, Sink,
 };
 use std::alloc::Global;
 use std::test::Fail;
@@ -13,13 +13,18 @@ fn named(alloc: Global, name: &str, bytes: &[u8]) -> Result<NamedText, Memory> {
     })
 }
 
-// Inputs over two names, one of them twice, in pieces of three bytes.
-fn inputs_failing(alloc: Global, failing: Vec<u64>) -> Result<MemoryInputs, Memory> {
+// Texts of two names, one of them twice.
+fn named_texts(alloc: Global) -> Result<Vec<NamedText>, Memory> {
     let mut files = Vec::new(alloc);
     files.push(named(alloc, "shapes", b"seventh")?)?;
     files.push(named(alloc, "data", b"four")?)?;
     files.push(named(alloc, "shapes", b"hidden")?)?;
-    Ok(MemoryInputs::new(files, 3, failing))
+    Ok(files)
+}
+
+// Inputs over these texts, in pieces of three bytes.
+fn inputs_failing(alloc: Global, failing: Vec<u64>) -> Result<MemoryInputs, Memory> {
+    Ok(MemoryInputs::new(named_texts(alloc)?, 3, failing))
 }
 
 // Reads a text to its end, puts a bar behind each piece, and answers whether no call failed.
@@ -77,6 +82,18 @@ fn a_listed_call_fails(rt: HostRuntime) -> Result<(), Fail> {
 }
 
 #[test]
+fn a_name_that_is_not_held_opens_the_empty_text(rt: HostRuntime) -> Result<(), Fail> {
+    let alloc = rt.alloc();
+    let mut inputs = HonestInputs::new(named_texts(alloc)?, 3);
+    let mut text = Vec::new(alloc);
+    assert!(rt; read_all(&mut inputs, Role::Shapes, "shapes", &mut text)?);
+    assert!(rt; read_all(&mut inputs, Role::Script, "script", &mut text)?);
+    assert!(rt; read_all(&mut inputs, Role::Data, "data", &mut text)?);
+    assert_eq!(rt; text.as_slice(), b"sev|ent|h|fou|r|".as_slice());
+    Ok(())
+}
+
+#[test]
 fn the_second_put_fails(rt: HostRuntime) -> Result<(), Fail> {
     let alloc = rt.alloc();
     let mut sink = MemorySink::new(alloc, 2, vec![in alloc; 2]?);
@@ -84,6 +101,22 @@ fn the_second_put_fails(rt: HostRuntime) -> Result<(), Fail> {
     assert_eq!(rt; sink.put(b"c"), Err(Failed));
     assert_eq!(rt; sink.put(b"c"), Ok(1));
     assert_eq!(rt; sink.bytes(), b"abc".as_slice());
+    Ok(())
+}
+
+// There is room for exactly the bytes that are put.
+#[test]
+fn a_put_without_room_fails(rt: HostRuntime) -> Result<(), Fail> {
+    let mut held = HonestSink::new(rt.alloc(), 2);
+    held.reserve(3)?;
+    assert_eq!(rt; held.put(b"abc"), 2);
+    assert_eq!(rt; held.room(), 1);
+    let mut sink = Roomy::new(held);
+    assert_eq!(rt; sink.put(b"cd"), Ok(1));
+    assert_eq!(rt; sink.put(b"d"), Err(Failed));
+    assert_eq!(rt; sink.bytes(), b"abc".as_slice());
+    let shown = format!(in rt.alloc(); "{sink:?}")?;
+    assert!(rt; shown.as_str().ends_with("room: 0 }, faults: 1 }"));
     Ok(())
 }
 
@@ -120,13 +153,6 @@ fn files_that_cannot_be_read_are_failures(rt: HostRuntime) -> Result<(), Fail> {
 fn a_failure_has_a_text(rt: HostRuntime) -> Result<(), Fail> {
     let text = format!(in rt.alloc(); "{Failed}")?;
     assert_eq!(rt; text.as_str(), "the outside failed");
-    Ok(())
-}
-
-#[test]
-fn a_new_host_has_refused_nothing(rt: HostRuntime) -> Result<(), Fail> {
-    let shown = format!(in rt.alloc(); "{:?}", RegexHost::new())?;
-    assert_eq!(rt; shown.as_str(), "RegexHost { errors: 0 }");
     Ok(())
 }
 

@@ -1,0 +1,83 @@
+ghost use Rattle.std.specs.Prelude.{◌≡◌, true, IfOk, IfErr};
+ghost use Rattle.shx_outside.specs.declared.pattern_fault.PatternFault.TheVariants.{NoPattern, Refused};
+ghost use Rattle.shx_outside.specs.Counted.{next_count, HasRefusalCause, refusals_after};
+ghost use Rattle.shx_outside.specs.FailingHost.{refuses_next};
+ghost use Rattle.shx_outside.specs.Outside.{PatternState};
+ghost use Rattle.shx_outside.specs.Patterns.{IsBuiltOf, IsNoPattern};
+ghost use Rattle.shx_outside.specs.Told.{StaysAdmitted};
+
+use crate::counted::{count_up, next_call_fails};
+use crate::{Flags, Pattern, PatternFault, PatternHost};
+use std::alloc::Global;
+use std::marker::Model;
+
+/// A host over another one, with calls that are refused on demand. It has a count of its own, which rises
+/// where the other host refuses, too.
+#[derive(Debug, Drop)]
+pub struct FailingHost<P: PatternHost> {
+    inner: P,
+    failing: Vec<u64>,
+    calls: u64,
+    faults: u64,
+}
+
+impl<P: PatternHost> Model for FailingHost<P> {
+    ghost use Rattle.shx_outside.specs.FailingHost.{FailingCalls};
+
+    ghost Value = { FailingCalls P };
+
+    ghost view = { λ a. record {
+      inner = a.inner;
+      failing = a.failing.items;
+      calls = a.calls;
+      faults = a.faults;
+    } };
+}
+
+impl<P: PatternHost> FailingHost<P> {
+    /// Calls of `build` are counted from 1, and those whose number stands in `failing` are refused.
+    pub fn new(inner: P, failing: Vec<u64>) -> FailingHost<P>
+        ensures inner { result.inner ≡ inner }
+        ensures failing { result.failing ≡ failing.items }
+        ensures calls { result.calls ≡ 0 }
+        ensures faults { result.faults ≡ 0 }
+    {
+        FailingHost {
+            inner,
+            failing,
+            calls: 0,
+            faults: 0,
+        }
+    }
+}
+
+impl<P: PatternHost> PatternHost for FailingHost<P> {
+    ghost admits = { λ host. P.admits host.inner };
+
+    ghost state = { λ host. record { faults = host.faults } };
+
+    /// A call that is refused on demand does not reach the inner host; every other call is the inner host's.
+    fn build(&mut self, alloc: Global, text: &str, flags: Flags) -> Result<Pattern, PatternFault>
+        requires { P.admits self.old.inner flags text.now }
+        ensures built { IfOk result (IsBuiltOf text.now flags) }
+        ensures none { IfErr result (λ fault. fault ≡ NoPattern → IsNoPattern text.now flags) }
+        ensures admitted { StaysAdmitted (P.admits self.old.inner) (P.admits self.new.inner) }
+        ensures cause { HasRefusalCause self.old.faults self.new.faults result }
+
+        ensures listed { refuses_next self.old ≡ true
+            → (result ≡ Err Refused) × (self.new.inner ≡ self.old.inner) }
+        ensures calls { self.new.calls ≡ next_count self.old.calls }
+        ensures faults { self.new.faults ≡ refusals_after self.old.faults result }
+        ensures failing { self.new.failing ≡ self.old.failing }
+    {
+        if next_call_fails(&self.failing, &mut self.calls) {
+            count_up(&mut self.faults);
+            return Err(PatternFault::Refused);
+        }
+        let built = self.inner.build(alloc, text, flags);
+        if let Err(PatternFault::Refused) = built {
+            count_up(&mut self.faults);
+        }
+        built
+    }
+}

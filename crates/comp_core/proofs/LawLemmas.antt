@@ -1,7 +1,8 @@
 -- For the laws of components: numbers that keep their terms, and pairs that are asked by value node.
 use Rattle.std.specs.Prelude.{◌≡◌, ◌<◌, ℕ, List, [], length, flat_map, slice_get, Contains}
 use Rattle.shx_term.specs.Members.{SameMembers}
-use Rattle.shx_term.proofs.MemberLemmas.{none_in_empty, Contains-flat_map, Contains-from_flat_map, each_of_All}
+use Rattle.shx_term.proofs.MemberLemmas.{none_in_empty, Contains-flat_map, Contains-from_flat_map}
+use Rattle.shx_term.proofs.MemberLemmas.{each_of_All}
 use Rattle.shx_term.proofs.SetLemmas.{SameMembers-parts}
 use Rattle.graph_view.specs.declared.key.Key.{Key}
 use Rattle.graph_view.specs.Agree.{Agree}

@@ -1,1 +1,5 @@
+pub mod AskLemmas
+pub mod CountLemmas
 pub mod LawLemmas
+pub mod MemberTestLemmas
+pub mod ResultLemmas

@@ -8,8 +8,8 @@ use Rattle.comp_core.specs.declared.pair.Pair.{Pair}
 use Rattle.comp_core.specs.declared.pair.At.{At}
 use Rattle.comp_core.specs.declared.row.ResultRow.{ResultRow}
 
--- what a component is checked on looks alike in two graphs: a reader of these keys cannot tell the one from the
--- other, and the numbers and value nodes have terms, which are the same in both
+-- what a component is checked on looks alike in two graphs: a reader of these keys cannot tell the one from
+-- the other, and the numbers and value nodes have terms, which are the same in both
 pub record LooksAlike (g h : Graph) (ids vs : List ℕ) (keys : List Key) : Type 0 where
   pub before : AllKnown g
   pub after : AllKnown h

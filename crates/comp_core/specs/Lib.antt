@@ -1,3 +1,7 @@
+pub mod Asking
 pub mod Laws
+pub mod Results
 pub mod Rows
 pub mod Table
+pub mod TermTests
+pub mod inner

@@ -6,25 +6,35 @@
 //! | `conform.rt` | `Conform`: who tells what was found at other shapes |
 //! | `pair.rt` | `Pair`: a node at which a shape is checked; `At`: where a constraint is checked |
 //! | `row.rt` | `ResultRow`: a result |
+//! | `results.rt` | results as most components give them |
+//! | `asking.rt` | asking about a node at some shapes |
+//! | `lookup.rt` | `Lookup`: numbers that are looked up again and again |
 //! | `kinds.rt` | `Kind`: the number of a component, and a constant for each |
 //! | `table.rt` | `AnswerTable`: answers that are given beforehand, for tests of components |
 //!
-//! It stands on `shx_term` and `graph_view`. Start with `component.rt`; `specs/Laws.antt` says what is true of
-//! every component.
+//! It stands on `shx_term` and `graph_view`. Start with `component.rt`; `specs/Laws.antt` says what is true
+//! of every component.
 #![tactic(auto)]
 
+mod asking;
 mod component;
 mod conform;
+mod held;
 pub mod kinds;
+mod lookup;
 mod pair;
+mod results;
 mod row;
 mod table;
 #[cfg(test)]
 mod tests;
 
+pub use asking::{ask_at, ask_shapes, conforming};
 pub use component::Component;
 pub use conform::Conform;
 pub use kinds::Kind;
+pub use lookup::Lookup;
 pub use pair::{At, Pair, ShapeNo};
+pub use results::{add_once_if, add_unless};
 pub use row::ResultRow;
 pub use table::{AnswerTable, Answered};

@@ -19,7 +19,7 @@ use Rattle.comp_core.specs.Laws.{Agreement}
 use Rattle.comp_core.proofs.LawLemmas.{value_known}
 use Rattle.value_components.specs.declared.class.Class.{Class}
 use Rattle.value_components.specs.Class.{is_of_class, class_reads_at, class_hits, class_reads}
-use Rattle.value_components.proofs.ComponentLemmas.{each_unless-agree}
+use Rattle.comp_core.proofs.ResultLemmas.{each_unless-agree}
 
 module _ (paths_agree : (g h : Graph) → AllKnown g → AllKnown h → (d : Direction) (route : Route) (x : ℕ)
     → x < length g.terms → Agree g h (Contains (path_reads g d route x)) → IsSamePath g h d route x) where

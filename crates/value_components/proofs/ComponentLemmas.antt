@@ -1,28 +1,16 @@
 -- Laws of components by what their results are made of. These read nothing.
-use Rattle.std.specs.Prelude.{◌≡◌, ℕ, Bool, List, [], ◌∷◌, length, Contains}
-use Rattle.std.specs.List.{list_any}
+use Rattle.std.specs.Prelude.{ℕ, Bool, List, [], ◌∷◌, length}
 use Rattle.std.proofs.Common.{refl, ap}
 use Rattle.shx_term.specs.declared.term.Term.{Term}
-use Rattle.shx_term.proofs.MemberLemmas.{Contains-head, Contains-tail, flat_map_agree}
+use Rattle.shx_term.proofs.MemberLemmas.{Contains-head}
 use Rattle.shx_term.proofs.SetLemmas.{SameMembers-itself}
 use Rattle.comp_core.specs.declared.pair.At.{At}
 use Rattle.comp_core.specs.declared.row.ResultRow.{ResultRow}
 use Rattle.comp_core.specs.Laws.{Agreement}
 use Rattle.comp_core.proofs.LawLemmas.{number_kept, value_kept}
-use Rattle.value_components.specs.Results.{once_if, unless, each_unless}
-use Rattle.value_components.specs.TermTests.{is_so, is_so_at, are_so_at}
-
-pub each_unless-agree : (p q : ℕ → Bool) (kind : ℕ) (at : At) (vs : List ℕ)
-    → ((v : ℕ) → Contains vs v → p v ≡ q v) → each_unless p kind at vs ≡ each_unless q kind at vs
-each_unless-agree p q kind at vs same =
-    flat_map_agree (λ v. unless (p v) kind at v) (λ v. unless (q v) kind at v) vs
-    (λ v i. ap (λ b. unless b kind at v) (same v i))
-
-pub list_any-agree : {X : Type 0} (p q : X → Bool) (xs : List X) → ((x : X) → Contains xs x → p x ≡ q x)
-    → list_any p xs ≡ list_any q xs
-list_any-agree p q [] same = refl
-list_any-agree p q (x ∷ xs) same =
-    rw (same x (Contains-head x xs), list_any-agree p q xs (λ y c. same y (Contains-tail x y xs c))) refl
+use Rattle.comp_core.proofs.ResultLemmas.{each_unless-agree}
+use Rattle.comp_core.specs.Results.{once_if, each_unless}
+use Rattle.comp_core.specs.TermTests.{is_so, is_so_at, are_so_at}
 
 -- whose results are the same in every graph
 pub fixed_agrees : {C : Type 0} (hits : C → At → List ℕ → List ResultRow)

@@ -1,6 +1,7 @@
 -- The tags that are noted again are those that stand twice or more, each once.
-use Rattle.std.specs.Prelude.{◌≡◌, ℕ, suc, ◌+◌, nat_eq, nat_le, Bool, true, false, ◌||◌, List, [], ◌∷◌, ◌++◌}
-use Rattle.std.specs.Prelude.{Option, Some, None, length, filter, fold, map, if◌then◌else◌}
+use Rattle.std.specs.Prelude.{◌≡◌, ℕ, suc, ◌+◌, nat_eq, nat_le, Bool, true, false, ◌||◌, ◌&&◌, List, [], ◌∷◌}
+use Rattle.std.specs.Prelude.{◌++◌}
+use Rattle.std.specs.Prelude.{Option, Some, None, length, filter, fold, if◌then◌else◌}
 use Rattle.std.specs.Cmp.Lexicographic.{pointwise, nat_list_eq_equiv}
 use Rattle.std.specs.List.{IsDistinct}
 use Rattle.std.proofs.Common.{refl, sym, ap, ◌∙◌, arith}
@@ -8,10 +9,12 @@ use Rattle.std.proofs.lemmas.Bool.Decides.{nat_tests}
 use Rattle.std.proofs.lemmas.List.Folds.{list_any-append}
 use Rattle.std.proofs.lemmas.Map.Keys.{IsDistinct-push}
 use Rattle.std.proofs.lemmas.Map.Steps.{list_any_congr}
-use Rattle.graph_view.specs.Graph.{Graph}
-use Rattle.value_components.specs.Tags.{tag_at}
-use Rattle.value_components.specs.UniqueLang.{Noted, is_tag_among, with_tag, note_tag, tag_count, has_tag}
-use Rattle.value_components.specs.UniqueLang.{nothing_noted, tags_noted}
+use Rattle.std.proofs.lemmas.Slice.Eq.{bytes_eq-Decides}
+use Rattle.std.proofs.lemmas.Map.Made.{is_member-filter, length-from_same_keys}
+use Rattle.graph_view.proofs.SameGraphLemmas.{IsDistinct-filter}
+use Rattle.value_components.specs.UniqueLang.{each_once, has_tag, is_tag_among, repeated_tags, tag_count}
+use Rattle.value_components.specs.UniqueLang.{with_tag}
+use Rattle.value_components.specs.inner.Noted.{Noted, note_tag, nothing_noted, tags_noted}
 
 or_true : (b : Bool) → (b || true) ≡ true
 or_true true = refl
@@ -114,13 +117,58 @@ distinct_later (Some u ∷ tags) n d =
     by_seen true = distinct_with n.again u d
     by_seen false = d
 
-pub again_is_twice : (g : Graph) (vs t : List ℕ)
-    → is_tag_among t (tags_noted g vs).again ≡ nat_le 2 (tag_count t (map (tag_at g) vs))
-again_is_twice g vs t =
-    let count = tag_count t (map (tag_at g) vs) in
+again_is_twice : (tags : List (Option (List ℕ))) (t : List ℕ)
+    → is_tag_among t (tags_noted tags).again ≡ nat_le 2 (tag_count t tags)
+again_is_twice tags t =
+    let count = tag_count t tags in
     let none : 0 + count ≡ count = omega arith in
-    noted_later t (map (tag_at g) vs) nothing_noted ∙ ap (nat_le 2) none
+    noted_later t tags nothing_noted ∙ ap (nat_le 2) none
 
-pub again_is_distinct : (g : Graph) (vs : List ℕ) → IsDistinct (pointwise nat_eq) (tags_noted g vs).again
+again_is_distinct : (tags : List (Option (List ℕ)))
+    → IsDistinct (pointwise nat_eq) (tags_noted tags).again
 unfolding IsDistinct
-again_is_distinct g vs = distinct_later (map (tag_at g) vs) nothing_noted tt
+again_is_distinct tags = distinct_later tags nothing_noted tt
+
+-- the same of the tags that the definition filters
+once_among : (t : List ℕ) (tags : List (Option (List ℕ)))
+    → is_tag_among t (each_once tags) ≡ nat_le 1 (tag_count t tags)
+once_among t [] = refl
+once_among t (None ∷ tags) = once_among t tags
+once_among t (Some u ∷ tags) =
+    with_among t u (each_once tags) (pointwise nat_eq t u) refl
+    ∙ ap (λ b. pointwise nat_eq t u || b) (once_among t tags)
+    ∙ one_more (pointwise nat_eq t u) (tag_count t tags)
+    ∙ ap (nat_le 1) (sym (length_if (pointwise nat_eq t u) (Some u) (filter (has_tag t) tags)))
+  where
+    one_more : (same : Bool) (count : ℕ)
+        → (same || nat_le 1 count) ≡ nat_le 1 (if same then suc count else count)
+    one_more true count = grind (arith, nat_tests)
+    one_more false count = refl
+
+once_distinct : (tags : List (Option (List ℕ))) → IsDistinct (pointwise nat_eq) (each_once tags)
+unfolding IsDistinct
+once_distinct [] = tt
+once_distinct (None ∷ tags) = once_distinct tags
+once_distinct (Some u ∷ tags) = distinct_with (each_once tags) u (once_distinct tags)
+
+module _ (tags : List (Option (List ℕ))) where
+  abbrev is_repeated : List ℕ → Bool
+  is_repeated t = nat_le 2 (tag_count t tags)
+
+  repeated_among : (t : List ℕ) → is_tag_among t (repeated_tags tags) ≡ nat_le 2 (tag_count t tags)
+  repeated_among t =
+      is_member-filter nat_list_eq_equiv is_repeated t
+      (λ u same. ap is_repeated ((bytes_eq-Decides t u).0 same)) (each_once tags)
+      ∙ ap (λ b. b && is_repeated t) (once_among t tags)
+      ∙ twice_is_once (tag_count t tags)
+    where
+      twice_is_once : (count : ℕ) → (nat_le 1 count && nat_le 2 count) ≡ nat_le 2 count
+      twice_is_once count = grind (arith, nat_tests)
+
+  -- as many tags are noted again as are repeated
+  pub again_count : length (tags_noted tags).again ≡ length (repeated_tags tags)
+  again_count =
+      length-from_same_keys nat_list_eq_equiv (tags_noted tags).again (repeated_tags tags)
+      (again_is_distinct tags)
+      (IsDistinct-filter is_repeated (pointwise nat_eq) (each_once tags) (once_distinct tags))
+      (λ t. again_is_twice tags t ∙ sym (repeated_among t))

@@ -1,6 +1,6 @@
 -- Language tags: those that are noted by reference, and the laws of components that look at them.
 use Rattle.std.specs.Prelude.{◌≡◌, ℕ, nat_eq, Bool, true, false, not, ◌||◌, List, [], ◌∷◌, ◌++◌, Option}
-use Rattle.std.specs.Prelude.{Some, None, map, length, replicate, if◌then◌else◌, Contains, fold}
+use Rattle.std.specs.Prelude.{Some, None, map, length, replicate, if◌then◌else◌, Contains}
 use Rattle.std.specs.List.{list_any}
 use Rattle.std.specs.Cmp.Lexicographic.{pointwise}
 use Rattle.std.proofs.Common.{refl, sym, ap, ◌∙◌, Bor}
@@ -17,11 +17,11 @@ use Rattle.value_components.specs.declared.language_in.LanguageIn.{LanguageIn}
 use Rattle.value_components.specs.declared.unique_lang.UniqueLang.{UniqueLang}
 use Rattle.value_components.specs.LanguageIn.{is_range_of, is_matched, is_spoken, language_in_hits}
 use Rattle.value_components.specs.Tags.{tag_in, tag_at}
-use Rattle.value_components.specs.TermTests.{is_so, is_so_at}
-use Rattle.value_components.specs.UniqueLang.{is_tag_among, with_tag, note_tag, nothing_noted}
-use Rattle.value_components.specs.UniqueLang.{unique_lang_hits}
+use Rattle.comp_core.specs.TermTests.{is_so, is_so_at}
+use Rattle.value_components.specs.UniqueLang.{is_tag_among, repeated_tags, with_tag, unique_lang_hits}
+use Rattle.value_components.specs.inner.Noted.{note_tag}
 use Rattle.value_components.specs.inner.Told.{kept}
-use Rattle.value_components.proofs.ComponentLemmas.{each_unless-agree, list_any-agree}
+use Rattle.comp_core.proofs.ResultLemmas.{each_unless-agree, list_any-agree}
 
 abbrev pub same_now : Bor (List ℕ) → Bor (List ℕ) → Bool
 same_now a b = pointwise nat_eq a.now b.now
@@ -72,7 +72,7 @@ module _ (t : Bor (List ℕ)) where
 pub unique_lang_agrees : Agreement {C = UniqueLang} (λ c. []) (λ c vs. [])
     (λ c g m at vs. unique_lang_hits g at vs) (λ c g r at vs. [])
 unique_lang_agrees c g h m n r q at vs alike same = record {
-  rows = ap (λ tags. replicate (length (fold note_tag nothing_noted tags).again)
+  rows = ap (λ tags. replicate (length (repeated_tags tags))
       (plain_row at.focus None None at.shape UNIQUE_LANG))
       (map_agree (tag_at g) (tag_at h) vs (λ v i. ap tag_in (value_kept g h [] vs [] alike v i)));
   reads = SameMembers-itself [];

@@ -10,7 +10,7 @@ use Rattle.comp_core.specs.declared.pair.At.{At}
 use Rattle.comp_core.specs.declared.row.ResultRow.{ResultRow}
 use Rattle.comp_core.specs.declared.kinds.TheConstants.{CLASS}
 use Rattle.value_components.specs.declared.class.Class.{Class}
-use Rattle.value_components.specs.Results.{each_unless}
+use Rattle.comp_core.specs.Results.{each_unless}
 
 -- an IRI or a blank node, and an instance of the class
 abbrev pub is_of_class : Graph → ℕ → ℕ → Bool

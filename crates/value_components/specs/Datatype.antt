@@ -8,8 +8,8 @@ use Rattle.comp_core.specs.declared.pair.At.{At}
 use Rattle.comp_core.specs.declared.row.ResultRow.{ResultRow}
 use Rattle.comp_core.specs.declared.kinds.TheConstants.{DATATYPE}
 use Rattle.value_components.specs.declared.datatype.Datatype.{Datatype}
-use Rattle.value_components.specs.Results.{each_unless}
-use Rattle.value_components.specs.TermTests.{are_so_at}
+use Rattle.comp_core.specs.Results.{each_unless}
+use Rattle.comp_core.specs.TermTests.{are_so_at}
 
 -- a literal of the datatype that is not ill-typed
 abbrev pub is_literal_of : List ℕ → Term → Bool

@@ -4,8 +4,8 @@ use Rattle.comp_core.specs.declared.pair.At.{At}
 use Rattle.comp_core.specs.declared.row.ResultRow.{ResultRow}
 use Rattle.comp_core.specs.declared.kinds.TheConstants.{HAS_VALUE}
 use Rattle.value_components.specs.declared.has_value.HasValue.{HasValue}
-use Rattle.value_components.specs.Results.{once_if}
-use Rattle.value_components.specs.TermTests.{is_among}
+use Rattle.comp_core.specs.Results.{once_if}
+use Rattle.comp_core.specs.TermTests.{is_among}
 
 -- one result without a value, where the value is no value node
 abbrev pub has_value_hits : HasValue → At → List ℕ → List ResultRow

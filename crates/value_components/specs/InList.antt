@@ -4,8 +4,8 @@ use Rattle.comp_core.specs.declared.pair.At.{At}
 use Rattle.comp_core.specs.declared.row.ResultRow.{ResultRow}
 use Rattle.comp_core.specs.declared.kinds.TheConstants.{IN}
 use Rattle.value_components.specs.declared.in_list.In.{In}
-use Rattle.value_components.specs.Results.{each_unless}
-use Rattle.value_components.specs.TermTests.{is_among}
+use Rattle.comp_core.specs.Results.{each_unless}
+use Rattle.comp_core.specs.TermTests.{is_among}
 
 -- a result for each value node that is no member of the list
 abbrev pub in_hits : In → At → List ℕ → List ResultRow

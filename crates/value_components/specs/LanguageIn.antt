@@ -1,4 +1,4 @@
--- sh:languageIn (SHACL, section 4.4.3).
+-- sh:languageIn (SHACL, section 4.4.4).
 use Rattle.std.specs.Prelude.{ℕ, Bool, false, List, Option, Some, None}
 use Rattle.std.specs.List.{list_any}
 use Rattle.shx_term.specs.declared.term.Term.{Term}
@@ -8,9 +8,9 @@ use Rattle.comp_core.specs.declared.pair.At.{At}
 use Rattle.comp_core.specs.declared.row.ResultRow.{ResultRow}
 use Rattle.comp_core.specs.declared.kinds.TheConstants.{LANGUAGE_IN}
 use Rattle.value_components.specs.declared.language_in.LanguageIn.{LanguageIn}
-use Rattle.value_components.specs.Results.{each_unless}
+use Rattle.comp_core.specs.Results.{each_unless}
 use Rattle.value_components.specs.Tags.{matches_range, tag_at}
-use Rattle.value_components.specs.TermTests.{is_so_at}
+use Rattle.comp_core.specs.TermTests.{is_so_at}
 
 -- the lexical form of a literal is a range that matches the tag
 abbrev pub is_range_of : List ℕ → Term → Bool

@@ -13,8 +13,8 @@ pub mod MinExclusive
 pub mod MinInclusive
 pub mod MinLength
 pub mod NodeKind
-pub mod Results
+pub mod Pattern
 pub mod Tags
-pub mod TermTests
+pub mod Texts
 pub mod UniqueLang
 pub mod inner

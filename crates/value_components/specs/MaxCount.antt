@@ -6,8 +6,8 @@ use Rattle.comp_core.specs.declared.pair.At.{At}
 use Rattle.comp_core.specs.declared.row.ResultRow.{ResultRow}
 use Rattle.comp_core.specs.declared.kinds.TheConstants.{MAX_COUNT}
 use Rattle.value_components.specs.declared.max_count.MaxCount.{MaxCount}
-use Rattle.value_components.specs.Results.{once_if}
-use Rattle.value_components.specs.TermTests.{is_so_at}
+use Rattle.comp_core.specs.Results.{once_if}
+use Rattle.comp_core.specs.TermTests.{is_so_at}
 
 -- one result without a value, where there are more value nodes than the number says
 abbrev pub max_count_hits : MaxCount → Graph → At → List ℕ → List ResultRow

@@ -6,8 +6,8 @@ use Rattle.comp_core.specs.declared.pair.At.{At}
 use Rattle.comp_core.specs.declared.row.ResultRow.{ResultRow}
 use Rattle.comp_core.specs.declared.kinds.TheConstants.{MAX_EXCLUSIVE}
 use Rattle.value_components.specs.declared.max_exclusive.MaxExclusive.{MaxExclusive}
-use Rattle.value_components.specs.Results.{each_unless}
-use Rattle.value_components.specs.TermTests.{are_so_at}
+use Rattle.comp_core.specs.Results.{each_unless}
+use Rattle.comp_core.specs.TermTests.{are_so_at}
 
 -- a result for each value node v for which `v < bound` is not true
 abbrev pub max_exclusive_hits : MaxExclusive → Graph → At → List ℕ → List ResultRow

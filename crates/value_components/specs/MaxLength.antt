@@ -9,8 +9,8 @@ use Rattle.comp_core.specs.declared.row.ResultRow.{ResultRow}
 use Rattle.comp_core.specs.declared.kinds.TheConstants.{MAX_LENGTH}
 use Rattle.value_components.specs.declared.max_length.MaxLength.{MaxLength}
 use Rattle.value_components.specs.Lengths.{has_length}
-use Rattle.value_components.specs.Results.{each_unless}
-use Rattle.value_components.specs.TermTests.{are_so_at}
+use Rattle.comp_core.specs.Results.{each_unless}
+use Rattle.comp_core.specs.TermTests.{are_so_at}
 
 -- the term has a length, and that is not more than the number
 abbrev pub is_short : Term → Term → Bool

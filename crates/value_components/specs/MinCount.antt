@@ -6,8 +6,8 @@ use Rattle.comp_core.specs.declared.pair.At.{At}
 use Rattle.comp_core.specs.declared.row.ResultRow.{ResultRow}
 use Rattle.comp_core.specs.declared.kinds.TheConstants.{MIN_COUNT}
 use Rattle.value_components.specs.declared.min_count.MinCount.{MinCount}
-use Rattle.value_components.specs.Results.{once_if}
-use Rattle.value_components.specs.TermTests.{is_so_at}
+use Rattle.comp_core.specs.Results.{once_if}
+use Rattle.comp_core.specs.TermTests.{is_so_at}
 
 -- one result without a value, where there are fewer value nodes than the number says
 abbrev pub min_count_hits : MinCount → Graph → At → List ℕ → List ResultRow

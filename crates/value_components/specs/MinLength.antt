@@ -9,8 +9,8 @@ use Rattle.comp_core.specs.declared.row.ResultRow.{ResultRow}
 use Rattle.comp_core.specs.declared.kinds.TheConstants.{MIN_LENGTH}
 use Rattle.value_components.specs.declared.min_length.MinLength.{MinLength}
 use Rattle.value_components.specs.Lengths.{has_length}
-use Rattle.value_components.specs.Results.{each_unless}
-use Rattle.value_components.specs.TermTests.{are_so_at}
+use Rattle.comp_core.specs.Results.{each_unless}
+use Rattle.comp_core.specs.TermTests.{are_so_at}
 
 -- the term has a length, and that is not fewer than the number
 abbrev pub is_long : Term → Term → Bool

@@ -10,8 +10,8 @@ use Rattle.comp_core.specs.declared.pair.At.{At}
 use Rattle.comp_core.specs.declared.row.ResultRow.{ResultRow}
 use Rattle.comp_core.specs.declared.kinds.TheConstants.{NODE_KIND}
 use Rattle.value_components.specs.declared.node_kind.NodeKind.{NodeKind}
-use Rattle.value_components.specs.Results.{each_unless}
-use Rattle.value_components.specs.TermTests.{is_among, is_so_at}
+use Rattle.comp_core.specs.Results.{each_unless}
+use Rattle.comp_core.specs.TermTests.{is_among, is_so_at}
 
 abbrev pub kinds_of : Term → List ℕ
 kinds_of (Iri iri) = SH_IRI ∷ SH_BLANK_NODE_OR_IRI ∷ SH_IRI_OR_LITERAL ∷ []

@@ -1,4 +1,5 @@
 -- What the code inside is proved by: no contract of a public function cites it.
 pub mod Bounds
 pub mod Limits
+pub mod Noted
 pub mod Told

@@ -2,8 +2,8 @@
 ghost use Rattle.std.specs.Prelude.{◌≡◌, ◌++◌, ◌<◌, length, OnOk};
 ghost use Rattle.graph_view.specs.Graph.{HasTerms};
 ghost use Rattle.graph_view.specs.Valid.{IsValidView};
-ghost use Rattle.value_components.specs.Results.{each_unless};
-ghost use Rattle.value_components.specs.TermTests.{are_so_at};
+ghost use Rattle.comp_core.specs.Results.{each_unless};
+ghost use Rattle.comp_core.specs.TermTests.{are_so_at};
 ghost use Rattle.value_components.specs.inner.Bounds.{is_within_term};
 
 use crate::condition::{Condition, check_terms};

@@ -3,9 +3,8 @@ ghost use Rattle.std.specs.Prelude.{◌≡◌, IfOk, OnOk};
 ghost use Rattle.shx_term.specs.Members.{Adds};
 ghost use Rattle.value_components.specs.Class.{is_of_class, class_reads_at};
 
-use crate::rows::add_unless;
 use comp_core::kinds::CLASS;
-use comp_core::{At, Component, Conform, Pair, ResultRow};
+use comp_core::{At, Component, Conform, Pair, ResultRow, add_unless};
 use graph_view::{GraphView, Reads};
 use path_eval::{is_instance, paths_depend_on_their_reads};
 use shx_term::{Id, Memory};

@@ -4,11 +4,10 @@ ghost use Rattle.shx_term.specs.declared.term.Term.{Term};
 ghost use Rattle.shx_term.specs.ValidTriples.{IsNotWide};
 ghost use Rattle.graph_view.specs.Graph.{HasTerms};
 ghost use Rattle.graph_view.specs.Valid.{IsValidView};
-ghost use Rattle.value_components.specs.Results.{each_unless};
-ghost use Rattle.value_components.specs.TermTests.{is_so_at};
+ghost use Rattle.comp_core.specs.Results.{each_unless};
+ghost use Rattle.comp_core.specs.TermTests.{is_so_at};
 
-use crate::rows::add_unless;
-use comp_core::{At, Kind, ResultRow};
+use comp_core::{At, Kind, ResultRow, add_unless};
 use graph_view::{GraphView, term_of};
 use shx_term::{Id, Memory, Term};
 use std::alloc::Global;

@@ -1,10 +1,9 @@
 //! sh:in (SHACL, section 4.8.3).
 ghost use Rattle.std.specs.Prelude.{◌≡◌};
-ghost use Rattle.value_components.specs.TermTests.{is_among};
+ghost use Rattle.comp_core.specs.TermTests.{is_among};
 
-use crate::rows::add_unless;
 use comp_core::kinds::IN;
-use comp_core::{At, Component, Conform, Pair, ResultRow};
+use comp_core::{At, Component, Conform, Pair, ResultRow, add_unless};
 use graph_view::{GraphView, Reads};
 use shx_term::{Id, Memory};
 use std::alloc::Global;

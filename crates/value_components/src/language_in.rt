@@ -1,15 +1,14 @@
-//! sh:languageIn (SHACL, section 4.4.3).
+//! sh:languageIn (SHACL, section 4.4.4).
 ghost use Rattle.std.specs.Prelude.{◌≡◌, ◌<◌, length};
 ghost use Rattle.std.specs.List.{list_any};
 ghost use Rattle.graph_view.specs.Graph.{HasTerms};
 ghost use Rattle.graph_view.specs.Valid.{IsValidView};
-ghost use Rattle.value_components.specs.TermTests.{is_so_at};
+ghost use Rattle.comp_core.specs.TermTests.{is_so_at};
 ghost use Rattle.value_components.specs.LanguageIn.{is_spoken, is_range_of};
 
-use crate::rows::add_unless;
 use crate::tags::{matches_range, tag_of};
 use comp_core::kinds::LANGUAGE_IN;
-use comp_core::{At, Component, Conform, Pair, ResultRow};
+use comp_core::{At, Component, Conform, Pair, ResultRow, add_unless};
 use graph_view::{GraphView, Reads, term_of};
 use shx_term::{Id, Memory, Term, Text};
 use std::alloc::Global;

@@ -4,11 +4,12 @@ ghost use Rattle.std.specs.Str.{chars};
 ghost use Rattle.graph_view.specs.Graph.{HasTerms};
 ghost use Rattle.graph_view.specs.Valid.{IsValidView};
 ghost use Rattle.value_space.specs.Compared.{read_as};
-ghost use Rattle.value_components.specs.Results.{each_unless};
-ghost use Rattle.value_components.specs.TermTests.{are_so_at};
+ghost use Rattle.comp_core.specs.Results.{each_unless};
+ghost use Rattle.comp_core.specs.TermTests.{are_so_at};
 ghost use Rattle.value_components.specs.inner.Limits.{is_kept, is_kept_by};
 
 use crate::condition::{Condition, check_terms};
+use crate::texts::text_of;
 use comp_core::{At, Kind, ResultRow};
 use graph_view::{GraphView, term_of};
 use shx_term::{Id, Memory, Term};
@@ -53,10 +54,9 @@ impl Condition for LengthBound<'_> {
     ghost holds_of = { λ b t. has_length (is_kept b.limit (read_as b.read)) t };
 
     fn holds(&self, term: &Term) -> bool {
-        match term {
-            Term::Iri(iri) => self.allows(iri.as_str()),
-            Term::Blank(_) => false,
-            Term::Lit(literal) => self.allows(literal.lexical.as_str()),
+        match text_of(term) {
+            Some(text) => self.allows(text),
+            None => false,
         }
     }
 }

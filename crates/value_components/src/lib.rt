@@ -1,5 +1,5 @@
 //! The components of SHACL Core that judge value nodes by themselves (SHACL, sections 4.1 to 4.4, 4.8.2 and
-//! 4.8.3), but for sh:pattern.
+//! 4.8.3).
 //!
 //! | file | what it holds |
 //! |---|---|
@@ -10,18 +10,18 @@
 //! | `min_exclusive.rt`, `min_inclusive.rt` | `MinExclusive`, `MinInclusive` |
 //! | `max_exclusive.rt`, `max_inclusive.rt` | `MaxExclusive`, `MaxInclusive` |
 //! | `min_length.rt`, `max_length.rt` | `MinLength`, `MaxLength` |
+//! | `pattern.rt` | `Pattern`: sh:pattern with sh:flags |
 //! | `language_in.rt` | `LanguageIn`: sh:languageIn |
 //! | `unique_lang.rt` | `UniqueLang`: sh:uniqueLang |
 //! | `has_value.rt`, `in_list.rt` | `HasValue`, `In` |
 //! | `condition.rt` | what a component asks of the terms of value nodes, and the one loop over these |
 //! | `bounds.rt`, `lengths.rt` | what the bounds share, and the lengths |
+//! | `texts.rt` | the text of a term |
 //! | `tags.rt` | language tags and ranges |
-//! | `rows.rt` | results |
-//! | `laws.rt` | which tags are noted |
 //!
 //! It stands on `comp_core` for what a component is, on `value_space` for the order of values and for
-//! counts, and on `path_eval` for instances. Start with `has_value.rt` and `min_exclusive.rt`; `specs/` has
-//! a file for each component, which says its results.
+//! counts, on `path_eval` for instances, and on `shx_outside` for patterns. Start with `has_value.rt` and
+//! `min_exclusive.rt`; `specs/` has a file for each component, which says its results.
 #![tactic(auto)]
 
 mod bounds;
@@ -31,7 +31,6 @@ mod datatype;
 mod has_value;
 mod in_list;
 mod language_in;
-mod laws;
 mod lengths;
 mod max_count;
 mod max_exclusive;
@@ -42,8 +41,9 @@ mod min_exclusive;
 mod min_inclusive;
 mod min_length;
 mod node_kind;
-mod rows;
+mod pattern;
 mod tags;
+mod texts;
 mod unique_lang;
 
 pub use class::Class;
@@ -51,7 +51,6 @@ pub use datatype::Datatype;
 pub use has_value::HasValue;
 pub use in_list::In;
 pub use language_in::LanguageIn;
-pub use laws::repeated_tags_are_noted;
 pub use max_count::MaxCount;
 pub use max_exclusive::MaxExclusive;
 pub use max_inclusive::MaxInclusive;
@@ -61,4 +60,5 @@ pub use min_exclusive::MinExclusive;
 pub use min_inclusive::MinInclusive;
 pub use min_length::MinLength;
 pub use node_kind::NodeKind;
+pub use pattern::Pattern;
 pub use unique_lang::UniqueLang;

@@ -1,9 +1,8 @@
 //! sh:maxCount (SHACL, section 4.2.2).
 ghost use Rattle.std.specs.Prelude.{◌≡◌};
 
-use crate::rows::add_once_if;
 use comp_core::kinds::MAX_COUNT;
-use comp_core::{At, Component, Conform, Pair, ResultRow};
+use comp_core::{At, Component, Conform, Pair, ResultRow, add_once_if};
 use graph_view::{GraphView, Reads, term_of};
 use shx_term::{Id, Memory};
 use std::alloc::Global;

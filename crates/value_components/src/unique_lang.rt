@@ -1,14 +1,15 @@
 //! sh:uniqueLang (SHACL, section 4.4.5).
-ghost use Rattle.std.specs.Prelude.{◌≡◌, length, IfOk, OnOk};
+ghost use Rattle.std.specs.Prelude.{◌≡◌, length, map, IfOk, OnOk};
 ghost use Rattle.graph_view.specs.Graph.{HasTerms};
 ghost use Rattle.graph_view.specs.Valid.{IsValidView};
-ghost use Rattle.value_components.specs.UniqueLang.{note_tag, tags_noted};
+ghost use Rattle.value_components.specs.Tags.{tag_at};
+ghost use Rattle.value_components.specs.UniqueLang.{repeated_tags};
+ghost use Rattle.value_components.specs.inner.Noted.{note_tag};
 ghost use Rattle.value_components.specs.inner.Told.{told, kept};
 
-use crate::rows::add_once_if;
 use crate::tags::tag_of;
 use comp_core::kinds::UNIQUE_LANG;
-use comp_core::{At, Component, Conform, Pair, ResultRow};
+use comp_core::{At, Component, Conform, Pair, ResultRow, add_once_if};
 use graph_view::{GraphView, Reads, term_of};
 use indexmap::IndexSet;
 use shx_term::{Id, Memory, Text};
@@ -51,7 +52,8 @@ fn note_tag<'a>(
 fn repeated<V: GraphView>(alloc: Global, view: &V, values: &[Id]) -> Result<usize, Memory>
     requires valid { IsValidView (V.graph view.now) }
     requires values { HasTerms (V.graph view.now) values.now }
-    ensures { IfOk result (λ n. n ≡ length (tags_noted (V.graph view.now) values.now).again) }
+    ensures { IfOk result (λ n. n
+        ≡ length (repeated_tags (map (tag_at (V.graph view.now)) values.now))) }
 {
     let mut seen: IndexSet<&Text> = IndexSet::new(alloc);
     let mut again: IndexSet<&Text> = IndexSet::new(alloc);

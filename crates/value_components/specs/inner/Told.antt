@@ -1,7 +1,7 @@
 -- Tags that were borrowed.
 use Rattle.std.specs.Prelude.{ℕ, List, Option, Some, None, map}
 use Rattle.std.proofs.Common.{Bor}
-use Rattle.value_components.specs.UniqueLang.{Noted}
+use Rattle.value_components.specs.inner.Noted.{Noted}
 
 abbrev pub told : Option (Bor (List ℕ)) → Option (List ℕ)
 told None = None

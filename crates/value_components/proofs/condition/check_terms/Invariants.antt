@@ -1,7 +1,7 @@
 use Rattle.std.proofs.Common.{◌≡◌, ◌++◌}
 use Rattle.std.specs.Prelude.{take}
-use Rattle.value_components.specs.Results.{each_unless}
-use Rattle.value_components.specs.TermTests.{is_so_at}
+use Rattle.comp_core.specs.Results.{each_unless}
+use Rattle.comp_core.specs.TermTests.{is_so_at}
 use Rattle.value_components.proofs.condition.check_terms.Given as goal
 
 abbrev pub invariant-loop-v : goal.invariant-loop-v

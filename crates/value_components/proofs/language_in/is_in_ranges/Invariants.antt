@@ -2,7 +2,7 @@ use Rattle.std.proofs.Common.{◌≡◌}
 use Rattle.std.specs.Prelude.{false, take}
 use Rattle.std.specs.List.{list_any}
 use Rattle.value_components.specs.LanguageIn.{is_range_of}
-use Rattle.value_components.specs.TermTests.{is_so_at}
+use Rattle.comp_core.specs.TermTests.{is_so_at}
 use Rattle.value_components.proofs.language_in.is_in_ranges.Given as goal
 
 -- none of the ranges before matches

@@ -8,9 +8,9 @@ use Rattle.graph_view.specs.Graph.{Graph}
 abbrev pub is_among : ℕ → List ℕ → Bool
 is_among id ids = list_any (λ other. other == id) ids
 
-abbrev pub is_so : (Term → Bool) → Option Term → Bool
+abbrev pub is_so : {X : Type 0} → (X → Bool) → Option X → Bool
 is_so test None = false
-is_so test (Some t) = test t
+is_so test (Some x) = test x
 
 abbrev pub are_so : (Term → Term → Bool) → Option Term → Option Term → Bool
 are_so test None u = false

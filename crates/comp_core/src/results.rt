@@ -1,13 +1,13 @@
-//! Results as components give them.
+//! Results as components give them (SHACL, section 3.6.2).
 ghost use Rattle.std.specs.Prelude.{◌≡◌, ◌++◌, OnOk};
-ghost use Rattle.value_components.specs.Results.{once_if, unless};
+ghost use Rattle.comp_core.specs.Results.{once_if, unless};
 
-use comp_core::{At, Kind, ResultRow};
+use crate::{At, Kind, ResultRow};
 use shx_term::{Id, Memory};
 use std::alloc::Global;
 
 /// Appends one result without a value, where it is so.
-pub(crate) fn add_once_if(
+pub fn add_once_if(
     alloc: Global,
     is_so: bool,
     kind: Kind,
@@ -23,7 +23,7 @@ pub(crate) fn add_once_if(
 }
 
 /// Appends a result at a value node, unless the node is as it should be.
-pub(crate) fn add_unless(
+pub fn add_unless(
     alloc: Global,
     is_fine: bool,
     kind: Kind,

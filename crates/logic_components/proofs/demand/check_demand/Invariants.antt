@@ -1,0 +1,17 @@
+use Rattle.std.proofs.Common.{◌≡◌, ◌++◌}
+use Rattle.std.specs.Prelude.{take}
+use Rattle.shx_term.specs.Members.{Adds}
+use Rattle.comp_core.specs.Asking.{asked_keys}
+use Rattle.comp_core.specs.Results.{each_unless}
+use Rattle.logic_components.specs.inner.Demands.{is_met_at}
+use Rattle.logic_components.proofs.demand.check_demand.Given as goal
+
+abbrev pub invariant-loop-v : goal.invariant-loop-v
+invariant-loop-v g l = record {
+  rows : l.out.items
+      ≡ l.fn.out.items
+      ++ each_unless (is_met_at l.demand (g.C.Conform.rows_of l.conform) l.shapes) l.kind l.at
+      (take l.v-index l.values);
+  reads : Adds l.fn.reads l.reads
+      (asked_keys (g.C.Conform.reads_of l.conform) l.shapes (take l.v-index l.values));
+}

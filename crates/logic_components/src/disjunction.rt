@@ -1,0 +1,79 @@
+//! sh:or (SHACL, section 4.6.3).
+ghost use Rattle.std.specs.Prelude.{◌≡◌};
+
+use crate::demand::{Demand, check_demand};
+use comp_core::kinds::OR;
+use comp_core::{At, Component, Conform, Pair, ResultRow, ShapeNo, ask_shapes};
+use graph_view::{GraphView, Reads};
+use shx_term::{Id, Memory};
+use std::alloc::Global;
+
+/// Each value node conforms to one of the shapes at least.
+pub struct Or {
+    /// The head of the list.
+    pub value: Id,
+    /// The numbers of its members, in order.
+    pub shapes: Vec<ShapeNo>,
+}
+
+impl Drop for Or {
+    fn drop(self) {
+        let Or {
+            value: _value,
+            shapes: _shapes,
+        } = self;
+    }
+}
+
+impl Or {
+    /// The component with its list and the members of that. It takes no memory.
+    pub fn new(value: Id, shapes: Vec<ShapeNo>) -> Or
+        ensures value { result.value ≡ value }
+        ensures shapes { result.shapes ≡ shapes }
+    {
+        Or { value, shapes }
+    }
+}
+
+impl Component for Or {
+    ghost use Rattle.std.specs.Prelude.{[]};
+    ghost use Rattle.comp_core.specs.Asking.{asked_keys, pairs_asked};
+    ghost use Rattle.logic_components.specs.Or.{or_hits};
+
+    ghost numbers_of = { λ c. [] };
+
+    ghost asks_of = { λ c vs. pairs_asked c.shapes.items vs };
+
+    ghost hits_of = { λ c g m at vs. or_hits c m at vs };
+
+    ghost reads_of = { λ c g r at vs. asked_keys r c.shapes.items vs };
+
+    fn asks(&self, values: &[Id], out: &mut Vec<Pair>) -> Result<(), Memory> {
+        ask_shapes(&self.shapes, values, out)
+    }
+
+    fn check<V: GraphView, C: Conform>(
+        &self,
+        alloc: Global,
+        _view: &V,
+        conform: &C,
+        at: At,
+        values: &[Id],
+        reads: &mut Reads,
+        out: &mut Vec<ResultRow>,
+    ) -> Result<(), Memory> {
+        check_demand(
+            alloc,
+            conform,
+            Demand::Some,
+            &self.shapes,
+            OR,
+            at,
+            values,
+            reads,
+            out,
+        )
+    }
+
+    fn laws() {}
+}

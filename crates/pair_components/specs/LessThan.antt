@@ -1,0 +1,15 @@
+-- sh:lessThan (SHACL, section 4.5.3).
+use Rattle.std.specs.Prelude.{ℕ, List}
+use Rattle.graph_view.specs.Graph.{Graph, objects_of}
+use Rattle.value_space.specs.Compared.{is_less_term}
+use Rattle.comp_core.specs.declared.pair.At.{At}
+use Rattle.comp_core.specs.declared.row.ResultRow.{ResultRow}
+use Rattle.comp_core.specs.declared.kinds.TheConstants.{LESS_THAN}
+use Rattle.comp_core.specs.TermTests.{are_so_at}
+use Rattle.pair_components.specs.declared.less_than.LessThan.{LessThan}
+use Rattle.pair_components.specs.PairResults.{each_pair_unless}
+
+-- a result for each value node v and each object w of the predicate for which `v < w` is not true
+abbrev pub less_than_hits : LessThan → Graph → At → List ℕ → List ResultRow
+less_than_hits c g at vs =
+    each_pair_unless (are_so_at is_less_term g) LESS_THAN at (objects_of g at.focus c.value) vs

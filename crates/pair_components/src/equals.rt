@@ -1,0 +1,63 @@
+//! sh:equals (SHACL, section 4.5.1).
+ghost use Rattle.std.specs.Prelude.{◌≡◌};
+
+use crate::members::check_members;
+use comp_core::kinds::EQUALS;
+use comp_core::{At, Component, Conform, Pair, ResultRow};
+use graph_view::{GraphView, Reads, look_ups_agree};
+use shx_term::{Id, Memory};
+use std::alloc::Global;
+
+/// The value nodes are the objects of the predicate.
+#[derive(Drop)]
+pub struct Equals {
+    /// The predicate.
+    pub value: Id,
+}
+
+impl Equals {
+    /// The component with its parameter. It takes no memory.
+    pub fn new(value: Id) -> Equals
+        ensures { result.value ≡ value }
+    {
+        Equals { value }
+    }
+}
+
+impl Component for Equals {
+    ghost use Rattle.std.specs.Prelude.{[], ◌∷◌};
+    ghost use Rattle.graph_view.specs.declared.key.Key.TheVariants.{Out};
+    ghost use Rattle.pair_components.specs.Equals.{equals_hits};
+
+    ghost numbers_of = { λ c. [] };
+
+    ghost asks_of = { λ c vs. [] };
+
+    ghost hits_of = { λ c g m at vs. equals_hits c g at vs };
+
+    ghost reads_of = { λ c g r at vs. Out at.focus c.value ∷ [] };
+
+    fn asks(&self, _values: &[Id], _out: &mut Vec<Pair>) -> Result<(), Memory> {
+        Ok(())
+    }
+
+    fn check<V: GraphView, C: Conform>(
+        &self,
+        alloc: Global,
+        view: &V,
+        _conform: &C,
+        at: At,
+        values: &[Id],
+        reads: &mut Reads,
+        out: &mut Vec<ResultRow>,
+    ) -> Result<(), Memory> {
+        let objects = view.objects(alloc, at.focus, self.value, reads)?;
+        check_members(alloc, &objects, true, EQUALS, at, values, out)?;
+        check_members(alloc, values, true, EQUALS, at, &objects, out)?;
+        Ok(())
+    }
+
+    fn laws() {
+        look_ups_agree();
+    }
+}

@@ -1,0 +1,71 @@
+//! sh:lessThan (SHACL, section 4.5.3).
+ghost use Rattle.std.specs.Prelude.{◌≡◌};
+
+use crate::orders::{Order, check_order};
+use comp_core::kinds::LESS_THAN;
+use comp_core::{At, Component, Conform, Pair, ResultRow};
+use graph_view::{GraphView, Reads, look_ups_agree};
+use shx_term::{Id, Memory};
+use std::alloc::Global;
+
+/// Each value node is less than each object of the predicate.
+#[derive(Drop)]
+pub struct LessThan {
+    /// The predicate.
+    pub value: Id,
+}
+
+impl LessThan {
+    /// The component with its parameter. It takes no memory.
+    pub fn new(value: Id) -> LessThan
+        ensures { result.value ≡ value }
+    {
+        LessThan { value }
+    }
+}
+
+impl Component for LessThan {
+    ghost use Rattle.std.specs.Prelude.{[], ◌∷◌};
+    ghost use Rattle.graph_view.specs.declared.key.Key.TheVariants.{Out};
+    ghost use Rattle.pair_components.specs.LessThan.{less_than_hits};
+
+    ghost numbers_of = { λ c. [] };
+
+    ghost asks_of = { λ c vs. [] };
+
+    ghost hits_of = { λ c g m at vs. less_than_hits c g at vs };
+
+    ghost reads_of = { λ c g r at vs. Out at.focus c.value ∷ [] };
+
+    fn asks(&self, _values: &[Id], _out: &mut Vec<Pair>) -> Result<(), Memory> {
+        Ok(())
+    }
+
+    fn check<V: GraphView, C: Conform>(
+        &self,
+        alloc: Global,
+        view: &V,
+        _conform: &C,
+        at: At,
+        values: &[Id],
+        reads: &mut Reads,
+        out: &mut Vec<ResultRow>,
+    ) -> Result<(), Memory> {
+        let objects = view.objects(alloc, at.focus, self.value, reads)?;
+        check_order(
+            alloc,
+            view,
+            Order::Less,
+            &objects,
+            LESS_THAN,
+            at,
+            values,
+            out,
+        )?;
+        Ok(())
+    }
+
+    fn laws() {
+        look_ups_agree();
+    }
+}

@@ -1,0 +1,4 @@
+pub mod Closed
+pub mod Qualified
+pub mod QualifiedMaxCount
+pub mod QualifiedMinCount

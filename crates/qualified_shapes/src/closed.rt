@@ -1,0 +1,80 @@
+//! sh:closed with sh:ignoredProperties (SHACL, section 4.8.1).
+ghost use Rattle.std.specs.Prelude.{◌≡◌};
+
+use crate::triples::check_closed;
+use comp_core::{At, Component, Conform, Lookup, Pair, ResultRow};
+use graph_view::{GraphView, Reads, look_ups_agree};
+use shx_term::{Id, Memory};
+use std::alloc::Global;
+
+/// The value nodes have no predicates but those that are permitted or ignored.
+pub struct Closed {
+    /// The literal `true`.
+    pub value: Id,
+    /// The paths of the property shapes that are IRIs.
+    pub permitted: Vec<Id>,
+    /// The predicates that are ignored.
+    pub ignored: Vec<Id>,
+}
+
+impl Drop for Closed {
+    fn drop(self) {
+        let Closed {
+            value: _value,
+            permitted: _permitted,
+            ignored: _ignored,
+        } = self;
+    }
+}
+
+impl Closed {
+    /// The component with its parameters. It takes no memory.
+    pub fn new(value: Id, permitted: Vec<Id>, ignored: Vec<Id>) -> Closed
+        ensures value { result.value ≡ value }
+        ensures permitted { result.permitted ≡ permitted }
+        ensures ignored { result.ignored ≡ ignored }
+    {
+        Closed {
+            value,
+            permitted,
+            ignored,
+        }
+    }
+}
+
+impl Component for Closed {
+    ghost use Rattle.std.specs.Prelude.{[]};
+    ghost use Rattle.qualified_shapes.specs.Closed.{closed_hits, closed_reads};
+
+    ghost numbers_of = { λ c. [] };
+
+    ghost asks_of = { λ c vs. [] };
+
+    ghost hits_of = { λ c g m at vs. closed_hits c g at vs };
+
+    ghost reads_of = { λ c g r at vs. closed_reads vs };
+
+    fn asks(&self, _values: &[Id], _out: &mut Vec<Pair>) -> Result<(), Memory> {
+        Ok(())
+    }
+
+    fn check<V: GraphView, C: Conform>(
+        &self,
+        alloc: Global,
+        view: &V,
+        _conform: &C,
+        at: At,
+        values: &[Id],
+        reads: &mut Reads,
+        out: &mut Vec<ResultRow>,
+    ) -> Result<(), Memory> {
+        let permitted = Lookup::new(alloc, &self.permitted)?;
+        let ignored = Lookup::new(alloc, &self.ignored)?;
+        check_closed(alloc, view, &permitted, &ignored, at, values, reads, out)?;
+        Ok(())
+    }
+
+    fn laws() {
+        look_ups_agree();
+    }
+}

@@ -1,0 +1,81 @@
+//! sh:qualifiedMaxCount with sh:qualifiedValueShape (SHACL, section 4.7.3).
+ghost use Rattle.std.specs.Prelude.{◌≡◌};
+
+use crate::qualified::{ask_qualified, qualified_count};
+use comp_core::kinds::QUALIFIED_MAX_COUNT;
+use comp_core::{At, Component, Conform, Pair, ResultRow, ShapeNo, add_once_if};
+use graph_view::{GraphView, Reads, term_of};
+use shx_term::{Id, Memory};
+use std::alloc::Global;
+use value_space::is_more;
+
+/// As many value nodes as the number says, or fewer, conform to the shape and to none of its siblings.
+pub struct QualifiedMaxCount {
+    /// The number.
+    pub value: Id,
+    /// The number of the shape.
+    pub shape: ShapeNo,
+    /// The numbers of its siblings.
+    pub siblings: Vec<ShapeNo>,
+}
+
+impl Drop for QualifiedMaxCount {
+    fn drop(self) {
+        let QualifiedMaxCount {
+            value: _value,
+            shape: _shape,
+            siblings: _siblings,
+        } = self;
+    }
+}
+
+impl QualifiedMaxCount {
+    /// The component with its parameters. It takes no memory.
+    pub fn new(value: Id, shape: ShapeNo, siblings: Vec<ShapeNo>) -> QualifiedMaxCount
+        ensures value { result.value ≡ value }
+        ensures shape { result.shape ≡ shape }
+        ensures siblings { result.siblings ≡ siblings }
+    {
+        QualifiedMaxCount {
+            value,
+            shape,
+            siblings,
+        }
+    }
+}
+
+impl Component for QualifiedMaxCount {
+    ghost use Rattle.std.specs.Prelude.{[], ◌∷◌};
+    ghost use Rattle.comp_core.specs.Asking.{asked_keys, pairs_asked};
+    ghost use Rattle.qualified_shapes.specs.QualifiedMaxCount.{qualified_max_count_hits};
+
+    ghost numbers_of = { λ c. c.value ∷ [] };
+
+    ghost asks_of = { λ c vs. pairs_asked (c.shape ∷ c.siblings.items) vs };
+
+    ghost hits_of = { λ c g m at vs. qualified_max_count_hits c g m at vs };
+
+    ghost reads_of = { λ c g r at vs. asked_keys r (c.shape ∷ c.siblings.items) vs };
+
+    fn asks(&self, values: &[Id], out: &mut Vec<Pair>) -> Result<(), Memory> {
+        ask_qualified(self.shape, &self.siblings, values, out)
+    }
+
+    fn check<V: GraphView, C: Conform>(
+        &self,
+        alloc: Global,
+        view: &V,
+        conform: &C,
+        at: At,
+        values: &[Id],
+        reads: &mut Reads,
+        out: &mut Vec<ResultRow>,
+    ) -> Result<(), Memory> {
+        let count = qualified_count(conform, self.shape, &self.siblings, values, reads)?;
+        let is_result = is_more(count, term_of(view, self.value));
+        add_once_if(alloc, is_result, QUALIFIED_MAX_COUNT, at, out)?;
+        Ok(())
+    }
+
+    fn laws() {}
+}

@@ -1,8 +1,10 @@
 mod answers;
+mod asked;
 mod components;
-mod due;
 mod named;
+mod params;
+mod patterns;
 mod question;
 mod row;
 mod rows;
-mod valid;
+mod told;

@@ -6,14 +6,15 @@
 //! | `tests/keys.rt` | which keys a triple touches, and sets of keys |
 //! | `tests/questions.rt` | what is looked up in a graph, and whether two graphs are the same |
 //! | `tests/steps.rt` | a step that changes a graph, or asks it, with its answer |
+//! | `tests/cuts.rt` | a step that takes terms out of the pool |
 //! | `tests/edits.rt` | graphs that go through the steps of `tests/edits/rows.rt` |
-//! | `tests/guarded.rt` | a graph that may be asked one key alone |
 //! | `tests/changes.rt` | changes of `tests/changes/rows.rt`, looked through and made |
 //! | `tests/graphs.rt` | what the plain graph alone has |
 //! | `tests/many.rt` | many edits of one store, in time |
 //!
-//! It stands on `graph_view`, `triple_store`, `shx_term` and `row_tools`. Start with `tests/letters.rt`. A
-//! table is a text, and a test asks for the first row that is met otherwise.
+//! It stands on `graph_view`, `triple_store` and `shx_term`, on `due_view` for what is read, and on
+//! `row_tools`. Start with `tests/letters.rt`. A table is a text, and a test asks for the first row that is
+//! met otherwise.
 #![tactic(auto)]
 
 #[cfg(test)]

@@ -1,7 +1,7 @@
 mod changes;
+mod cuts;
 mod edits;
 mod graphs;
-mod guarded;
 mod keys;
 mod letters;
 mod many;

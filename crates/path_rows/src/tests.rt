@@ -1,5 +1,4 @@
 mod cells;
-mod due;
 mod graphs;
 mod instances;
 mod paths;

@@ -19,8 +19,8 @@
 //! | `tests/failures.rt` | each call of the inputs and each put fails in turn |
 //! | `tests/order.rt` | when texts are opened, read and answered, which no contract says |
 //!
-//! It stands on `shacl_run`, and on `shx_outside` and `shx_term` for the forms in memory and the limits.
-//! Start with `tests/case.rt` and `tests/rows.rt`.
+//! It stands on `shacl_run`, on `shx_outside` and `shx_term` for the forms in memory and the limits, and on
+//! `row_tools`. Start with `tests/case.rt` and `tests/rows.rt`.
 #![tactic(auto)]
 
 #[cfg(test)]

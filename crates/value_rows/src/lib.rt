@@ -2,12 +2,12 @@
 //!
 //! | file | what it holds |
 //! |---|---|
-//! | `tests/made.rt` | the terms and the parts of a row |
+//! | `tests/made.rt` | the terms of a row |
 //! | `tests/literals.rt` | values of literals and their order, by the tables beside it |
 //! | `tests/terms.rt` | which terms are less than which, and counts against terms, by the tables beside it |
 //!
-//! It stands on `value_space` and `shx_term`. A table is a text of lines, and a test asks for the first line
-//! that is met otherwise.
+//! It stands on `value_space`, `shx_term` and `row_tools`. A table is a text of lines, and a test asks for
+//! the first line that is met otherwise.
 #![tactic(auto)]
 
 #[cfg(test)]

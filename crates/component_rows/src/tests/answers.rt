@@ -1,98 +1,96 @@
-ghost use Rattle.std.specs.Prelude.{◌≡◌, []};
+ghost use Rattle.std.specs.Prelude.{All, IsTrue};
+ghost use Rattle.comp_core.specs.Table.{has_pair};
 ghost use Rattle.graph_view.specs.Graph.{HasTerms};
-ghost use Rattle.graph_view.specs.ListGraph.{plain_graph};
 ghost use Rattle.graph_view.specs.Valid.{IsValidView};
 
-use super::due::Due;
-use super::question::Question;
-use comp_core::{AnswerTable, At, Component, Kind, ResultRow};
-use graph_view::Reads;
+use super::asked::Asked;
+use super::question::Due;
+use super::told::are_told;
+use comp_core::kinds::{NODE_KIND, PROPERTY};
+use comp_core::{At, Component, Kind, ResultRow, ShapeNo};
+use graph_view::{GraphView, Reads};
 use row_tools::RowFault;
 use shx_term::Id;
 use shx_term::vocabulary::SH_NODE_SHAPE;
 use std::alloc::Global;
 
-// The focus node is none of the value nodes.
+/// The focus node, which is none of the value nodes.
+pub(super) const FOCUS: Id = SH_NODE_SHAPE;
+
 const AT: At = At {
-    focus: SH_NODE_SHAPE,
-    shape: 3,
+    focus: FOCUS,
+    shape: 30,
 };
 
-fn is_due(row: &ResultRow, kind: Kind, value: Option<Id>) -> bool {
-    row.focus == AT.focus
-        && row.shape == AT.shape
-        && row.kind == kind
-        && row.value == value
+// The shape whose results sh:property gives.
+const NAMED: ShapeNo = 1;
+
+// A result of a value node at the named shape, as it is.
+fn is_passed_on(row: &ResultRow, due: &Due) -> bool {
+    Some(row.focus) == due.value
+        && row.shape == NAMED
+        && row.kind == NODE_KIND
+        && row.value.is_none()
         && row.predicate.is_none()
 }
 
-fn are_due(rows: &[ResultRow], kind: Kind, values: &[Option<Id>]) -> bool {
-    rows.len() == values.len()
+fn is_due(row: &ResultRow, kind: Kind, due: &Due) -> bool {
+    if kind == PROPERTY {
+        return is_passed_on(row, due);
+    }
+    row.focus == AT.focus
+        && row.shape == AT.shape
+        && row.kind == kind
+        && row.value == due.value
+        && row.predicate == due.predicate
+}
+
+fn are_due(rows: &[ResultRow], kind: Kind, due: &[Due]) -> bool {
+    rows.len() == due.len()
         && rows
             .iter()
-            .zip(values)
-            .all(|(row, value)| is_due(row, kind, *value))
+            .zip(due)
+            .all(|(row, due)| is_due(row, kind, due))
 }
 
-fn are_same_keys(reads: &Reads, keys: &Reads) -> bool {
-    for key in keys.keys() {
-        if !reads.has(key) {
-            return false;
+impl<'a, V: GraphView> Asked<'a, V> {
+    // Whether a component finds what is due. Where it wants memory for a look-up that is not due, it finds
+    // nothing.
+    fn finds<C: Component>(
+        &self,
+        alloc: Global,
+        component: &C,
+        kind: Kind,
+        reads: &mut Reads,
+    ) -> bool
+        requires valid { IsValidView (V.graph self.now.view.now) }
+        requires numbers { HasTerms (V.graph self.now.view.now) (C.numbers_of component.now) }
+        requires held { All (λ p. IsTrue (has_pair self.now.told.now.answers.items p))
+            (C.asks_of component.now self.now.question.now.nodes.items) }
+    {
+        let nodes = &self.question.nodes;
+        let mut rows = Vec::new(alloc);
+        match component.check(alloc, self.view, self.told, AT, nodes, reads, &mut rows) {
+            Ok(()) => are_due(&rows, kind, &self.question.due),
+            Err(_) => false,
         }
     }
-    reads.len() == keys.len()
-}
 
-fn asks_nothing<C: Component>(
-    alloc: Global,
-    component: &C,
-    nodes: &[Id],
-) -> Result<bool, RowFault> {
-    C::laws();
-    let mut asked = Vec::new(alloc);
-    component.asks(nodes, &mut asked)?;
-    Ok(asked.is_empty())
-}
-
-// Whether a component that asks nothing finds what is due, and reads the keys that are due. It may look up no
-// others: what it does not find for want of memory is not as due.
-fn finds<C: Component>(
-    alloc: Global,
-    component: &C,
-    kind: Kind,
-    question: &Question,
-    view: &Due,
-) -> bool
-    requires valid { IsValidView (plain_graph view.now.base.now) }
-    requires numbers { HasTerms (plain_graph view.now.base.now) (C.numbers_of component.now) }
-    requires nodes { HasTerms (plain_graph view.now.base.now) question.now.nodes.items }
-    requires asks_nothing { C.asks_of component.now question.now.nodes.items ≡ [] }
-{
-    let told = AnswerTable {
-        answers: Vec::new(alloc),
-    };
-    let nodes = &question.nodes;
-    let mut reads = Reads::new(alloc);
-    let mut rows = Vec::new(alloc);
-    match component.check(alloc, view, &told, AT, nodes, &mut reads, &mut rows) {
-        Ok(()) => are_due(&rows, kind, &question.due) && are_same_keys(&reads, view.keys),
-        Err(_) => false,
+    /// Whether a component asks no more than is told and finds the results that are due. What it reads is
+    /// noted.
+    pub(super) fn answers<C: Component>(
+        &self,
+        alloc: Global,
+        component: &C,
+        kind: Kind,
+        reads: &mut Reads,
+    ) -> Result<bool, RowFault>
+        requires valid { IsValidView (V.graph self.now.view.now) }
+        requires numbers { HasTerms (V.graph self.now.view.now) (C.numbers_of component.now) }
+    {
+        C::laws();
+        let mut asked = Vec::new(alloc);
+        component.asks(&self.question.nodes, &mut asked)?;
+        Ok(are_told(self.told, &asked) && self.finds(alloc, component, kind, reads))
     }
-}
-
-/// Whether a component answers a question as is due: with its results, all of its kind, and what it reads.
-pub(super) fn answers<C: Component>(
-    alloc: Global,
-    component: &C,
-    kind: Kind,
-    question: &Question,
-    view: &Due,
-) -> Result<bool, RowFault>
-    requires valid { IsValidView (plain_graph view.now.base.now) }
-    requires numbers { HasTerms (plain_graph view.now.base.now) (C.numbers_of component.now) }
-    requires nodes { HasTerms (plain_graph view.now.base.now) question.now.nodes.items }
-    requires asks_nothing { C.asks_of component.now question.now.nodes.items ≡ [] }
-{
-    let is_alone = asks_nothing(alloc, component, &question.nodes)?;
-    Ok(is_alone && finds(alloc, component, kind, question, view))
 }

@@ -1,40 +1,54 @@
-use super::due::Due;
+use super::asked::Asked;
 use super::named::is_answered;
-use super::question::{Question, all_entered, graph_of, keys_of, question_of};
+use super::params::{Params, params_of};
+use super::question::{Question, graph_of, keys_of, question_of};
 use super::row::{Row, row_of};
-use super::rows::{counts, lists, ranges, strings, types, wrong};
-use super::valid::{are_known, is_known, is_valid};
+use super::rows::{
+    closed, counts, lists, logic, pairs, qualified, ranges, strings, types, worked, wrong,
+};
+use super::told::{conforming_of, table_of};
+use comp_core::AnswerTable;
+use due_view::{DueView, are_known, is_known, is_valid};
 use graph_view::{ListGraph, Reads};
 use row_tools::{RowFault, first_other};
-use shx_term::Id;
 use std::alloc::Global;
 use std::test::Fail;
 
-// Whether the component of a name answers over a valid graph as is due. It may look up these keys alone.
+// Whether the component of a row answers over a valid graph as is due. It may look up these keys alone.
 fn is_met(
     alloc: Global,
     name: &str,
     question: &Question,
-    members: Vec<Id>,
+    params: Params,
+    told: &AnswerTable,
     graph: &ListGraph,
     keys: &Reads,
 ) -> Result<bool, RowFault> {
     if !is_valid(graph) || !is_known(graph, question.value) {
         return Err(RowFault::Unread);
     }
-    if !are_known(graph, &members) || !are_known(graph, &question.nodes) {
+    if !are_known(graph, &params.members) || !are_known(graph, &question.nodes) {
         return Err(RowFault::Unread);
     }
-    let view = Due { base: graph, keys };
-    is_answered(alloc, name, question, members, &view)
+    let view = &DueView::new(graph, keys);
+    let mut reads = Reads::new(alloc);
+    let asked = Asked {
+        question,
+        view,
+        told,
+    };
+    let is_answered = is_answered(alloc, name, params, &asked, &mut reads)?;
+    Ok(is_answered && view.are_read(&reads))
 }
 
 // Whether a row is met over its graph, into which its words are entered.
 fn is_met_in(alloc: Global, graph: &mut ListGraph, row: &Row) -> Result<bool, RowFault> {
     let question = question_of(alloc, graph, row)?;
     let keys = keys_of(alloc, graph, row.keys)?;
-    let members = all_entered(alloc, graph, row.members)?;
-    is_met(alloc, row.component, &question, members, graph, &keys)
+    let params = params_of(alloc, graph, row.params)?;
+    let conforming = conforming_of(alloc, graph, row.told)?;
+    let told = table_of(alloc, &params.shapes, &question.nodes, &conforming)?;
+    is_met(alloc, row.component, &question, params, &told, graph, &keys)
 }
 
 fn is_as_said(alloc: Global, line: &str) -> Result<bool, RowFault> {
@@ -83,6 +97,7 @@ fn strings_are_as_said(rt: HostRuntime) -> Result<(), Fail> {
     let alloc = rt.alloc();
     assert_eq!(rt; first_other(alloc, strings::MIN_LENGTH, is_as_said)?, "");
     assert_eq!(rt; first_other(alloc, strings::MAX_LENGTH, is_as_said)?, "");
+    assert_eq!(rt; first_other(alloc, strings::PATTERN, is_as_said)?, "");
     assert_eq!(rt; first_other(alloc, strings::LANGUAGE_IN, is_as_said)?, "");
     assert_eq!(rt; first_other(alloc, strings::UNIQUE_LANG, is_as_said)?, "");
     Ok(())
@@ -93,6 +108,46 @@ fn values_and_lists_are_as_said(rt: HostRuntime) -> Result<(), Fail> {
     let alloc = rt.alloc();
     assert_eq!(rt; first_other(alloc, lists::HAS_VALUE, is_as_said)?, "");
     assert_eq!(rt; first_other(alloc, lists::IN, is_as_said)?, "");
+    Ok(())
+}
+
+#[test]
+fn pairs_are_as_said(rt: HostRuntime) -> Result<(), Fail> {
+    let alloc = rt.alloc();
+    assert_eq!(rt; first_other(alloc, pairs::EQUALS, is_as_said)?, "");
+    assert_eq!(rt; first_other(alloc, pairs::DISJOINT, is_as_said)?, "");
+    assert_eq!(rt; first_other(alloc, pairs::LESS_THAN, is_as_said)?, "");
+    assert_eq!(rt;
+        first_other(alloc, pairs::LESS_THAN_OR_EQUALS, is_as_said)?,
+        ""
+    );
+    Ok(())
+}
+
+#[test]
+fn shapes_are_joined_as_said(rt: HostRuntime) -> Result<(), Fail> {
+    let alloc = rt.alloc();
+    assert_eq!(rt; first_other(alloc, logic::NOT, is_as_said)?, "");
+    assert_eq!(rt; first_other(alloc, logic::AND, is_as_said)?, "");
+    assert_eq!(rt; first_other(alloc, logic::OR, is_as_said)?, "");
+    assert_eq!(rt; first_other(alloc, logic::XONE, is_as_said)?, "");
+    assert_eq!(rt; first_other(alloc, logic::NODE, is_as_said)?, "");
+    assert_eq!(rt; first_other(alloc, logic::PROPERTY, is_as_said)?, "");
+    Ok(())
+}
+
+#[test]
+fn qualified_and_closed_shapes_are_as_said(rt: HostRuntime) -> Result<(), Fail> {
+    let alloc = rt.alloc();
+    assert_eq!(rt; first_other(alloc, qualified::MIN_COUNT, is_as_said)?, "");
+    assert_eq!(rt; first_other(alloc, qualified::MAX_COUNT, is_as_said)?, "");
+    assert_eq!(rt; first_other(alloc, closed::CLOSED, is_as_said)?, "");
+    Ok(())
+}
+
+#[test]
+fn worked_runs_find_as_said(rt: HostRuntime) -> Result<(), Fail> {
+    assert_eq!(rt; first_other(rt.alloc(), worked::RUNS, is_as_said)?, "");
     Ok(())
 }
 

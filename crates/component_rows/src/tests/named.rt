@@ -1,133 +1,151 @@
 //! The components by their names.
-ghost use Rattle.std.specs.Prelude.{[], ◌∷◌};
 ghost use Rattle.graph_view.specs.Graph.{HasTerms};
-ghost use Rattle.graph_view.specs.ListGraph.{plain_graph};
 ghost use Rattle.graph_view.specs.Valid.{IsValidView};
 
-use super::answers::answers;
-use super::due::Due;
-use super::question::Question;
+use super::asked::Asked;
+use super::params::Params;
+use super::patterns::is_pattern_answered;
+use comp_core::ShapeNo;
 use comp_core::kinds::{
-    CLASS, DATATYPE, HAS_VALUE, IN, LANGUAGE_IN, MAX_COUNT, MAX_EXCLUSIVE, MAX_INCLUSIVE,
-    MAX_LENGTH, MIN_COUNT, MIN_EXCLUSIVE, MIN_INCLUSIVE, MIN_LENGTH, NODE_KIND, UNIQUE_LANG,
+    AND, CLASS, CLOSED, DATATYPE, DISJOINT, EQUALS, HAS_VALUE, IN, LANGUAGE_IN, LESS_THAN,
+    LESS_THAN_OR_EQUALS, MAX_COUNT, MAX_EXCLUSIVE, MAX_INCLUSIVE, MAX_LENGTH, MIN_COUNT,
+    MIN_EXCLUSIVE, MIN_INCLUSIVE, MIN_LENGTH, NODE, NODE_KIND, NOT, OR, PROPERTY,
+    QUALIFIED_MAX_COUNT, QUALIFIED_MIN_COUNT, UNIQUE_LANG, XONE,
 };
+use graph_view::{GraphView, Reads};
+use logic_components::{And, Node, Not, Or, Property, Xone};
+use pair_components::{Disjoint, Equals, LessThan, LessThanOrEquals};
+use qualified_shapes::{Closed, QualifiedMaxCount, QualifiedMinCount};
 use row_tools::RowFault;
-use shx_term::Id;
+use shx_term::Memory;
 use std::alloc::Global;
 use value_components::{
     Class, Datatype, HasValue, In, LanguageIn, MaxCount, MaxExclusive, MaxInclusive, MaxLength,
     MinCount, MinExclusive, MinInclusive, MinLength, NodeKind, UniqueLang,
 };
 
-fn is_bound_answered(
+fn is_value_answered<V: GraphView>(
     alloc: Global,
     name: &str,
-    question: &Question,
-    view: &Due,
+    asked: &Asked<V>,
+    reads: &mut Reads,
 ) -> Result<bool, RowFault>
-    requires valid { IsValidView (plain_graph view.now.base.now) }
-    requires value { HasTerms (plain_graph view.now.base.now) (question.now.value ∷ []) }
-    requires nodes { HasTerms (plain_graph view.now.base.now) question.now.nodes.items }
+    requires valid { IsValidView (V.graph asked.now.view.now) }
 {
-    let value = question.value;
+    let value = asked.question.value;
     match name {
-        "MinExclusive" => answers(
-            alloc,
-            &MinExclusive::new(value),
-            MIN_EXCLUSIVE,
-            question,
-            view,
-        ),
-        "MinInclusive" => answers(
-            alloc,
-            &MinInclusive::new(value),
-            MIN_INCLUSIVE,
-            question,
-            view,
-        ),
-        "MaxExclusive" => answers(
-            alloc,
-            &MaxExclusive::new(value),
-            MAX_EXCLUSIVE,
-            question,
-            view,
-        ),
-        "MaxInclusive" => answers(
-            alloc,
-            &MaxInclusive::new(value),
-            MAX_INCLUSIVE,
-            question,
-            view,
-        ),
+        "MinExclusive" => asked.answers(alloc, &MinExclusive::new(value), MIN_EXCLUSIVE, reads),
+        "MinInclusive" => asked.answers(alloc, &MinInclusive::new(value), MIN_INCLUSIVE, reads),
+        "MaxExclusive" => asked.answers(alloc, &MaxExclusive::new(value), MAX_EXCLUSIVE, reads),
+        "MaxInclusive" => asked.answers(alloc, &MaxInclusive::new(value), MAX_INCLUSIVE, reads),
+        "MinCount" => asked.answers(alloc, &MinCount::new(value), MIN_COUNT, reads),
+        "MaxCount" => asked.answers(alloc, &MaxCount::new(value), MAX_COUNT, reads),
+        "MinLength" => asked.answers(alloc, &MinLength::new(value), MIN_LENGTH, reads),
+        "MaxLength" => asked.answers(alloc, &MaxLength::new(value), MAX_LENGTH, reads),
+        "Class" => asked.answers(alloc, &Class::new(value), CLASS, reads),
+        "Datatype" => asked.answers(alloc, &Datatype::new(value), DATATYPE, reads),
+        "NodeKind" => asked.answers(alloc, &NodeKind::new(value), NODE_KIND, reads),
+        "UniqueLang" => asked.answers(alloc, &UniqueLang::new(value), UNIQUE_LANG, reads),
+        "HasValue" => asked.answers(alloc, &HasValue::new(value), HAS_VALUE, reads),
+        "Equals" => asked.answers(alloc, &Equals::new(value), EQUALS, reads),
+        "Disjoint" => asked.answers(alloc, &Disjoint::new(value), DISJOINT, reads),
+        "LessThan" => asked.answers(alloc, &LessThan::new(value), LESS_THAN, reads),
+        "LessThanOrEquals" => {
+            let component = LessThanOrEquals::new(value);
+            asked.answers(alloc, &component, LESS_THAN_OR_EQUALS, reads)
+        }
         _ => Err(RowFault::Unread),
     }
 }
 
-fn is_number_answered(
+// Of components that ask about one other shape, or some.
+fn is_asking_answered<V: GraphView>(
     alloc: Global,
     name: &str,
-    question: &Question,
-    view: &Due,
+    shapes: Vec<ShapeNo>,
+    asked: &Asked<V>,
+    reads: &mut Reads,
 ) -> Result<bool, RowFault>
-    requires valid { IsValidView (plain_graph view.now.base.now) }
-    requires value { HasTerms (plain_graph view.now.base.now) (question.now.value ∷ []) }
-    requires nodes { HasTerms (plain_graph view.now.base.now) question.now.nodes.items }
+    requires valid { IsValidView (V.graph asked.now.view.now) }
 {
-    let value = question.value;
+    let value = asked.question.value;
+    let Some(first) = shapes.first() else {
+        return is_value_answered(alloc, name, asked, reads);
+    };
     match name {
-        "MinCount" => answers(alloc, &MinCount::new(value), MIN_COUNT, question, view),
-        "MaxCount" => answers(alloc, &MaxCount::new(value), MAX_COUNT, question, view),
-        "MinLength" => answers(alloc, &MinLength::new(value), MIN_LENGTH, question, view),
-        "MaxLength" => answers(alloc, &MaxLength::new(value), MAX_LENGTH, question, view),
-        _ => is_bound_answered(alloc, name, question, view),
-    }
-}
-
-fn is_value_answered(
-    alloc: Global,
-    name: &str,
-    question: &Question,
-    view: &Due,
-) -> Result<bool, RowFault>
-    requires valid { IsValidView (plain_graph view.now.base.now) }
-    requires value { HasTerms (plain_graph view.now.base.now) (question.now.value ∷ []) }
-    requires nodes { HasTerms (plain_graph view.now.base.now) question.now.nodes.items }
-{
-    let value = question.value;
-    match name {
-        "Class" => answers(alloc, &Class::new(value), CLASS, question, view),
-        "Datatype" => answers(alloc, &Datatype::new(value), DATATYPE, question, view),
-        "NodeKind" => answers(alloc, &NodeKind::new(value), NODE_KIND, question, view),
-        "UniqueLang" => answers(alloc, &UniqueLang::new(value), UNIQUE_LANG, question, view),
-        "HasValue" => answers(alloc, &HasValue::new(value), HAS_VALUE, question, view),
-        _ => is_number_answered(alloc, name, question, view),
-    }
-}
-
-/// Whether the component of a name, with a list of these members where it takes one, answers as is due.
-pub(super) fn is_answered(
-    alloc: Global,
-    name: &str,
-    question: &Question,
-    members: Vec<Id>,
-    view: &Due,
-) -> Result<bool, RowFault>
-    requires valid { IsValidView (plain_graph view.now.base.now) }
-    requires value { HasTerms (plain_graph view.now.base.now) (question.now.value ∷ []) }
-    requires members { HasTerms (plain_graph view.now.base.now) members.items }
-    requires nodes { HasTerms (plain_graph view.now.base.now) question.now.nodes.items }
-{
-    let value = question.value;
-    match name {
-        "In" => answers(alloc, &In::new(value, members), IN, question, view),
-        "LanguageIn" => answers(
+        "Not" => asked.answers(alloc, &Not::new(value, *first), NOT, reads),
+        "Node" => asked.answers(alloc, &Node::new(value, *first), NODE, reads),
+        "Property" => asked.answers(alloc, &Property::new(value, *first), PROPERTY, reads),
+        "And" => asked.answers(alloc, &And::new(value, shapes), AND, reads),
+        "Or" => asked.answers(alloc, &Or::new(value, shapes), OR, reads),
+        "Xone" => asked.answers(alloc, &Xone::new(value, shapes), XONE, reads),
+        _ => is_count_answered(
             alloc,
-            &LanguageIn::new(value, members),
-            LANGUAGE_IN,
-            question,
-            view,
+            name,
+            *first,
+            siblings_of(alloc, &shapes)?,
+            asked,
+            reads,
         ),
-        _ if members.is_empty() => is_value_answered(alloc, name, question, view),
+    }
+}
+
+fn is_count_answered<V: GraphView>(
+    alloc: Global,
+    name: &str,
+    shape: ShapeNo,
+    siblings: Vec<ShapeNo>,
+    asked: &Asked<V>,
+    reads: &mut Reads,
+) -> Result<bool, RowFault>
+    requires valid { IsValidView (V.graph asked.now.view.now) }
+{
+    let value = asked.question.value;
+    match name {
+        "QualifiedMinCount" => {
+            let component = QualifiedMinCount::new(value, shape, siblings);
+            asked.answers(alloc, &component, QUALIFIED_MIN_COUNT, reads)
+        }
+        "QualifiedMaxCount" => {
+            let component = QualifiedMaxCount::new(value, shape, siblings);
+            asked.answers(alloc, &component, QUALIFIED_MAX_COUNT, reads)
+        }
+        _ => Err(RowFault::Unread),
+    }
+}
+
+// All but the first.
+fn siblings_of(alloc: Global, shapes: &[ShapeNo]) -> Result<Vec<ShapeNo>, Memory> {
+    let mut siblings = Vec::new(alloc);
+    for shape in shapes.iter().skip(1) {
+        siblings.push(*shape)?;
+    }
+    Ok(siblings)
+}
+
+/// Whether the component of a name answers as is due.
+pub(super) fn is_answered<V: GraphView>(
+    alloc: Global,
+    name: &str,
+    params: Params,
+    asked: &Asked<V>,
+    reads: &mut Reads,
+) -> Result<bool, RowFault>
+    requires valid { IsValidView (V.graph asked.now.view.now) }
+    requires members { HasTerms (V.graph asked.now.view.now) params.members.items }
+{
+    let value = asked.question.value;
+    let Params {
+        members,
+        ignored,
+        shapes,
+    } = params;
+    match name {
+        "In" => asked.answers(alloc, &In::new(value, members), IN, reads),
+        "LanguageIn" => asked.answers(alloc, &LanguageIn::new(value, members), LANGUAGE_IN, reads),
+        "Pattern" => is_pattern_answered(alloc, &members, asked, reads),
+        "Closed" => asked.answers(alloc, &Closed::new(value, members, ignored), CLOSED, reads),
+        _ if members.is_empty() => is_asking_answered(alloc, name, shapes, asked, reads),
         _ => Err(RowFault::Unread),
     }
 }

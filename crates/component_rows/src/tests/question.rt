@@ -1,24 +1,33 @@
 //! What a row asks, by numbers. Each word of a row is entered into the graph.
-ghost use Rattle.std.specs.Prelude.{IsTrue};
-ghost use Rattle.graph_view.specs.Graph.{IsKnownTriple};
-ghost use Rattle.graph_view.specs.ListGraph.{plain_graph};
-
+use super::answers::FOCUS;
 use super::row::Row;
-use graph_view::{GraphEdit, GraphView, Key, ListGraph, Reads};
-use row_tools::{RowFault, cut, in_three, term};
+use due_view::is_known_triple;
+use graph_view::{GraphEdit, Key, ListGraph, Reads};
+use row_tools::{RowFault, in_three, term};
 use shx_term::vocabulary::VOCABULARY_LEN;
 use shx_term::{Id, Pool, Triple};
 use std::alloc::Global;
 
-/// The value of a component's parameter, the value nodes, and the values of the results that are due.
+/// A result that is due: its value and its predicate, where it has them.
+#[derive(Clone, Copy)]
+pub(super) struct Due {
+    pub(super) value: Option<Id>,
+    pub(super) predicate: Option<Id>,
+}
+
+/// The value of a component's parameter, the value nodes, and the results that are due.
 #[derive(Drop)]
 pub(super) struct Question {
     pub(super) value: Id,
     pub(super) nodes: Vec<Id>,
-    pub(super) due: Vec<Option<Id>>,
+    pub(super) due: Vec<Due>,
 }
 
-fn entered(alloc: Global, graph: &mut ListGraph, word: &str) -> Result<Id, RowFault> {
+/// The number of the term of a word; `focus` is the focus node.
+pub(super) fn entered(alloc: Global, graph: &mut ListGraph, word: &str) -> Result<Id, RowFault> {
+    if word == "focus" {
+        return Ok(FOCUS);
+    }
     Ok(graph.enter(&term(alloc, word)?)?)
 }
 
@@ -35,24 +44,32 @@ pub(super) fn all_entered(
     Ok(ids)
 }
 
-// The value of a result; `none` is a result without one.
-fn value_due(alloc: Global, graph: &mut ListGraph, word: &str) -> Result<Option<Id>, RowFault> {
+// A result: `none`, a value, or a predicate and a value with `=` between them.
+fn result_due(alloc: Global, graph: &mut ListGraph, word: &str) -> Result<Due, RowFault> {
     if word == "none" {
-        return Ok(None);
+        return Ok(Due {
+            value: None,
+            predicate: None,
+        });
     }
-    Ok(Some(entered(alloc, graph, word)?))
+    match word.split_once('=') {
+        Some((predicate, value)) => Ok(Due {
+            value: Some(entered(alloc, graph, value)?),
+            predicate: Some(entered(alloc, graph, predicate)?),
+        }),
+        None => Ok(Due {
+            value: Some(entered(alloc, graph, word)?),
+            predicate: None,
+        }),
+    }
 }
 
-fn values_due(
-    alloc: Global,
-    graph: &mut ListGraph,
-    words: &str,
-) -> Result<Vec<Option<Id>>, RowFault> {
-    let mut values = Vec::new(alloc);
+fn results_due(alloc: Global, graph: &mut ListGraph, words: &str) -> Result<Vec<Due>, RowFault> {
+    let mut results = Vec::new(alloc);
     for word in words.split_whitespace() {
-        values.push(value_due(alloc, graph, word)?)?;
+        results.push(result_due(alloc, graph, word)?)?;
     }
-    Ok(values)
+    Ok(results)
 }
 
 /// What a row asks.
@@ -64,16 +81,18 @@ pub(super) fn question_of(
     Ok(Question {
         value: entered(alloc, graph, row.value)?,
         nodes: all_entered(alloc, graph, row.nodes)?,
-        due: values_due(alloc, graph, row.due)?,
+        due: results_due(alloc, graph, row.due)?,
     })
 }
 
 fn key_of(alloc: Global, graph: &mut ListGraph, words: &str) -> Result<Key, RowFault> {
-    let (s, p) = cut(words, " ")?;
-    Ok(Key::Out(entered(alloc, graph, s)?, entered(alloc, graph, p)?))
+    match words.split_once(' ') {
+        Some((s, p)) => Ok(Key::Out(entered(alloc, graph, s)?, entered(alloc, graph, p)?)),
+        None => Ok(Key::Subject(entered(alloc, graph, words)?)),
+    }
 }
 
-/// The keys of a row, each a subject and a predicate, with commas between them.
+/// The keys of a row, each a subject, or a subject and a predicate, with commas between them.
 pub(super) fn keys_of(alloc: Global, graph: &mut ListGraph, cell: &str) -> Result<Reads, RowFault> {
     let mut keys = Reads::new(alloc);
     for words in cell.split_terminator(", ") {
@@ -91,16 +110,8 @@ fn triple_of(alloc: Global, graph: &mut ListGraph, words: &str) -> Result<Triple
     })
 }
 
-// Whether a graph has terms for the numbers of a triple.
-fn is_known(graph: &ListGraph, t: &Triple) -> bool
-    ensures { IsTrue result → IsKnownTriple (plain_graph graph.now).terms t.now }
-{
-    let terms = graph.pool().len();
-    t.s < terms && t.p < terms && t.o < terms
-}
-
 fn insert(graph: &mut ListGraph, t: Triple) -> Result<(), RowFault> {
-    if !is_known(graph, &t) || graph.insert(t) != Ok(true) {
+    if !is_known_triple(graph, &t) || graph.insert(t) != Ok(true) {
         return Err(RowFault::Unread);
     }
     Ok(())

@@ -1,17 +1,18 @@
 use row_tools::{RowFault, cut, in_three};
 
-/// The cells of a row: a component with its parameter and the members of its list, the value nodes, and the
-/// values of the results that are due. Behind these may stand the triples of the graph, and the keys that are
-/// read.
+/// The cells of a row: a component with its parameter and what else it takes, the value nodes, and the
+/// results that are due. Behind these may stand the triples of the graph, the keys that are read, and which
+/// value nodes conform to other shapes.
 #[derive(Clone, Copy)]
 pub(super) struct Row<'a> {
     pub(super) component: &'a str,
     pub(super) value: &'a str,
-    pub(super) members: &'a str,
+    pub(super) params: &'a str,
     pub(super) nodes: &'a str,
     pub(super) due: &'a str,
     pub(super) triples: &'a str,
     pub(super) keys: &'a str,
+    pub(super) told: &'a str,
 }
 
 // What stands before the first mark, and what stands behind it, if anything.
@@ -30,16 +31,18 @@ fn words(cell: &str) -> &str {
 pub(super) fn row_of(line: &str) -> Result<Row<'_>, RowFault> {
     let (asked, nodes, rest) = in_three(line, " | ")?;
     let (component, parameter) = cut(asked, " ")?;
-    let (value, members) = divided(parameter, " ");
+    let (value, params) = divided(parameter, " ");
     let (due, graph) = divided(rest, " | ");
-    let (triples, keys) = divided(graph, " | ");
+    let (triples, reads) = divided(graph, " | ");
+    let (keys, told) = divided(reads, " | ");
     Ok(Row {
         component,
         value,
-        members,
+        params,
         nodes: words(nodes),
         due: words(due),
         triples: words(triples),
         keys: words(keys),
+        told: words(told),
     })
 }

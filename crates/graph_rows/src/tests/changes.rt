@@ -1,10 +1,10 @@
 mod rows;
 
-use super::guarded::Guarded;
-use super::letters::{graph_of, key_of};
+use super::letters::{graph_of, key_of, store_of};
 use super::questions::{answers, is_same};
 use super::steps::{exchanged, is_countable, is_patch};
-use graph_view::{GraphEdit, GraphView, Key, ListGraph, Patched};
+use due_view::DueView;
+use graph_view::{GraphEdit, GraphView, ListGraph, Patched, Reads};
 use row_tools::{RowFault, first_other, in_four, in_three, number};
 use std::alloc::Global;
 use std::test::Fail;
@@ -23,25 +23,30 @@ fn patched_answers<V: GraphView>(
     answers(alloc, &view, question, due)
 }
 
+// The key of a question, if it has one.
+fn keys_of(alloc: Global, question: &str) -> Result<Reads, RowFault> {
+    let mut keys = Reads::new(alloc);
+    if question.contains('?') {
+        keys.add(key_of(question)?)?;
+    }
+    Ok(keys)
+}
+
 // The same, where the base may be asked the question's key alone, if any.
-fn guarded_answers(
+fn guarded_answers<V: GraphView>(
     alloc: Global,
-    base: &ListGraph,
+    base: &V,
     change: (&ListGraph, &ListGraph),
     (question, due): (&str, &str),
 ) -> Result<bool, RowFault> {
-    let key = if question.contains('?') {
-        key_of(question)?
-    } else {
-        Key::Subject(0)
-    };
-    patched_answers(alloc, &Guarded::new(base, key), change, (question, due))
+    let keys = keys_of(alloc, question)?;
+    patched_answers(alloc, &DueView::new(base, &keys), change, (question, due))
 }
 
 // The same, by the words of the removed triples.
-fn answers_without(
+fn answers_without<V: GraphView>(
     alloc: Global,
-    base: &ListGraph,
+    base: &V,
     added: &ListGraph,
     removed: &str,
     question: (&str, &str),
@@ -50,22 +55,26 @@ fn answers_without(
     guarded_answers(alloc, base, (added, &removed), question)
 }
 
-// The same, by the words of the added triples too.
-fn answers_with(
-    alloc: Global,
-    base: &ListGraph,
-    (added, removed): (&str, &str),
-    question: (&str, &str),
-) -> Result<bool, RowFault> {
+// The same, by the row's change and question.
+fn answers_as_said<V: GraphView>(alloc: Global, base: &V, row: &str) -> Result<bool, RowFault> {
+    let (added, removed, question, due) = in_four(row, "|")?;
     let added = graph_of(alloc, 75, 100, added)?;
-    answers_without(alloc, base, &added, removed, question)
+    answers_without(alloc, base, &added, removed, (question, due))
 }
 
-// Whether a base with the row's change answers the row's question as is due.
-fn is_answered(alloc: Global, base: &str, row: &str) -> Result<bool, RowFault> {
-    let (added, removed, question, due) = in_four(row, "|")?;
+fn is_answered_in_a_list(alloc: Global, base: &str, row: &str) -> Result<bool, RowFault> {
     let base = graph_of(alloc, 75, 100, base)?;
-    answers_with(alloc, &base, (added, removed), (question, due))
+    answers_as_said(alloc, &base, row)
+}
+
+fn is_answered_in_a_store(alloc: Global, base: &str, row: &str) -> Result<bool, RowFault> {
+    let base = store_of(alloc, 75, 100, base)?;
+    answers_as_said(alloc, &base, row)
+}
+
+// Whether a base of either kind, with the row's change, answers the row's question as is due.
+fn is_answered(alloc: Global, base: &str, row: &str) -> Result<bool, RowFault> {
+    Ok(is_answered_in_a_list(alloc, base, row)? && is_answered_in_a_store(alloc, base, row)?)
 }
 
 fn is_answered_over_the_base(alloc: Global, row: &str) -> Result<bool, RowFault> {
@@ -123,37 +132,38 @@ fn is_made_and_taken_back<E: GraphEdit>(
     Ok(exchanged(graph, removed, added)? == "done" && is_same(alloc, base, graph)?)
 }
 
-// Whether a change that is refused leaves the very list of triples.
-fn is_refused(
+// Whether a change that is refused leaves the graph as it was.
+fn is_refused<E: GraphEdit>(
+    alloc: Global,
     base: &ListGraph,
     (added, removed): (&ListGraph, &ListGraph),
-    graph: &mut ListGraph,
+    graph: &mut E,
 ) -> Result<bool, RowFault> {
-    Ok(exchanged(graph, added, removed)? == "full" && graph.triples() == base.triples())
+    Ok(exchanged(graph, added, removed)? == "full" && is_same(alloc, base, graph)?)
 }
 
 // Whether a change of a graph that is as the base ends as is due.
-fn ends_as_due(
+fn ends_as_due<E: GraphEdit>(
     alloc: Global,
     base: &ListGraph,
     change: (&ListGraph, &ListGraph),
-    graph: &mut ListGraph,
+    graph: &mut E,
     due: &str,
 ) -> Result<bool, RowFault> {
     match due {
         "done" => is_made_and_taken_back(alloc, base, change, graph),
-        "full" => is_refused(base, change, graph),
+        "full" => is_refused(alloc, base, change, graph),
         _ => Err(RowFault::Unread),
     }
 }
 
 // The same, by the words of the removed triples.
-fn ends_without(
+fn ends_without<E: GraphEdit>(
     alloc: Global,
     base: &ListGraph,
     added: &ListGraph,
     removed: &str,
-    graph: &mut ListGraph,
+    graph: &mut E,
     due: &str,
 ) -> Result<bool, RowFault> {
     let removed = graph_of(alloc, 75, 100, removed)?;
@@ -161,10 +171,10 @@ fn ends_without(
 }
 
 // The same, by the row's change and how it ends.
-fn ends_as_said(
+fn ends_as_said<E: GraphEdit>(
     alloc: Global,
     base: &ListGraph,
-    graph: &mut ListGraph,
+    graph: &mut E,
     row: &str,
 ) -> Result<bool, RowFault> {
     let (removed, added, due) = in_three(row, "|")?;
@@ -172,24 +182,47 @@ fn ends_as_said(
     ends_without(alloc, base, &added, removed, graph, due)
 }
 
-// Whether a change of the graph of some words ends as the row says.
-fn is_changed_from(
+// The same of a plain graph, where a change that is refused leaves the very list of triples.
+fn ends_in_a_list(
     alloc: Global,
-    limit: u64,
-    words: &str,
+    base: &ListGraph,
+    graph: &mut ListGraph,
+    row: &str,
+) -> Result<bool, RowFault> {
+    let ends = ends_as_said(alloc, base, graph, row)?;
+    Ok(ends && (!row.ends_with("|full") || graph.triples() == base.triples()))
+}
+
+fn is_changed_in_a_list(
+    alloc: Global,
+    (limit, words): (u64, &str),
     base: &ListGraph,
     row: &str,
 ) -> Result<bool, RowFault> {
     let mut graph = graph_of(alloc, 75, limit, words)?;
-    ends_as_said(alloc, base, &mut graph, row)
+    ends_in_a_list(alloc, base, &mut graph, row)
 }
 
-// Whether the row's change of a graph, that may hold as many triples as the row says, ends as it says.
+fn is_changed_in_a_store(
+    alloc: Global,
+    (limit, words): (u64, &str),
+    base: &ListGraph,
+    row: &str,
+) -> Result<bool, RowFault> {
+    let mut store = store_of(alloc, 75, limit, words)?;
+    ends_as_said(alloc, base, &mut store, row)
+}
+
+// Whether the row's change of a graph of either kind, that may hold as many triples as the row says, ends as
+// it says.
 fn is_changed(alloc: Global, row: &str) -> Result<bool, RowFault> {
     let (limit, words, row) = in_three(row, ": ")?;
-    let limit = u64::from(number(limit)?);
-    let base = graph_of(alloc, 75, limit, words)?;
-    is_changed_from(alloc, limit, words, &base, row)
+    let made_of = (u64::from(number(limit)?), words);
+    let base = graph_of(alloc, 75, made_of.0, words)?;
+    Ok(
+        is_changed_in_a_list(alloc, made_of, &base, row)?
+            && is_changed_in_a_store(alloc, made_of, &base, row)?,
+    )
 }
 
 #[test]

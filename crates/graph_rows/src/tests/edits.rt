@@ -9,8 +9,8 @@ use std::alloc::Global;
 use std::test::Fail;
 use triple_store::Store;
 
-/// The graph that a block begins with.
-pub(super) fn graph_of_block(alloc: Global, line: &str) -> Result<ListGraph, RowFault> {
+// The graph that a block begins with.
+fn graph_of_block(alloc: Global, line: &str) -> Result<ListGraph, RowFault> {
     let (terms, rest) = cut(line, " ")?;
     let (limit, words) = match rest.split_once(' ') {
         Some(parts) => parts,

@@ -7,6 +7,7 @@ use row_tools::{RowFault, cut, term};
 use shx_term::vocabulary::VOCABULARY_LEN;
 use shx_term::{Id, Pool, Triple};
 use std::alloc::Global;
+use triple_store::Store;
 
 // Terms of every kind, which are entered against their order: the higher the number, the lower the term.
 const TERMS: &str = "\
@@ -129,4 +130,14 @@ pub(super) fn graph_of(
         }
     }
     Ok(graph)
+}
+
+/// The store of those words.
+pub(super) fn store_of(
+    alloc: Global,
+    terms: Id,
+    limit: u64,
+    words: &str,
+) -> Result<Store, RowFault> {
+    Ok(Store::from_list(alloc, graph_of(alloc, terms, limit, words)?)?)
 }

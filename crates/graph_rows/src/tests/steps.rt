@@ -5,6 +5,7 @@ ghost use Rattle.std.specs.Bool.{MatchBool};
 ghost use Rattle.graph_view.specs.Graph.{IsKnownTriple};
 ghost use Rattle.graph_view.specs.Patched.{IsPatch, patched};
 
+use super::cuts::cuts;
 use super::letters::{graph_of, is_known, triple_of};
 use super::questions::answers;
 use graph_view::{GraphEdit, GraphView, ListGraph, StoreFault};
@@ -150,6 +151,7 @@ pub(super) fn goes_on<E: GraphEdit>(
     match step.split_once(' ') {
         Some(("exchange", words)) => exchanges(alloc, graph, words, due),
         Some(("enter", word)) => enters(alloc, graph, word, due),
+        Some(("cut", words)) => Ok(cuts(alloc, graph, words)? == due),
         Some(_) => Err(RowFault::Unread),
         None => answers(alloc, graph, step, due),
     }

@@ -1,79 +1,66 @@
 //! What rows say: nodes and keys by letters.
 use super::graphs::number;
 use graph_view::{Key, Reads};
-use shx_term::{Id, Memory};
+use row_tools::{RowFault, cut};
+use shx_term::Id;
 use std::alloc::Global;
 
-/// What stands before the first colon, and what stands behind it.
-pub(super) fn cut(row: &str) -> (&str, &str) {
-    match row.split_once(" : ") {
-        Some(parts) => parts,
-        None => (row, ""),
+/// The node of a letter.
+pub(super) fn node(letter: &str) -> Result<Id, RowFault> {
+    match letter.as_bytes() {
+        [letter] => number(*letter),
+        _ => Err(RowFault::Unread),
     }
 }
 
-// The key along a predicate from a node, or to it.
-fn key(mark: &str, node: u8, p: u8) -> Key {
-    if mark == "Out" {
-        Key::Out(number(node), number(p))
-    } else {
-        Key::In(number(p), number(node))
+// What stands in a cell; `-` is for nothing.
+fn given(cell: &str) -> Result<&str, RowFault> {
+    match cell {
+        "" => Err(RowFault::Unread),
+        "-" => Ok(""),
+        _ => Ok(cell),
     }
 }
 
-// Keys of several nodes, `Out(ab,p)` or `In(p,ab)`.
-fn add_keys(reads: &mut Reads, text: &str) -> Result<(), Memory> {
-    let (mark, rest) = match text.split_once('(') {
-        Some(parts) => parts,
-        None => (text, ""),
-    };
-    let (first, second) = match rest.trim_end_matches(')').split_once(',') {
-        Some(parts) => parts,
-        None => (rest, ""),
-    };
-    let (nodes, predicate) = if mark == "Out" {
-        (first, second)
-    } else {
-        (second, first)
-    };
-    for p in predicate.bytes() {
-        for node in nodes.bytes() {
-            reads.add(key(mark, node, p))?;
-        }
+/// The nodes of some letters; `-` is for none.
+pub(super) fn nodes(alloc: Global, letters: &str) -> Result<Vec<Id>, RowFault> {
+    let mut nodes = Vec::new(alloc);
+    for letter in given(letters)?.bytes() {
+        nodes.push(number(letter)?)?;
+    }
+    Ok(nodes)
+}
+
+fn add_outward(reads: &mut Reads, nodes: &str, p: Id) -> Result<(), RowFault> {
+    for letter in nodes.bytes() {
+        reads.add(Key::Out(number(letter)?, p))?;
     }
     Ok(())
 }
 
-/// The keys of a row.
-pub(super) fn keys(alloc: Global, text: &str) -> Result<Reads, Memory> {
+fn add_inward(reads: &mut Reads, p: Id, nodes: &str) -> Result<(), RowFault> {
+    for letter in nodes.bytes() {
+        reads.add(Key::In(p, number(letter)?))?;
+    }
+    Ok(())
+}
+
+// Keys of several nodes, `Out(ab,p)` or `In(p,ab)`.
+fn add_keys(reads: &mut Reads, word: &str) -> Result<(), RowFault> {
+    let (word, behind) = cut(word, ")")?;
+    let (first, second) = cut(word, ",")?;
+    match (first.split_once('('), behind) {
+        (Some(("Out", nodes)), "") => add_outward(reads, nodes, node(second)?),
+        (Some(("In", p)), "") => add_inward(reads, node(p)?, second),
+        _ => Err(RowFault::Unread),
+    }
+}
+
+/// The keys of a row; `-` is for none.
+pub(super) fn keys(alloc: Global, words: &str) -> Result<Reads, RowFault> {
     let mut reads = Reads::new(alloc);
-    for word in text.split_whitespace() {
+    for word in given(words)?.split_whitespace() {
         add_keys(&mut reads, word)?;
     }
     Ok(reads)
-}
-
-/// Whether these are the same keys, in whatever order.
-pub(super) fn are_same_keys(reads: &Reads, wanted: &Reads) -> bool {
-    for at in 0..wanted.len() {
-        if !reads.has(wanted.key_at(at)) {
-            return false;
-        }
-    }
-    reads.len() == wanted.len()
-}
-
-/// The node of a letter.
-pub(super) fn node(letter: &str) -> Id {
-    letter.bytes().next().map_or(0, number)
-}
-
-/// Whether these are the nodes of these letters, in this order; `-` is for none.
-pub(super) fn are_nodes(found: &[Id], letters: &str) -> bool {
-    let nodes = letters.trim_matches('-').as_bytes();
-    found.len() == nodes.len()
-        && found
-            .iter()
-            .zip(nodes)
-            .all(|(id, letter)| *id == number(*letter))
 }

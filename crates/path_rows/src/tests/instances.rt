@@ -1,17 +1,17 @@
 //! Classes, instances and the test of an instance, one question a line: a graph by its name; the classes of
 //! a node, the instances of a class, or whether a node is an instance of a class; the answer; the keys that
 //! are looked up. These are all that `classes` looks up, also where the class is found at once.
-use super::cells::{are_nodes, are_same_keys, cut, keys, node};
-use super::due::Due;
+use super::cells::{keys, node, nodes};
 use super::graphs::graph;
+use due_view::DueView;
 use graph_view::{ListGraph, Reads};
 use path_eval::{
     a_type_tells_of_its_node_alone, classes, instances, instances_are_told,
     instances_depend_on_their_reads, is_instance,
 };
-use shx_term::Memory;
+use row_tools::{RowFault, cut, first_other, in_four};
+use shx_term::Id;
 use std::alloc::Global;
-use std::process::Abort;
 use std::test::Fail;
 
 const QUESTIONS: &str = "types : classes a : bcd : Out(a,T) Out(bcd,C)
@@ -38,62 +38,67 @@ kinds : is f f : no : Out(f,T)
 none : is a a : no : Out(a,T)
 ";
 
-// What stands before the first blank, and what stands behind it.
-fn words(text: &str) -> (&str, &str) {
-    match text.split_once(' ') {
-        Some(parts) => parts,
-        None => (text, ""),
+// The classes of a node, or the instances of a class.
+fn found(
+    alloc: Global,
+    view: &DueView<ListGraph>,
+    asked: &str,
+    of: Id,
+    reads: &mut Reads,
+) -> Result<Vec<Id>, RowFault> {
+    match asked {
+        "classes" => Ok(classes(alloc, view, of, reads)?),
+        "instances" => Ok(instances(alloc, view, of, reads)?),
+        _ => Err(RowFault::Unread),
+    }
+}
+
+fn is_of_class(
+    alloc: Global,
+    view: &DueView<ListGraph>,
+    words: &str,
+    answer: &str,
+    reads: &mut Reads,
+) -> Result<bool, RowFault> {
+    let (tested, class) = cut(words, " ")?;
+    let is = is_instance(alloc, view, node(tested)?, node(class)?, reads)?;
+    match answer {
+        "yes" => Ok(is),
+        "no" => Ok(!is),
+        _ => Err(RowFault::Unread),
     }
 }
 
 // Whether the question has the answer.
 fn answers(
     alloc: Global,
-    view: &Due<ListGraph>,
+    view: &DueView<ListGraph>,
     question: &str,
     answer: &str,
     reads: &mut Reads,
-) -> Result<bool, Memory> {
-    let (asked, of) = words(question);
-    if asked == "classes" {
-        return Ok(are_nodes(&classes(alloc, view, node(of), reads)?, answer));
+) -> Result<bool, RowFault> {
+    let (asked, of) = cut(question, " ")?;
+    if asked == "is" {
+        return is_of_class(alloc, view, of, answer, reads);
     }
-    if asked == "instances" {
-        return Ok(are_nodes(&instances(alloc, view, node(of), reads)?, answer));
-    }
-    let (tested, class) = words(of);
-    let is = is_instance(alloc, view, node(tested), node(class), reads)?;
-    Ok(is == (answer == "yes"))
+    let wanted = nodes(alloc, answer)?;
+    Ok(found(alloc, view, asked, node(of)?, reads)? == wanted)
 }
 
 // Whether the row's question has its answer, and nothing but its keys is looked up.
-fn is_as_said(rt: &impl Abort, alloc: Global, row: &str) -> Result<bool, Fail> {
-    let (name, rest) = cut(row);
-    let (question, rest) = cut(rest);
-    let (answer, read) = cut(rest);
-    let graph = graph(rt, alloc, name)?;
+fn is_as_said(alloc: Global, row: &str) -> Result<bool, RowFault> {
+    let (name, question, answer, read) = in_four(row, " : ")?;
+    let graph = graph(alloc, name)?;
     let due = keys(alloc, read)?;
-    let view = Due {
-        base: &graph,
-        due: &due,
-    };
+    let view = DueView::new(&graph, &due);
     let mut reads = Reads::new(alloc);
     let told = answers(alloc, &view, question, answer, &mut reads);
-    Ok(told == Ok(true) && are_same_keys(&reads, &due))
-}
-
-fn first_other(rt: &impl Abort, alloc: Global) -> Result<&'static str, Fail> {
-    for row in QUESTIONS.lines() {
-        if !is_as_said(rt, alloc, row)? {
-            return Ok(row);
-        }
-    }
-    Ok("")
+    Ok(told == Ok(true) && view.are_read(&reads))
 }
 
 #[test]
 fn instances_are_as_said(rt: HostRuntime) -> Result<(), Fail> {
-    assert_eq!(rt; first_other(&rt, rt.alloc())?, "");
+    assert_eq!(rt; first_other(rt.alloc(), QUESTIONS, is_as_said)?, "");
     Ok(())
 }
 

@@ -4,7 +4,7 @@
 //! By hand from the definitions: of paths in SHACL (section 2.3.1) and SPARQL 1.1 (section 9.3), and of what
 //! following a path reads.
 
-pub const ROWS: &str = "# each form in a sequence, and from its end
+pub const ROWS: &str = "== each form in a sequence, and from its end
 mesh : p/q : b : d : Out(b,p) Out(c,q)
 mesh : ^(p/q) : d : b : In(q,d) In(p,c)
 mesh : (p/q)/q : b : e : Out(b,p) Out(cd,q)
@@ -19,7 +19,7 @@ mesh : p+/q : d : - : Out(d,p)
 mesh : ^(p+/q) : d : abc : In(q,d) In(p,abc)
 mesh : p?/q : b : d : Out(b,p) Out(bc,q)
 mesh : ^(p?/q) : d : bc : In(q,d) In(p,c)
-# each form in an alternative, and from its end
+== each form in an alternative, and from its end
 mesh : p|q : c : ad : Out(c,p) Out(c,q)
 mesh : ^(p|q) : c : be : In(p,c) In(q,c)
 mesh : (p/q)|q : b : d : Out(b,p) Out(bc,q)
@@ -34,7 +34,7 @@ mesh : p+|q : d : e : Out(d,p) Out(d,q)
 mesh : ^(p+|q) : c : abce : In(p,abc) In(q,c)
 mesh : p?|q : c : acd : Out(c,p) Out(c,q)
 mesh : ^(p?|q) : c : bce : In(p,c) In(q,c)
-# each form turned, and turned again
+== each form turned, and turned again
 mesh : ^p : a : c : In(p,a)
 mesh : ^(^p) : a : b : Out(a,p)
 mesh : ^(p/q) : e : - : In(q,e) In(p,d)
@@ -49,7 +49,7 @@ line : ^p+ : c : ab : In(p,abc)
 line : ^(^p+) : c : d : Out(cd,p)
 line : ^p? : c : bc : In(p,c)
 line : ^(^p?) : c : cd : Out(c,p)
-# each form any number of times, and from its end
+== each form any number of times, and from its end
 mesh : p* : c : abc : Out(abc,p)
 mesh : ^(p*) : a : abc : In(p,abc)
 steps : (p/q)* : a : ace : Out(ace,p) Out(bd,q)
@@ -64,7 +64,7 @@ line : (p+)* : b : bcd : Out(bcd,p)
 line : ^((p+)*) : b : ab : In(p,ab)
 line : (p?)* : a : abcd : Out(abcd,p)
 line : ^((p?)*) : d : abcd : In(p,abcd)
-# each form once or more, and from its end
+== each form once or more, and from its end
 line : p+ : a : bcd : Out(abcd,p)
 line : ^(p+) : d : abc : In(p,abcd)
 steps : (p/q)+ : a : ce : Out(ace,p) Out(bd,q)
@@ -79,7 +79,7 @@ line : (p+)+ : b : cd : Out(bcd,p)
 line : ^((p+)+) : c : ab : In(p,abc)
 line : (p?)+ : b : bcd : Out(bcd,p)
 line : ^((p?)+) : c : abc : In(p,abc)
-# each form once or not at all, and from its end
+== each form once or not at all, and from its end
 line : p? : b : bc : Out(b,p)
 line : ^(p?) : b : ab : In(p,b)
 steps : (p/q)? : a : ac : Out(a,p) Out(b,q)
@@ -94,7 +94,7 @@ line : (p+)? : c : cd : Out(cd,p)
 line : ^((p+)?) : b : ab : In(p,ab)
 line : (p?)? : a : ab : Out(a,p)
 line : ^((p?)?) : d : cd : In(p,d)
-# a graph with no triples
+== a graph with no triples
 none : p : a : - : Out(a,p)
 none : ^p : a : - : In(p,a)
 none : p/q : a : - : Out(a,p)
@@ -104,7 +104,7 @@ none : p* : a : a : Out(a,p)
 none : p+ : a : - : Out(a,p)
 none : p? : a : a : Out(a,p)
 none : p*/q* : a : a : Out(a,p) Out(a,q)
-# no parts, and no members
+== no parts, and no members
 line : () : b : b : -
 line : [] : b : - : -
 line : ()* : b : b : -
@@ -117,7 +117,7 @@ line : p/[] : b : - : Out(b,p)
 line : ^([]/p) : b : - : In(p,b)
 line : ^(p/[]) : b : - : -
 line : p|[] : b : c : Out(b,p)
-# a node related to itself
+== a node related to itself
 loop : p : a : a : Out(a,p)
 loop : p* : a : a : Out(a,p)
 loop : p+ : a : a : Out(a,p)
@@ -125,7 +125,7 @@ loop : p+ : b : - : Out(b,p)
 loop : p/p/q : a : b : Out(a,p) Out(a,q)
 loop : ^p/q : a : b : In(p,a) Out(a,q)
 loop : (p|q)+ : a : ab : Out(ab,p) Out(ab,q)
-# cycles, and two that meet
+== cycles, and two that meet
 two : n+ : a : ab : Out(ab,n)
 two : ^n+ : a : ab : In(n,ab)
 mesh : p+ : a : abc : Out(abc,p)
@@ -137,25 +137,25 @@ mesh : (p*/q)* : a : acde : Out(abcde,p) Out(abcde,q)
 mesh : ^((p*/q)*) : d : abcde : In(q,abcde) In(p,abcde)
 mesh : (p+/q+)+ : a : cde : Out(abcde,p) Out(abcde,q)
 mesh : (^p*/q?)+ : a : abcde : In(p,abcde) Out(abcde,q)
-# nodes that are reached in two ways
+== nodes that are reached in two ways
 fork : p/p : a : d : Out(abc,p)
 fork : ^(p/p) : d : a : In(p,bcd)
 fork : p* : a : abcd : Out(abcd,p)
 fork : p|p : a : bc : Out(a,p)
 fork : p/p? : a : bcd : Out(abc,p)
-# the parts of a sequence, in their order
+== the parts of a sequence, in their order
 line : p/p/p : a : d : Out(abc,p)
 line : ^(p/p/p) : d : a : In(p,bcd)
 steps : p/q/p : a : d : Out(ac,p) Out(b,q)
 steps : ^(p/q/p) : d : a : In(p,bd) In(q,c)
 steps : ^(p/q/p) : e : - : In(p,e)
 steps : ^((p|^q)*) : b : abc : In(p,abc) Out(abc,q)
-# a start that no triple has
+== a start that no triple has
 mesh : p* : h : h : Out(h,p)
 mesh : p+ : h : - : Out(h,p)
 mesh : ^q? : h : h : In(q,h)
 mesh : p/q : h : - : Out(h,p)
-# literals, and the order of terms
+== literals, and the order of terms
 none : n* : x : x : Out(x,n)
 many : p : a : bcxy : Out(a,p)
 many : p : x : - : Out(x,p)
@@ -163,9 +163,9 @@ many : ^p : x : ad : In(p,x)
 many : p/^p : d : ad : Out(d,p) In(p,x)
 many : (p/^p)* : d : ad : Out(ad,p) In(p,bcxy)
 many : p? : a : abcxy : Out(a,p)
-# a predicate that is a node
+== a predicate that is a node
 odd : p/^q : a : p : Out(a,p) In(q,b)
-# SHACL instances
+== SHACL instances
 types : @ : a : bcd : Out(a,T) Out(bcd,C)
 types : ^@ : d : a : In(C,bcd) In(T,bcd)
 types : @ : b : - : Out(b,T)

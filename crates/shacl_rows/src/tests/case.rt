@@ -1,6 +1,20 @@
+ghost use Rattle.std.specs.Prelude.{IfOk};
 ghost use Rattle.shx_term.specs.Limits.{AreUsable};
 
+use row_tools::{RowFault, number};
 use shx_term::Limits;
+
+// The marks of the parts of a block, behind `== `.
+const MARKS: [&str; 8] = [
+    "words\n",
+    "limits\n",
+    "outside\n",
+    "shapes\n",
+    "data\n",
+    "script\n",
+    "output\n",
+    "status ",
+];
 
 /// A run, and how it has to end.
 ///
@@ -8,70 +22,81 @@ use shx_term::Limits;
 /// `== limits` and `== outside` (a name and a number a line), `== shapes`, `== data`, `== script`,
 /// `== output` and `== status N`. A part that a block leaves out is that of the block that its table shares,
 /// and is else empty. A text that ends in `$` has no line feed at its end, and U+FFFF in it stands for the
-/// byte 255.
+/// byte 255. A block with another mark or another name cannot be read.
 #[derive(Clone, Copy)]
-pub(super) struct Case {
-    pub name: &'static str,
-    pub words: &'static str,
+pub(super) struct Case<'a> {
+    pub words: &'a str,
     pub limits: Limits,
-    pub outside: &'static str,
-    pub shapes: &'static str,
-    pub data: &'static str,
-    pub script: &'static str,
-    pub output: &'static str,
+    pub outside: &'a str,
+    pub shapes: &'a str,
+    pub data: &'a str,
+    pub script: &'a str,
+    pub output: &'a str,
     pub status: u8,
 }
 
-impl Case {
+impl<'a> Case<'a> {
     /// The run of a block without its mark `== run`, with the parts that the block leaves out from another.
-    pub fn of(block: &'static str, shared: &'static str) -> Case
-        ensures { AreUsable result.limits }
+    pub fn of(block: &'a str, shared: &'a str) -> Result<Case<'a>, RowFault>
+        ensures { IfOk result (λ case. AreUsable case.limits) }
     {
-        Case {
-            name: first_line(block),
+        if !has_known_marks(block) || !has_known_marks(shared) {
+            return Err(RowFault::Unread);
+        }
+        Ok(Case {
             words: words_of(block, shared),
-            limits: limits_of(part(block, shared, "== limits\n")),
+            limits: limits_of(part(block, shared, "== limits\n"))?,
             outside: part(block, shared, "== outside\n"),
             shapes: part(block, shared, "== shapes\n"),
             data: part(block, shared, "== data\n"),
             script: part(block, shared, "== script\n"),
             output: part(block, shared, "== output\n"),
-            status: part(block, shared, "== status ")
-                .trim_end()
-                .parse()
-                .unwrap_or(u8::MAX),
-        }
+            status: status_of(part(block, shared, "== status "))?,
+        })
     }
 }
 
-fn first_line(block: &'static str) -> &'static str {
+/// The name of a run, which stands before its parts.
+pub(super) fn name_of(block: &'static str) -> &'static str {
     match block.split_once('\n') {
-        Some((line, _)) => line,
+        Some((name, _)) => name,
         None => block,
     }
 }
 
-// The names of the texts, where no words are given.
-fn words_of(block: &'static str, shared: &'static str) -> &'static str {
-    if let Some(words) = part_of(block, "== words\n") {
-        return words;
-    }
-    if part_of(block, "== script\n").is_some() || part_of(shared, "== script\n").is_some() {
-        return "shapes\ndata\nscript\n";
-    }
-    "shapes\ndata\n"
+fn begins_with_any(text: &str, fronts: &[&str]) -> bool {
+    fronts.iter().any(|front| text.starts_with(*front))
 }
 
-fn part(block: &'static str, shared: &'static str, mark: &str) -> &'static str {
-    match (part_of(block, mark), part_of(shared, mark)) {
-        (Some(text), _) => text,
-        (None, Some(text)) => text,
-        (None, None) => "",
+fn has_known_marks(block: &str) -> bool {
+    let Some((_, parts)) = block.split_once("== ") else {
+        return true;
+    };
+    parts.split("== ").all(|part| begins_with_any(part, &MARKS))
+}
+
+// The names of the texts, where no words are given.
+fn words_of<'a>(block: &'a str, shared: &'a str) -> &'a str {
+    match part_of(block, shared, "== words\n") {
+        Some(words) => words,
+        None if part_of(block, shared, "== script\n").is_some() => "shapes\ndata\nscript\n",
+        None => "shapes\ndata\n",
+    }
+}
+
+fn part<'a>(block: &'a str, shared: &'a str, mark: &str) -> &'a str {
+    part_of(block, shared, mark).unwrap_or("")
+}
+
+fn part_of<'a>(block: &'a str, shared: &'a str, mark: &str) -> Option<&'a str> {
+    match behind(block, mark) {
+        Some(text) => Some(text),
+        None => behind(shared, mark),
     }
 }
 
 // What stands behind a mark, up to the next one.
-fn part_of(block: &'static str, mark: &str) -> Option<&'static str> {
+fn behind<'a>(block: &'a str, mark: &str) -> Option<&'a str> {
     let (_, rest) = block.split_once(mark)?;
     let text = match rest.split_once("== ") {
         Some((text, _)) => text,
@@ -83,26 +108,44 @@ fn part_of(block: &'static str, mark: &str) -> Option<&'static str> {
     }
 }
 
+fn status_of(digits: &str) -> Result<u8, RowFault> {
+    match digits.trim_end().parse::<u8>() {
+        Ok(status) => Ok(status),
+        Err(_) => Err(RowFault::Unread),
+    }
+}
+
 /// The limits of the program, but for those that lines name.
-fn limits_of(lines: &str) -> Limits
-    ensures { AreUsable result }
+fn limits_of(lines: &str) -> Result<Limits, RowFault>
+    ensures { IfOk result AreUsable }
 {
+    let names = ["text ", "script ", "line ", "triples ", "terms ", "depth "];
+    are_named(lines, &names)?;
     let mut limits = Limits::program();
-    limits.text = number(lines, "text ", limits.text).max(1);
-    limits.script = number(lines, "script ", limits.script).max(1);
-    limits.line = number(lines, "line ", limits.line).max(1);
-    limits.triples = number(lines, "triples ", limits.triples).max(1);
-    limits.terms = number(lines, "terms ", 16_000_000).clamp(62, 16_000_000) as u32;
-    limits.turtle_depth = number(lines, "depth ", 128).clamp(1, 128) as u32;
-    limits
+    limits.text = number_behind(lines, "text ", limits.text)?.max(1);
+    limits.script = number_behind(lines, "script ", limits.script)?.max(1);
+    limits.line = number_behind(lines, "line ", limits.line)?.max(1);
+    limits.triples = number_behind(lines, "triples ", limits.triples)?.max(1);
+    limits.terms = number_behind(lines, "terms ", 16_000_000)?.clamp(62, 16_000_000) as u32;
+    limits.turtle_depth = number_behind(lines, "depth ", 128)?.clamp(1, 128) as u32;
+    Ok(limits)
+}
+
+/// Refuses lines that begin with none of these names.
+pub(super) fn are_named(lines: &str, names: &[&str]) -> Result<(), RowFault> {
+    if lines.lines().all(|line| begins_with_any(line, names)) {
+        Ok(())
+    } else {
+        Err(RowFault::Unread)
+    }
 }
 
 /// The number behind a name at the start of a line, or another where no line begins so.
-pub(super) fn number(lines: &str, name: &str, other: u64) -> u64 {
+pub(super) fn number_behind(lines: &str, name: &str, other: u64) -> Result<u64, RowFault> {
     for line in lines.lines() {
         if let Some(digits) = line.strip_prefix(name) {
-            return digits.parse().unwrap_or(other);
+            return Ok(u64::from(number(digits)?));
         }
     }
-    other
+    Ok(other)
 }

@@ -1,13 +1,7 @@
 //! Texts of Turtle: prefixes, bases, white space, and scripts behind them.
+use super::rows::ONE_RESULT;
 use super::runs::all_end_as_due;
 use std::test::Fail;
-
-const ONE_RESULT: &str = "\
-== output
-report conforms=false results=1
-result HasValue Violation <http://e/S> <http://e/a> <http://e/p> -
-== status 1
-";
 
 // One shapes graph, spelled in many ways.
 const SPELLINGS: &str = "\
@@ -166,12 +160,15 @@ fn references_are_resolved(rt: HostRuntime) -> Result<(), Fail> {
     all_end_as_due(&rt, "", REFERENCES)
 }
 
-const SCRIPTS: &str = "\
-== run an insertion of what prefixes spelled
+const SHAPES: &str = "\
 == shapes
 @prefix sh: <http://www.w3.org/ns/shacl#> .
 @prefix e: <http://e/> .
 e:S sh:targetNode e:a ; sh:path e:p ; sh:hasValue e:b .
+";
+
+const SCRIPTS: &str = "\
+== run an insertion of what prefixes spelled
 == script
 insert <http://e/a> <http://e/p> <http://e/b> .
 report
@@ -182,10 +179,6 @@ ok changed
 report conforms=true results=0
 == status 0
 == run an insertion of what is there
-== shapes
-@prefix sh: <http://www.w3.org/ns/shacl#> .
-@prefix e: <http://e/> .
-e:S sh:targetNode e:a ; sh:path e:p ; sh:hasValue e:b .
 == data
 @base <http://e/> . <a> <p> <b> , <c> ; a <T> .
 == script
@@ -221,10 +214,6 @@ ok changed
 report conforms=true results=0
 == status 0
 == run prefixes of the texts are none of the script
-== shapes
-@prefix sh: <http://www.w3.org/ns/shacl#> .
-@prefix e: <http://e/> .
-e:S sh:targetNode e:a ; sh:path e:p ; sh:hasValue e:b .
 == data
 @prefix e: <http://e/> .
 == script
@@ -240,5 +229,5 @@ refused line 2: 59 NotBuilt
 
 #[test]
 fn scripts_over_documents(rt: HostRuntime) -> Result<(), Fail> {
-    all_end_as_due(&rt, "", SCRIPTS)
+    all_end_as_due(&rt, SHAPES, SCRIPTS)
 }

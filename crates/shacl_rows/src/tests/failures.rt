@@ -1,19 +1,20 @@
+ghost use Rattle.std.specs.Prelude.{IfOk};
 ghost use Rattle.shx_term.specs.Limits.{AreUsable};
 
 use super::case::Case;
 use super::outside::Outside;
 use super::rows::FIRST_RUN;
 use super::runs::run_in;
+use row_tools::{RowFault, first_other, in_three, number};
 use shacl_run::Status;
-use shx_outside::Memory;
 use std::alloc::Global;
 use std::process::Abort;
 use std::test::Fail;
 
 // The first run with one triple more. The shapes have 196 bytes, the data 41, the first line of the script 48
 // and the script 55.
-fn first_run() -> Case
-    ensures { AreUsable result.limits }
+fn first_run() -> Result<Case<'static>, RowFault>
+    ensures { IfOk result (λ case. AreUsable case.limits) }
 {
     let block = "\
 == data
@@ -72,52 +73,27 @@ const NEVER: &str = "\
 4096 10 10
 ";
 
-// The next number of a row, and the rest of the row.
-fn next_number(row: &str) -> (u64, &str) {
-    let (digits, rest) = row.split_once(' ').unwrap_or((row, ""));
-    (digits.parse().unwrap_or(0), rest)
+fn with_failing_call(read_bytes: u64, failing_call: u64) -> Outside {
+    Outside {
+        read_bytes,
+        failing_call,
+        put_bytes: 4096,
+        failing_put: 0,
+    }
 }
 
-// The first of some failing calls with which the run ends in another way, or 0.
-fn first_other_call(
-    alloc: Global,
-    read_bytes: u64,
-    first: u64,
-    last: u64,
-    output: &str,
-    status: u8,
-) -> Result<u64, Memory> {
-    let case = first_run();
-    for failing_call in first..=last {
-        let outside = Outside {
-            read_bytes,
-            failing_call,
-            put_bytes: 4096,
-            failing_put: 0,
-        };
+// Whether the run ends so with each failing call of a row.
+fn ends_so(alloc: Global, row: &str, output: &str, status: u8) -> Result<bool, RowFault> {
+    let (read_bytes, first, last) = in_three(row, " ")?;
+    let read_bytes = u64::from(number(read_bytes)?);
+    let case = first_run()?;
+    for failing_call in number(first)?..=number(last)? {
+        let outside = with_failing_call(read_bytes, u64::from(failing_call));
         if !run_in(alloc, &case, outside)?.is(output, status) {
-            return Ok(failing_call);
+            return Ok(false);
         }
     }
-    Ok(0)
-}
-
-// The first row of failing calls with one of which the run ends in another way, or nothing.
-fn first_other_row(
-    alloc: Global,
-    rows: &'static str,
-    output: &str,
-    status: u8,
-) -> Result<&'static str, Memory> {
-    for row in rows.lines() {
-        let (read_bytes, rest) = next_number(row);
-        let (first, rest) = next_number(rest);
-        let (last, _) = next_number(rest);
-        if first_other_call(alloc, read_bytes, first, last, output, status)? != 0 {
-            return Ok(row);
-        }
-    }
-    Ok("")
+    Ok(true)
 }
 
 // Runs with each failing call of some rows, and stops the test with the first row of which a run ends in
@@ -125,10 +101,12 @@ fn first_other_row(
 fn each_ends_so<R: Abort + AllocGlobal>(
     rt: &R,
     rows: &'static str,
-    output: &str,
+    output: &'static str,
     status: u8,
 ) -> Result<(), Fail> {
-    let other = first_other_row(rt.alloc(), rows, output, status)?;
+    let other = first_other(rt.alloc(), rows, move |alloc, row| {
+        ends_so(alloc, row, output, status)
+    })?;
     assert_eq!(rt; other, "");
     Ok(())
 }
@@ -150,12 +128,12 @@ fn calls_for_the_second_line_fail(rt: HostRuntime) -> Result<(), Fail> {
 
 #[test]
 fn the_call_at_the_end_fails(rt: HostRuntime) -> Result<(), Fail> {
-    each_ends_so(&rt, BEFORE_THE_END, first_run().output, INPUT_FAULT)
+    each_ends_so(&rt, BEFORE_THE_END, first_run()?.output, INPUT_FAULT)
 }
 
 #[test]
 fn no_further_call_is_made(rt: HostRuntime) -> Result<(), Fail> {
-    each_ends_so(&rt, NEVER, first_run().output, CONFORMS)
+    each_ends_so(&rt, NEVER, first_run()?.output, CONFORMS)
 }
 
 fn with_failing_put(put_bytes: u64, failing_put: u64) -> Outside {
@@ -168,7 +146,7 @@ fn with_failing_put(put_bytes: u64, failing_put: u64) -> Outside {
 }
 
 // Whether the run ends with a fault of the sink and has put a proper front of its output.
-fn stops_short(alloc: Global, case: &Case, outside: Outside) -> Result<bool, Memory>
+fn stops_short(alloc: Global, case: &Case, outside: Outside) -> Result<bool, RowFault>
     requires { AreUsable case.now.limits }
 {
     let ended = run_in(alloc, case, outside)?;
@@ -181,8 +159,8 @@ fn stops_short(alloc: Global, case: &Case, outside: Outside) -> Result<bool, Mem
 }
 
 // The first of so many puts with whose failure the run does not stop short, or 0.
-fn first_other_put(alloc: Global, put_bytes: u64, puts: u64) -> Result<u64, Memory> {
-    let case = first_run();
+fn first_other_put(alloc: Global, put_bytes: u64, puts: u64) -> Result<u64, RowFault> {
+    let case = first_run()?;
     for put in 1..=puts {
         if !stops_short(alloc, &case, with_failing_put(put_bytes, put))? {
             return Ok(put);
@@ -192,12 +170,12 @@ fn first_other_put(alloc: Global, put_bytes: u64, puts: u64) -> Result<u64, Memo
 }
 
 // Whether the run makes so many puts: each of them can fail, and none behind them is made.
-fn makes_puts(alloc: Global, put_bytes: u64, puts: u64) -> Result<bool, Memory> {
+fn makes_puts(alloc: Global, put_bytes: u64, puts: u64) -> Result<bool, RowFault> {
     if first_other_put(alloc, put_bytes, puts)? != 0 {
         return Ok(false);
     }
     let outside = with_failing_put(put_bytes, puts.saturating_add(1));
-    let case = first_run();
+    let case = first_run()?;
     let ended = run_in(alloc, &case, outside)?;
     Ok(ended.is(case.output, case.status))
 }
@@ -213,8 +191,8 @@ fn each_put_fails(rt: HostRuntime) -> Result<(), Fail> {
 }
 
 // The first of so many puts of one byte whose failure leaves more or fewer bytes than came before it, or 0.
-fn first_other_front(alloc: Global, puts: u64) -> Result<u64, Memory> {
-    let case = first_run();
+fn first_other_front(alloc: Global, puts: u64) -> Result<u64, RowFault> {
+    let case = first_run()?;
     for put in 1..=puts {
         let ended = run_in(alloc, &case, with_failing_put(1, put))?;
         if ended.sink.bytes().len() as u64 != put - 1 {

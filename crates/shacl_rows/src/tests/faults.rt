@@ -1,12 +1,12 @@
 //! Texts of Turtle with a fault, in the place of the shapes and of the data.
+ghost use Rattle.std.specs.Prelude.{IfOk};
 ghost use Rattle.shx_term.specs.Limits.{AreUsable};
 
 use super::case::Case;
 use super::outside::Outside;
 use super::runs::run_in;
-use shx_outside::Memory;
+use row_tools::{RowFault, cut, first_other};
 use std::alloc::Global;
-use std::process::Abort;
 use std::test::Fail;
 
 // The fault that is due, with its byte, and the text. U+FFFF stands for the byte 255.
@@ -66,55 +66,44 @@ const FAULTS: &str = "\
 1 NotUtf8 at 6: $ e:a \u{ffff} 1e0
 ";
 
-// The fault and the text of a row.
-fn cut(row: &'static str) -> (&'static str, &'static str) {
-    row.split_once(": ").unwrap_or((row, ""))
-}
-
 // A run over shapes, where no data is held.
-fn with_shapes(text: &'static str) -> Case
-    ensures { AreUsable result.limits }
+fn with_shapes(text: &str) -> Result<Case<'_>, RowFault>
+    ensures { IfOk result (λ case. AreUsable case.limits) }
 {
-    let mut case = Case::of("", "== words\nshapes\nother\n");
+    let mut case = Case::of("", "== words\nshapes\nother\n== status 3\n")?;
     case.shapes = text;
-    case
+    Ok(case)
 }
 
 // A run over data, where no script is held.
-fn with_data(text: &'static str) -> Case
-    ensures { AreUsable result.limits }
+fn with_data(text: &str) -> Result<Case<'_>, RowFault>
+    ensures { IfOk result (λ case. AreUsable case.limits) }
 {
-    let mut case = Case::of("", "== words\nshapes\ndata\nother\n");
+    let mut case = Case::of("", "== words\nshapes\ndata\nother\n== status 3\n")?;
     case.data = text;
-    case
+    Ok(case)
 }
 
 // Whether the run ends with a fault of the text in this place.
-fn is_refused(alloc: Global, case: &Case, role: &str, fault: &str) -> Result<bool, Memory>
+fn is_refused(alloc: Global, case: &Case, role: &str, fault: &str) -> Result<bool, RowFault>
     requires { AreUsable case.now.limits }
 {
     let wanted = format!(in alloc; "fault {role}: {fault}\n")?;
-    let ended = run_in(alloc, case, Outside::of(""))?;
-    Ok(ended.is(wanted.as_str(), 3))
+    let ended = run_in(alloc, case, Outside::of("")?)?;
+    Ok(ended.is(wanted.as_str(), case.status))
 }
 
-// The first row of which a run ends in another way, or nothing.
-fn first_other(alloc: Global) -> Result<&'static str, Memory> {
-    for row in FAULTS.lines() {
-        let (fault, text) = cut(row);
-        if !is_refused(alloc, &with_shapes(text), "shapes", fault)? {
-            return Ok(row);
-        }
-        if !is_refused(alloc, &with_data(text), "data", fault)? {
-            return Ok(row);
-        }
-    }
-    Ok("")
+// Whether the row's text is refused in both places.
+fn is_refused_as_said(alloc: Global, row: &str) -> Result<bool, RowFault> {
+    let (fault, text) = cut(row, ": ")?;
+    Ok(
+        is_refused(alloc, &with_shapes(text)?, "shapes", fault)?
+            && is_refused(alloc, &with_data(text)?, "data", fault)?,
+    )
 }
 
 #[test]
 fn texts_have_their_faults(rt: HostRuntime) -> Result<(), Fail> {
-    let other = first_other(rt.alloc())?;
-    assert_eq!(rt; other, "");
+    assert_eq!(rt; first_other(rt.alloc(), FAULTS, is_refused_as_said)?, "");
     Ok(())
 }

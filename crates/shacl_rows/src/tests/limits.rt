@@ -1,3 +1,4 @@
+use super::rows::CONFORMS;
 use super::runs::all_end_as_due;
 use std::test::Fail;
 
@@ -54,12 +55,6 @@ fault shapes: 8 TooManyTriples at 186
 fn shapes_within_limits(rt: HostRuntime) -> Result<(), Fail> {
     all_end_as_due(&rt, FIRST_SHAPES, SHAPES_TEXTS)
 }
-
-const NO_SHAPES: &str = "\
-== output
-report conforms=true results=0
-== status 0
-";
 
 // A line of these texts has 20 bytes, and a line more of them one term more. Where a line is one too many,
 // the fault stands at its start.
@@ -209,12 +204,12 @@ fault data: 2 Syntax at 20
 
 #[test]
 fn statements_within_limits(rt: HostRuntime) -> Result<(), Fail> {
-    all_end_as_due(&rt, NO_SHAPES, STATEMENTS)
+    all_end_as_due(&rt, CONFORMS, STATEMENTS)
 }
 
 #[test]
 fn data_within_limits(rt: HostRuntime) -> Result<(), Fail> {
-    all_end_as_due(&rt, NO_SHAPES, DATA_TEXTS)
+    all_end_as_due(&rt, CONFORMS, DATA_TEXTS)
 }
 
 // The terms of the shapes are held with those of the data.

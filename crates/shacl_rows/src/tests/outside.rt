@@ -1,6 +1,7 @@
 ghost use Rattle.std.specs.Prelude.{◌<◌};
 
-use super::case::{Case, number};
+use super::case::{Case, are_named, number_behind};
+use row_tools::RowFault;
 use shx_outside::{Bytes, Memory, MemoryInputs, MemorySink, Name, NamedText};
 use std::alloc::Global;
 
@@ -17,13 +18,15 @@ pub(super) struct Outside {
 impl Outside {
     /// The outside that lines describe: pieces of 64 bytes in, 4,096 out and no failures, but for what they
     /// name.
-    pub fn of(lines: &str) -> Outside {
-        Outside {
-            read_bytes: number(lines, "read bytes ", 64),
-            failing_call: number(lines, "failing call ", 0),
-            put_bytes: number(lines, "put bytes ", 4096),
-            failing_put: number(lines, "failing put ", 0),
-        }
+    pub fn of(lines: &str) -> Result<Outside, RowFault> {
+        let names = ["read bytes ", "failing call ", "put bytes ", "failing put "];
+        are_named(lines, &names)?;
+        Ok(Outside {
+            read_bytes: number_behind(lines, "read bytes ", 64)?,
+            failing_call: number_behind(lines, "failing call ", 0)?,
+            put_bytes: number_behind(lines, "put bytes ", 4096)?,
+            failing_put: number_behind(lines, "failing put ", 0)?,
+        })
     }
 
     /// Inputs that hold the texts of a case.

@@ -18,6 +18,21 @@ report conforms=true results=0
 == status 0
 ";
 
+/// The end of a run whose report has no result.
+pub(super) const CONFORMS: &str = "\
+== output
+report conforms=true results=0
+== status 0
+";
+
+/// The end of a run whose report has one result, of the first run's shape.
+pub(super) const ONE_RESULT: &str = "\
+== output
+report conforms=false results=1
+result HasValue Violation <http://e/S> <http://e/a> <http://e/p> -
+== status 1
+";
+
 #[test]
 fn first_run(rt: HostRuntime) -> Result<(), Fail> {
     let table = "\
@@ -78,12 +93,6 @@ report conforms=true results=0
 ";
     all_end_as_due(&rt, "", table)
 }
-
-const CONFORMS: &str = "\
-== output
-report conforms=true results=0
-== status 0
-";
 
 #[test]
 fn wide_and_float_literals(rt: HostRuntime) -> Result<(), Fail> {

@@ -1,12 +1,13 @@
 ghost use Rattle.std.specs.Prelude.{◌≡◌};
 ghost use Rattle.shx_term.specs.Limits.{AreUsable};
 
-use super::case::Case;
+use super::case::{Case, name_of};
 use super::outside::Outside;
+use row_tools::RowFault;
 use shacl_run::{Status, run};
 use shx_outside::{Memory, MemoryInputs, MemorySink, RegexHost};
 use shx_term::{Limits, Steps, Text};
-use std::alloc::Global;
+use std::alloc::{AllocError, Global};
 use std::marker::Brand;
 use std::process::Abort;
 use std::sync::ledger::{Blank, Ledger};
@@ -87,11 +88,16 @@ fn run_counted<L: Ledger, M: Ledger>(
 }
 
 /// Whether a case puts its output and ends with its status.
-pub(super) fn ends_as_due(alloc: Global, case: &Case) -> Result<bool, Memory>
+pub(super) fn ends_as_due(alloc: Global, case: &Case) -> Result<bool, RowFault>
     requires { AreUsable case.now.limits }
 {
-    let ended = run_in(alloc, case, Outside::of(case.outside))?;
+    let ended = run_in(alloc, case, Outside::of(case.outside)?)?;
     Ok(ended.is(case.output, case.status))
+}
+
+// Whether the run of a block, with the parts that it leaves out from another, ends as it has to.
+fn ends_as_said(alloc: Global, block: &str, shared: &str) -> Result<bool, RowFault> {
+    ends_as_due(alloc, &Case::of(block, shared)?)
 }
 
 // The name of the first run of a table that ends in another way than it has to, or nothing.
@@ -102,9 +108,10 @@ fn first_other(
 ) -> Result<&'static str, Memory> {
     for block in table.split("== run ") {
         if !block.is_empty() {
-            let case = Case::of(block, shared);
-            if !ends_as_due(alloc, &case)? {
-                return Ok(case.name);
+            match ends_as_said(alloc, block, shared) {
+                Ok(true) => {}
+                Ok(false) | Err(RowFault::Unread) => return Ok(name_of(block)),
+                Err(RowFault::Memory) => return Err(AllocError),
             }
         }
     }

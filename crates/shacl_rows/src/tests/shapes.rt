@@ -1,3 +1,4 @@
+use super::rows::CONFORMS;
 use super::runs::all_end_as_due;
 use std::test::Fail;
 
@@ -127,12 +128,6 @@ fault shapes: 6 WideValue at 44
 fn shapes_with_faults(rt: HostRuntime) -> Result<(), Fail> {
     all_end_as_due(&rt, REFUSED, FAULTY)
 }
-
-const CONFORMS: &str = "\
-== output
-report conforms=true results=0
-== status 0
-";
 
 const CONFORMING: &str = "\
 == run an empty line

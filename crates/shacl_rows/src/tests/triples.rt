@@ -1,10 +1,8 @@
-ghost use Rattle.shx_term.specs.Limits.{AreUsable};
-
 use super::case::Case;
+use super::rows::CONFORMS;
 use super::runs::ends_as_due;
-use shx_outside::Memory;
+use row_tools::{RowFault, first_other};
 use std::alloc::Global;
-use std::process::Abort;
 use std::test::Fail;
 
 const LINE_REFUSED: &str = "\
@@ -13,12 +11,6 @@ const LINE_REFUSED: &str = "\
 report conforms=true results=0
 refused line 1: 59 NotBuilt
 == status 7
-";
-
-const DATA_TAKEN: &str = "\
-== output
-report conforms=true results=0
-== status 0
 ";
 
 const LINE_TAKEN: &str = "\
@@ -98,63 +90,47 @@ insert <Az9+-.:a> <a:p> <Z:b> .
 insert <e:!#$%&'()*+,-./> <e:0123456789:;=?@> <e:AZ[]_az~> .
 ";
 
-// A run over a line as a script, or over the text behind its `insert ` as the data.
-fn with_line(block: &'static str, is_script: bool, line: &'static str) -> Case
-    ensures { AreUsable result.limits }
-{
-    let mut case = Case::of("", block);
-    if is_script {
-        case.script = line;
-    } else {
-        case.data = line.strip_prefix("insert ").unwrap_or("");
-    }
-    case
+// Whether the run of a block over the line as a script ends as it has to.
+fn is_answered<'a>(alloc: Global, block: &'a str, line: &'a str) -> Result<bool, RowFault> {
+    let mut case = Case::of("", block)?;
+    case.script = line;
+    ends_as_due(alloc, &case)
 }
 
-// The first line with which the run ends in another way than it has to, or nothing.
-fn first_other(
-    alloc: Global,
-    block: &'static str,
-    is_script: bool,
-    lines: &'static str,
-) -> Result<&'static str, Memory> {
-    for line in lines.split_terminator('\n') {
-        if !ends_as_due(alloc, &with_line(block, is_script, line))? {
-            return Ok(line);
-        }
-    }
-    Ok("")
+// Whether the text behind the line's `insert ` is taken as the data.
+fn is_taken(alloc: Global, line: &str) -> Result<bool, RowFault> {
+    let text = line.strip_prefix("insert ").ok_or(RowFault::Unread)?;
+    let mut case = Case::of("", CONFORMS)?;
+    case.data = text;
+    ends_as_due(alloc, &case)
 }
 
-fn each_line_ends_so<R: Abort + AllocGlobal>(
-    rt: &R,
-    block: &'static str,
-    lines: &'static str,
-) -> Result<(), Fail> {
-    let other = first_other(rt.alloc(), block, true, lines)?;
-    assert_eq!(rt; other, "");
-    Ok(())
+fn is_line_refused(alloc: Global, line: &str) -> Result<bool, RowFault> {
+    is_answered(alloc, LINE_REFUSED, line)
 }
 
-fn each_text_is_taken<R: Abort + AllocGlobal>(rt: &R, lines: &'static str) -> Result<(), Fail> {
-    let other = first_other(rt.alloc(), DATA_TAKEN, false, lines)?;
-    assert_eq!(rt; other, "");
-    Ok(())
+fn is_line_taken(alloc: Global, line: &str) -> Result<bool, RowFault> {
+    is_answered(alloc, LINE_TAKEN, line)
 }
 
 #[test]
 fn lines_that_are_no_triples_are_refused(rt: HostRuntime) -> Result<(), Fail> {
-    each_line_ends_so(&rt, LINE_REFUSED, TURTLE)?;
-    each_line_ends_so(&rt, LINE_REFUSED, NO_TRIPLES)
+    let alloc = rt.alloc();
+    assert_eq!(rt; first_other(alloc, TURTLE, is_line_refused)?, "");
+    assert_eq!(rt; first_other(alloc, NO_TRIPLES, is_line_refused)?, "");
+    Ok(())
 }
 
 #[test]
 fn triples_are_taken(rt: HostRuntime) -> Result<(), Fail> {
-    each_line_ends_so(&rt, LINE_TAKEN, TRIPLES)?;
-    each_text_is_taken(&rt, TRIPLES)
+    let alloc = rt.alloc();
+    assert_eq!(rt; first_other(alloc, TRIPLES, is_line_taken)?, "");
+    assert_eq!(rt; first_other(alloc, TRIPLES, is_taken)?, "");
+    Ok(())
 }
 
 #[test]
 fn texts_are_turtle(rt: HostRuntime) -> Result<(), Fail> {
-    each_text_is_taken(&rt, TURTLE)
+    assert_eq!(rt; first_other(rt.alloc(), TURTLE, is_taken)?, "");
+    Ok(())
 }

@@ -1,19 +1,7 @@
 //! Terms of the shapes that the data has, or has not.
+use super::rows::{CONFORMS, ONE_RESULT};
 use super::runs::all_end_as_due;
 use std::test::Fail;
-
-const ONE_RESULT: &str = "\
-== output
-report conforms=false results=1
-result HasValue Violation <http://e/S> <http://e/a> <http://e/p> -
-== status 1
-";
-
-const CONFORMS: &str = "\
-== output
-report conforms=true results=0
-== status 0
-";
 
 const HELD_VALUES: &str = "\
 == run a tag in another case

@@ -1,7 +1,8 @@
 mod orders;
 mod values;
 
-use super::made::{cut, datatype_iri, literal};
+use super::made::{literal, term_of};
+use row_tools::{RowFault, cut, first_other, in_four, in_three};
 use shx_term::{IriText, Literal, Memory};
 use std::alloc::Global;
 use std::test::Fail;
@@ -45,27 +46,16 @@ fn seen(alloc: Global, literal: &Literal) -> Result<String, Memory> {
 }
 
 // Whether a row's literal has the value that the row says.
-fn has_value(alloc: Global, row: &str) -> Result<bool, Memory> {
-    let (lexical, rest) = cut(row);
-    let (datatype, value) = cut(rest);
-    let literal = literal(alloc, lexical, datatype)?;
-    let seen = seen(alloc, &literal)?;
+fn has_value(alloc: Global, row: &str) -> Result<bool, RowFault> {
+    let (lexical, datatype, value) = in_three(row, "|")?;
+    let made = term_of(alloc, lexical, datatype)?;
+    let seen = seen(alloc, literal(&made)?)?;
     Ok(seen.as_str() == value)
-}
-
-// The first row whose literal has another value.
-fn first_other_value(alloc: Global, rows: &'static str) -> Result<&'static str, Memory> {
-    for row in rows.lines() {
-        if !has_value(alloc, row)? {
-            return Ok(row);
-        }
-    }
-    Ok("")
 }
 
 #[test]
 fn numbers_have_their_values(rt: HostRuntime) -> Result<(), Fail> {
-    assert_eq!(rt; first_other_value(rt.alloc(), values::NUMBERS)?, "");
+    assert_eq!(rt; first_other(rt.alloc(), values::NUMBERS, has_value)?, "");
     Ok(())
 }
 
@@ -77,19 +67,19 @@ fn a_line_feed_is_no_digit(rt: HostRuntime) -> Result<(), Fail> {
 
 #[test]
 fn other_literals_have_their_values(rt: HostRuntime) -> Result<(), Fail> {
-    assert_eq!(rt; first_other_value(rt.alloc(), values::OTHERS)?, "");
+    assert_eq!(rt; first_other(rt.alloc(), values::OTHERS, has_value)?, "");
     Ok(())
 }
 
 #[test]
 fn moments_have_their_values(rt: HostRuntime) -> Result<(), Fail> {
-    assert_eq!(rt; first_other_value(rt.alloc(), values::MOMENTS)?, "");
+    assert_eq!(rt; first_other(rt.alloc(), values::MOMENTS, has_value)?, "");
     Ok(())
 }
 
 #[test]
 fn ill_typed_byte(rt: HostRuntime) -> Result<(), Fail> {
-    assert_eq!(rt; first_other_value(rt.alloc(), "300|byte|ill")?, "");
+    assert_eq!(rt; first_other(rt.alloc(), "300|byte|ill", has_value)?, "");
     Ok(())
 }
 
@@ -110,87 +100,66 @@ fn how(a: &Literal, b: &Literal) -> &'static str {
     order_name(less(a, b), less_eq(a, b))
 }
 
-fn turned(order: &str) -> &str {
+fn turned(order: &str) -> Result<&str, RowFault> {
     match order {
-        "less" => "greater",
-        "greater" => "less",
-        _ => order,
+        "less" => Ok("greater"),
+        "greater" => Ok("less"),
+        "equal" | "none" | "wide" => Ok(order),
+        _ => Err(RowFault::Unread),
     }
+}
+
+fn compare_as_said(first: &Literal, second: &Literal, order: &str) -> Result<bool, RowFault> {
+    Ok(how(first, second) == order && how(second, first) == turned(order)?)
 }
 
 // Whether a row's literals compare as the row says, in this and in the other direction.
-fn has_order(alloc: Global, row: &str) -> Result<bool, Memory> {
-    let (a, rest) = cut(row);
-    let (datatype_a, rest) = cut(rest);
-    let (b, rest) = cut(rest);
-    let (datatype_b, order) = cut(rest);
-    let first = literal(alloc, a, datatype_a)?;
-    let second = literal(alloc, b, datatype_b)?;
-    Ok(how(&first, &second) == order && how(&second, &first) == turned(order))
-}
-
-// The first row whose literals compare in another way.
-fn first_other_order(alloc: Global, rows: &'static str) -> Result<&'static str, Memory> {
-    for row in rows.lines() {
-        if !has_order(alloc, row)? {
-            return Ok(row);
-        }
-    }
-    Ok("")
+fn has_order(alloc: Global, row: &str) -> Result<bool, RowFault> {
+    let (a, datatype_a, b, rest) = in_four(row, "|")?;
+    let (datatype_b, order) = cut(rest, "|")?;
+    let first = term_of(alloc, a, datatype_a)?;
+    let second = term_of(alloc, b, datatype_b)?;
+    compare_as_said(literal(&first)?, literal(&second)?, order)
 }
 
 #[test]
 fn values_compare(rt: HostRuntime) -> Result<(), Fail> {
-    assert_eq!(rt; first_other_order(rt.alloc(), orders::VALUES)?, "");
+    assert_eq!(rt; first_other(rt.alloc(), orders::VALUES, has_order)?, "");
     Ok(())
 }
 
 #[test]
 fn moments_compare(rt: HostRuntime) -> Result<(), Fail> {
-    assert_eq!(rt; first_other_order(rt.alloc(), orders::MOMENTS)?, "");
+    assert_eq!(rt; first_other(rt.alloc(), orders::MOMENTS, has_order)?, "");
     Ok(())
 }
 
 #[test]
 fn less_than_per_pair_of_values(rt: HostRuntime) -> Result<(), Fail> {
     let rows = orders::LESS_THAN_PER_PAIR_OF_VALUES;
-    assert_eq!(rt; first_other_order(rt.alloc(), rows)?, "");
+    assert_eq!(rt; first_other(rt.alloc(), rows, has_order)?, "");
     Ok(())
 }
 
 #[test]
 fn zoned_against_unzoned(rt: HostRuntime) -> Result<(), Fail> {
     assert_eq!(rt;
-        first_other_order(rt.alloc(), orders::ZONED_AGAINST_UNZONED)?,
+        first_other(rt.alloc(), orders::ZONED_AGAINST_UNZONED, has_order)?,
         ""
     );
     Ok(())
 }
 
 // Whether a row's literal compares with the bound as the row says.
-fn compares_with(alloc: Global, bound: &ReadLiteral, row: &str) -> Result<bool, Memory> {
-    let (lexical, rest) = cut(row);
-    let (datatype, order) = cut(rest);
-    let literal = literal(alloc, lexical, datatype)?;
-    if wide(&literal) {
+fn compares_with(alloc: Global, bound: &ReadLiteral, row: &str) -> Result<bool, RowFault> {
+    let (lexical, datatype, order) = in_three(row, "|")?;
+    let made = term_of(alloc, lexical, datatype)?;
+    let literal = literal(&made)?;
+    if wide(literal) {
         return Ok(order == "wide");
     }
-    let read = ReadLiteral::of(&literal);
+    let read = ReadLiteral::of(literal);
     Ok(order_name(read.less(bound), read.less_eq(bound)) == order)
-}
-
-// The first row whose literal compares with the bound in another way.
-fn first_other_by_bound(
-    alloc: Global,
-    bound: &ReadLiteral,
-    rows: &'static str,
-) -> Result<&'static str, Memory> {
-    for row in rows.lines() {
-        if !compares_with(alloc, bound, row)? {
-            return Ok(row);
-        }
-    }
-    Ok("")
 }
 
 // The first row that compares with a text in another way; the text is read once.
@@ -198,14 +167,17 @@ fn first_other_by_text(
     alloc: Global,
     bound: &str,
     rows: &'static str,
-) -> Result<&'static str, Memory> {
-    let bound = literal(alloc, bound, "string")?;
-    if wide(&bound) {
+) -> Result<&'static str, RowFault> {
+    let made = term_of(alloc, bound, "string")?;
+    let literal = literal(&made)?;
+    if wide(literal) {
         return Ok("wide");
     }
-    let read = ReadLiteral::of(&bound);
+    let read = ReadLiteral::of(literal);
     match read.value() {
-        Value::Text => first_other_by_bound(alloc, &read, rows),
+        Value::Text => Ok(first_other(alloc, rows, move |alloc, row| {
+            compares_with(alloc, &read, row)
+        })?),
         _ => Ok("no text"),
     }
 }
@@ -227,28 +199,19 @@ fn how_it_matches(literal: &Literal, datatype: &IriText) -> &'static str {
     }
 }
 
-// Whether a row's literal matches the row's datatype as the row says.
-fn matches_as_said(alloc: Global, row: &str) -> Result<bool, Memory> {
-    let (lexical, rest) = cut(row);
-    let (datatype, rest) = cut(rest);
-    let (asked, answer) = cut(rest);
-    let literal = literal(alloc, lexical, datatype)?;
-    let asked = datatype_iri(alloc, asked)?;
-    Ok(how_it_matches(&literal, &asked) == answer)
-}
-
-// The first row whose literal matches in another way.
-fn first_other_match(alloc: Global, rows: &'static str) -> Result<&'static str, Memory> {
-    for row in rows.lines() {
-        if !matches_as_said(alloc, row)? {
-            return Ok(row);
-        }
-    }
-    Ok("")
+// Whether a row's literal matches the row's datatype, which another literal has, as the row says.
+fn matches_as_said(alloc: Global, row: &str) -> Result<bool, RowFault> {
+    let (lexical, datatype, asked, answer) = in_four(row, "|")?;
+    let first = term_of(alloc, lexical, datatype)?;
+    let other = term_of(alloc, "", asked)?;
+    Ok(how_it_matches(literal(&first)?, &literal(&other)?.datatype) == answer)
 }
 
 #[test]
 fn datatypes_match(rt: HostRuntime) -> Result<(), Fail> {
-    assert_eq!(rt; first_other_match(rt.alloc(), values::MATCHES)?, "");
+    assert_eq!(rt;
+        first_other(rt.alloc(), values::MATCHES, matches_as_said)?,
+        ""
+    );
     Ok(())
 }

@@ -5,8 +5,9 @@ ghost use Rattle.shx_term.specs.ValidTriples.{IsNotWide};
 mod counts;
 mod orders;
 
-use super::made::{cut, term};
-use shx_term::{Memory, Term};
+use super::made::term_of;
+use row_tools::{RowFault, cut, first_other, in_four};
+use shx_term::Term;
 use std::alloc::Global;
 use std::test::Fail;
 use value_space::{
@@ -46,28 +47,17 @@ fn how_they_compare(a: &Term, b: &Term) -> &'static str {
 }
 
 // Whether a row's terms compare as the row says.
-fn has_order(alloc: Global, row: &str) -> Result<bool, Memory> {
-    let (a, rest) = cut(row);
-    let (kind_a, rest) = cut(rest);
-    let (b, rest) = cut(rest);
-    let (kind_b, order) = cut(rest);
-    let first = term(alloc, a, kind_a)?;
-    let second = term(alloc, b, kind_b)?;
+fn has_order(alloc: Global, row: &str) -> Result<bool, RowFault> {
+    let (a, kind_a, b, rest) = in_four(row, "|")?;
+    let (kind_b, order) = cut(rest, "|")?;
+    let first = term_of(alloc, a, kind_a)?;
+    let second = term_of(alloc, b, kind_b)?;
     Ok(how_they_compare(&first, &second) == order)
-}
-
-fn first_other_order(alloc: Global) -> Result<&'static str, Memory> {
-    for row in orders::TERMS.lines() {
-        if !has_order(alloc, row)? {
-            return Ok(row);
-        }
-    }
-    Ok("")
 }
 
 #[test]
 fn terms_compare(rt: HostRuntime) -> Result<(), Fail> {
-    assert_eq!(rt; first_other_order(rt.alloc())?, "");
+    assert_eq!(rt; first_other(rt.alloc(), orders::TERMS, has_order)?, "");
     Ok(())
 }
 
@@ -93,26 +83,18 @@ fn how_many(count: usize, bound: &Term) -> (&'static str, &'static str) {
 }
 
 // Whether a row's count compares with its term as the row says.
-fn is_counted(alloc: Global, row: &str) -> Result<bool, Fail> {
-    let (count, rest) = cut(row);
-    let (form, rest) = cut(rest);
-    let (kind, answer) = cut(rest);
-    let bound = term(alloc, form, kind)?;
-    let (at_once, by_read) = how_many(count.parse::<usize>()?, &bound);
+fn is_counted(alloc: Global, row: &str) -> Result<bool, RowFault> {
+    let (count, form, kind, answer) = in_four(row, "|")?;
+    let Ok(count) = count.parse::<usize>() else {
+        return Err(RowFault::Unread);
+    };
+    let bound = term_of(alloc, form, kind)?;
+    let (at_once, by_read) = how_many(count, &bound);
     Ok(at_once == answer && by_read == answer)
-}
-
-fn first_other_count(alloc: Global) -> Result<&'static str, Fail> {
-    for row in counts::COUNTS.lines() {
-        if !is_counted(alloc, row)? {
-            return Ok(row);
-        }
-    }
-    Ok("")
 }
 
 #[test]
 fn counts_compare(rt: HostRuntime) -> Result<(), Fail> {
-    assert_eq!(rt; first_other_count(rt.alloc())?, "");
+    assert_eq!(rt; first_other(rt.alloc(), counts::COUNTS, is_counted)?, "");
     Ok(())
 }

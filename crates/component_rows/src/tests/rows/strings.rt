@@ -1,4 +1,4 @@
-//! Strings and language tags (SHACL, sections 4.4.1, 4.4.2, 4.4.4 and 4.4.5).
+//! Strings and language tags (SHACL, section 4.4).
 
 /// Code points of a lexical form or an IRI, of which `http://e/a` has ten; a blank node has no length.
 pub const MIN_LENGTH: &str = "\
@@ -37,6 +37,27 @@ MaxLength '4'^^integer | '2020-01-01'^^date 'true'^^boolean | '2020-01-01'^^date
 MaxLength '+3'^^integer | 'abc' 'abcd' | 'abcd'
 MaxLength '18446744073709551616'^^integer | 'a' | -
 MaxLength '99999999999999999999999999999999999999'^^integer | 'a' e:a data:x | data:x
+";
+
+/// A pattern, with its flags where it has some, against lexical forms and IRIs; a blank node matches nothing.
+pub const PATTERN: &str = "\
+Pattern 'a' | - | -
+Pattern 'a' | 'a' 'b' 'ba' 'A' | 'b' 'A'
+Pattern 'a' 'i' | 'a' 'b' 'ba' 'A' | 'b'
+Pattern '^a' | 'a' 'ba' 'ab' 'b' | 'ba' 'b'
+Pattern '' | data:x data#1 '' 'a' e:a | data:x data#1
+Pattern 'x' | data:x shapes:x 'x' | data:x shapes:x
+Pattern '^http://e/a$' | e:a e:b 'http://e/a' | e:b
+Pattern '5' | '5'^^integer '6'^^integer '15'^^byte | '6'^^integer
+Pattern 'en' | 'a'@en 'en'@de | 'a'@en
+Pattern 'string' | 'a' 'a'^^http://e/string 'string' | 'a' 'a'^^http://e/string
+Pattern '^.$' | 'a' '\u{e9}' '\u{1f600}' 'ab' '' | 'ab' ''
+Pattern '^\\d{3}-\\d{2}-\\d{4}$' | '123-45-6789' '987-65-432A' '124-35-6789' | '987-65-432A'
+Pattern '(?i)a' | 'A' 'b' | 'b'
+Pattern 'a#b' 'x' | 'a' 'b' 'a#b' | 'b'
+Pattern '^A$' 'ims' | 'a' 'A' 'aa' | 'aa'
+Pattern 'a|b' | 'c' 'b' 'a' 'C' | 'c' 'C'
+Pattern '(a*)*$' | 'a' 'aab' 'b' | -
 ";
 
 /// A range is the whole tag, or a front of it before a hyphen, without case in ASCII; `*` is every tag.

@@ -23,7 +23,41 @@ Class e:C | e:a | e:a | e:a 'p' e:C | e:a rdf:type
 Class e:C | e:a | e:a | e:a e:p e:b, e:a e:p e:b | e:a rdf:type
 Class e:C | e:a | e:a | e:a e:p | e:a rdf:type
 Datatype xsd:integer | '999999999999999999999999999999999999999'^^integer | -
-Pattern 'a' | 'a' | -
+Pattern 'a' | 'b' | -
+Pattern 'a' | 'a' | 'a'
+Pattern 'a' 'i' | 'A' | 'A'
+Pattern '' | data:x | -
+Pattern '(' | 'a' | 'a'
+Pattern e:a | 'a' | 'a'
+Regex 'a' | 'a' | -
+Not e:s 1 | e:a | e:a | - | - | -
+Not e:s 1 | e:a | - | - | - | 1: e:a
+Xone shapes:l 1 1 | e:a | - | - | - | 1: e:a
+Or shapes:l 1 2 | e:a | e:a | - | - | 2: e:a
+Property e:s 1 | e:a | e:a | - | - | -
+QualifiedMinCount '1'^^integer 1 2 | e:a | - | - | - | 1: e:a, 2: e:a
+Closed 'true'^^boolean | e:a | e:b | e:a e:p e:b | e:a
+Closed 'true'^^boolean | e:a | e:p=e:b | e:a e:p e:b | e:a e:p
+Closed 'true'^^boolean | e:a | e:q=e:b e:p=e:b | e:a e:p e:b, e:a e:q e:b | e:a
+Not e:s | e:a | - | - | - | 1: e:a
+Equals e:q | e:a | e:a | focus e:q e:b | focus e:q
+Equals e:q | e:a | e:b e:a | focus e:q e:b | focus e:q
+Equals e:q | - | e:b e:a | focus e:q e:a, focus e:q e:b | focus e:q
+Equals e:q | e:a | - | focus e:q e:a | -
+Equals e:q | e:a | - | focus e:q e:a | focus e:q, focus e:r
+Disjoint e:q | '01'^^integer | '01'^^integer | focus e:q '1'^^integer | focus e:q
+Disjoint e:q | e:a | - | focus e:q e:a | focus e:q
+Disjoint e:q | e:b e:a | e:a e:b | focus e:q e:a, focus e:q e:b | focus e:q
+LessThan e:q | '3'^^integer | '3'^^integer | focus e:q '1'^^integer, focus e:q '2'^^integer | focus e:q
+LessThan e:q | '3'^^integer | '1'^^integer '2'^^integer | focus e:q '1'^^integer, focus e:q '2'^^integer | \
+    focus e:q
+LessThan e:q | '3'^^integer | '3'^^integer | e:q focus '2'^^integer | focus e:q
+LessThan e:q | e:a | - | focus e:q '1'^^integer | focus e:q
+LessThan e:q | '1'^^integer | - | focus e:q '2'^^integer | focus
+LessThanOrEquals e:q | '1'^^integer | '1'^^integer | focus e:q '1'^^integer | focus e:q
+LessThanOrEquals e:q | 'x'^^integer | - | focus e:q 'x'^^integer | focus e:q
+LessThanOrEquals e:q 1 | - | - | - | focus e:q
+LessThan e:q e:a | - | - | - | focus e:q
 Minimum '1'^^integer | - | none
 MinCount '1'^^integer e:a | - | none
 MinCount | - | none

@@ -143,4 +143,51 @@ len → 3
 +bpx → new
 exchange bpx aqc|apb → done
 a?? → apb apc
+len → 2
+
+75 5
+cut 64: → done
+terms → 64
+enter data#1 → 64
+enter data#1 → 64
+terms → 65
+len → 0
+
+75 5 rqx sqr sqt
+cut 70: rqx sqr sqt → done
+terms → 70
+len → 3
+sq? → r t
+?qx → r
+s?? → sqr sqt
+?q? → rqx sqr sqt
+rqx → true
+enter e:n → 70
+enter e:q → 69
++spr → new
+r?? → rqx
+s?? → spr sqr sqt
+cut 71: spr sqt rqx sqr → done
+terms → 71
+-spr → gone
+cut 70: rqx sqr sqt → done
+terms → 70
++rqx → held
++sqx → new
+len → 4
+enter e:a → 70
+enter data#5 → 71
+terms → 72
+
+75 2 apb
+-apb → gone
+cut 62: → done
+terms → 62
+len → 0
+enter e:p → 62
+enter 'x' → 63
++xxy → new
++yyx → new
++yyy → full
+xx? → y
 len → 2";

@@ -2,7 +2,7 @@ use Rattle.std.proofs.Common.{sym, subst}
 use Rattle.std.proofs.lemmas.List.Elements.{AllWithin-more}
 use Rattle.std.proofs.lemmas.Option.{get_or_from_slice_get}
 use Rattle.shx_term.specs.ValidTriples.{IsNotWide}
-use Rattle.component_rows.proofs.tests.valid.is_none_wide.Goals as goal
+use Rattle.due_view.proofs.valid.is_none_wide.Goals as goal
 
 pub loop-id-preserved : goal.loop-id-preserved
 loop-id-preserved c =

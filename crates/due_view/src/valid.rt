@@ -1,7 +1,7 @@
-//! Whether a component may be asked: the graph is a valid view, and numbers have terms.
+//! Whether a view may be asked: it is valid, and numbers have terms.
 ghost use Rattle.std.specs.Prelude.{[], ◌∷◌, All, IsTrue};
 ghost use Rattle.shx_term.specs.ValidTriples.{IsIri, IsNoLiteral, IsNotWide, IsValidTermTriple};
-ghost use Rattle.graph_view.specs.Graph.{HasTerms};
+ghost use Rattle.graph_view.specs.Graph.{HasTerms, IsKnownTriple};
 ghost use Rattle.graph_view.specs.ListGraph.{plain_graph};
 ghost use Rattle.graph_view.specs.Valid.{IsValidTriple, IsValidView};
 
@@ -79,7 +79,7 @@ fn is_none_wide(pool: &Pool) -> bool
 }
 
 /// Whether no term is a wide literal, and all triples are valid.
-pub(super) fn is_valid(graph: &ListGraph) -> bool
+pub fn is_valid(graph: &ListGraph) -> bool
     ensures { IsTrue result → IsValidView (plain_graph graph.now) }
 {
     let pool = graph.pool();
@@ -87,10 +87,10 @@ pub(super) fn is_valid(graph: &ListGraph) -> bool
 }
 
 /// Whether all numbers have terms.
-pub(super) fn are_known(graph: &ListGraph, ids: &[Id]) -> bool
-    ensures { IsTrue result → HasTerms (plain_graph graph.now) ids.now }
+pub fn are_known<V: GraphView>(view: &V, ids: &[Id]) -> bool
+    ensures { IsTrue result → HasTerms (V.graph view.now) ids.now }
 {
-    let terms = graph.pool().len();
+    let terms = view.pool().len();
     for id in ids {
         if *id >= terms {
             return false;
@@ -100,8 +100,16 @@ pub(super) fn are_known(graph: &ListGraph, ids: &[Id]) -> bool
 }
 
 /// Whether a number has a term.
-pub(super) fn is_known(graph: &ListGraph, id: Id) -> bool
-    ensures { IsTrue result → HasTerms (plain_graph graph.now) (id ∷ []) }
+pub fn is_known<V: GraphView>(view: &V, id: Id) -> bool
+    ensures { IsTrue result → HasTerms (V.graph view.now) (id ∷ []) }
 {
-    id < graph.pool().len()
+    id < view.pool().len()
+}
+
+/// Whether the numbers of a triple have terms.
+pub fn is_known_triple<V: GraphView>(view: &V, t: &Triple) -> bool
+    ensures { IsTrue result → IsKnownTriple (V.graph view.now).terms t.now }
+{
+    let terms = view.pool().len();
+    t.s < terms && t.p < terms && t.o < terms
 }

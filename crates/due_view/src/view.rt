@@ -1,3 +1,5 @@
+ghost use Rattle.std.specs.Prelude.{◌≡◌, Contains, OnOk};
+
 use graph_view::{GraphView, Key, Reads};
 use shx_term::{Id, Memory, Pool, Triple};
 use std::alloc::{AllocError, Global};
@@ -5,13 +7,28 @@ use std::alloc::{AllocError, Global};
 /// A graph that answers for want of memory at every key but those that are due, so that no look-up goes
 /// beside what is noted.
 #[derive(Drop)]
-pub(super) struct Due<'a, V: GraphView> {
-    pub(super) base: &'a V,
-    pub(super) due: &'a Reads,
+pub struct DueView<'a, V: GraphView> {
+    base: &'a V,
+    due: &'a Reads,
 }
 
-impl<'a, V: GraphView> Due<'a, V> {
-    fn allow(&self, key: &Key) -> Result<(), Memory> {
+impl<'a, V: GraphView> DueView<'a, V> {
+    /// The base, which may be asked these keys alone. It takes no memory.
+    pub fn new(base: &'a V, due: &'a Reads) -> DueView<'a, V>
+        ensures graph { ⟦<DueView<'a, V> as GraphView>⟧.graph result ≡ V.graph base.now }
+        ensures term_limit { ⟦<DueView<'a, V> as GraphView>⟧.term_limit result ≡ V.term_limit base.now }
+    {
+        DueView { base, due }
+    }
+
+    /// Whether the keys that are due were read, and no others.
+    pub fn are_read(&self, reads: &Reads) -> bool {
+        self.due.keys().iter().all(|key| reads.has(key)) && reads.len() == self.due.len()
+    }
+
+    fn allow(&self, key: &Key) -> Result<(), Memory>
+        ensures { OnOk result (Contains self.now.due.now key.now) }
+    {
         if self.due.has(key) {
             Ok(())
         } else {
@@ -20,7 +37,7 @@ impl<'a, V: GraphView> Due<'a, V> {
     }
 }
 
-impl<'a, V: GraphView> GraphView for Due<'a, V> {
+impl<'a, V: GraphView> GraphView for DueView<'a, V> {
     ghost graph = { λ view. V.graph view.base.now };
 
     ghost term_limit = { λ view. V.term_limit view.base.now };

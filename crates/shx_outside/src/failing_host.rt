@@ -1,4 +1,4 @@
-ghost use Rattle.std.specs.Prelude.{◌≡◌, true, IfOk, IfErr};
+ghost use Rattle.std.specs.Prelude.{◌≡◌, true, false, IfOk, IfErr};
 ghost use Rattle.shx_outside.specs.declared.pattern_fault.PatternFault.TheVariants.{NoPattern, Refused};
 ghost use Rattle.shx_outside.specs.Counted.{next_count, HasRefusalCause, refusals_after};
 ghost use Rattle.shx_outside.specs.FailingHost.{refuses_next};
@@ -66,6 +66,8 @@ impl<P: PatternHost> PatternHost for FailingHost<P> {
 
         ensures listed { refuses_next self.old ≡ true
             → (result ≡ Err Refused) × (self.new.inner ≡ self.old.inner) }
+        ensures passed { refuses_next self.old ≡ false
+            → HasRefusalCause (P.state self.old.inner).faults (P.state self.new.inner).faults result }
         ensures calls { self.new.calls ≡ next_count self.old.calls }
         ensures faults { self.new.faults ≡ refusals_after self.old.faults result }
         ensures failing { self.new.failing ≡ self.old.failing }

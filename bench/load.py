@@ -6,6 +6,7 @@ machine.
     bench/load.py [COUNT ..]    texts of so many triples (10000, 100000, 1000000 and 4000000 where no count
                                 is given)
     bench/load.py hostile       texts of 100 million bytes that are hard to pass
+    bench/load.py shared        texts whose triples share a long part, and terms that differ in their tag alone
     bench/load.py script        a script of 20000 insertions behind 1000000 triples, less the load
 """
 import os
@@ -66,10 +67,25 @@ def loads(folder, empty, out, counts):
 def hostile(folder, empty, out):
     print("| text | processor s | peak MB | answer |")
     print("|---|---|---|---|")
-    for name in ("rounds", "quotes", "dots", "hashes", "squares"):
+    for name in ("rounds", "quotes", "dots", "hashes", "squares", "letters"):
         path = text(folder, "hostile", name, "100000000")
         cpu, _, peak, line = run([PROGRAM, empty, path], out)
         print(f"| {name} | {cpu:.2f} | {peak:.0f} | `{line}` |", flush=True)
+        os.remove(path)
+
+
+def shared(folder, empty, out):
+    print("| text | MB | processor s | peak MB |")
+    print("|---|---|---|---|")
+    kinds = [("shared", name, str(size), str(size)) for name in ("subject", "verb") for size in (65536, 131072)]
+    kinds += [("shared", name, str(size), "65536") for name in ("namespace", "base") for size in (1024, 4096)]
+    kinds += [("tags", str(count)) for count in (100000, 1000000)]
+    for words in kinds:
+        path = text(folder, *words)
+        cpu, _, peak, line = run([PROGRAM, empty, path], out)
+        print(f"| {' '.join(words)} | {os.path.getsize(path) / 1e6:.1f} | {cpu:.2f} | {peak:.0f} |", flush=True)
+        if not line.startswith("report"):
+            print(f"  {line}")
         os.remove(path)
 
 
@@ -93,6 +109,8 @@ def main():
         out = os.path.join(folder, "out")
         if sys.argv[1:] == ["hostile"]:
             hostile(folder, empty, out)
+        elif sys.argv[1:] == ["shared"]:
+            shared(folder, empty, out)
         elif sys.argv[1:] == ["script"]:
             script(folder, empty, out)
         else:

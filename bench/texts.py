@@ -5,11 +5,15 @@
     texts.py collection COUNT   one collection of so many members
     texts.py objects COUNT      one list of so many objects
     texts.py prefixes COUNT     so many prefixes, each used once
-    texts.py hostile NAME BYTES a text that is hard to pass: rounds, quotes, dots, hashes or squares
+    texts.py tags COUNT         one lexical form under so many language tags
+    texts.py shared NAME LETTERS COUNT
+                                a part of so many letters that so many triples share: subject, verb, namespace
+                                or base
+    texts.py hostile NAME BYTES a text that is hard to pass: rounds, quotes, dots, hashes, squares or letters
 """
 import sys
 
-HOSTILE = {"rounds": "(", "quotes": '"', "dots": ".", "hashes": "#", "squares": "[ "}
+HOSTILE = {"rounds": "(", "quotes": '"', "dots": ".", "hashes": "#", "squares": "[ ", "letters": "b"}
 
 
 def objects(i):
@@ -51,6 +55,29 @@ def prefixes(count):
         yield f"@prefix p{i}: <http://e/{i}/> .\np{i}:s p{i}:p p{i}:o .\n"
 
 
+def tags(count):
+    yield "<http://e/s> <http://e/p> \"x\"@a-0"
+    for i in range(1, count):
+        yield f" ,\n \"x\"@a-{i}"
+    yield " .\n"
+
+
+def shared(name, letters, count):
+    long = "a" * letters
+    if name == "subject":
+        yield f"<http://e/{long}> <http://e/p> 0"
+    elif name == "verb":
+        yield f"<http://e/s> <http://e/{long}> 0"
+    elif name == "namespace":
+        yield f"@prefix e: <http://e/{long}> .\n<http://e/s> <http://e/p> e:0"
+    else:
+        yield f"@base <http://e/{long}/> .\n<http://e/s> <http://e/p> <0>"
+    objects = {"namespace": " , e:{}", "base": " , <{}>"}.get(name, " , {}")
+    for i in range(1, count):
+        yield objects.format(i)
+    yield " .\n"
+
+
 def hostile(name, size):
     yield "_:a" if name == "dots" else ""
     piece = HOSTILE[name] * 4096
@@ -63,8 +90,16 @@ def main():
     kind, first = sys.argv[1], sys.argv[2]
     if kind == "hostile":
         pieces = hostile(first, int(sys.argv[3]))
+    elif kind == "shared":
+        pieces = shared(first, int(sys.argv[3]), int(sys.argv[4]))
     else:
-        makers = {"triples": triples, "collection": collection, "objects": object_list, "prefixes": prefixes}
+        makers = {
+            "triples": triples,
+            "collection": collection,
+            "objects": object_list,
+            "prefixes": prefixes,
+            "tags": tags,
+        }
         pieces = makers[kind](int(first))
     for piece in pieces:
         sys.stdout.write(piece)

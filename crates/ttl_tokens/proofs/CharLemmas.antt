@@ -1,13 +1,12 @@
 -- Forms over characters: what they leave is shorter, and with which characters they begin.
 use Rattle.std.proofs.Common.{◌≡◌, ℕ, zero, suc, ◌≤◌, ◌<◌, Bool, true, false, ◌&&◌, ◌||◌, List, []}
-use Rattle.std.proofs.Common.{◌∷◌, length, refl, sym, ap, ◌∙◌, subst, ◌⊎◌, inl, inr, arith, true≢false}
+use Rattle.std.proofs.Common.{◌∷◌, ◌++◌, length, refl, sym, ap, ◌∙◌, subst, ◌⊎◌, inl, inr, arith, true≢false}
 use Rattle.std.proofs.Common.{◌==◌, eqb-true, Option, MatchOption}
 use Rattle.std.specs.Borrow.{Bor}
 use Rattle.std.specs.Str.{chars}
 use Rattle.ttl_tokens.specs.Form.{Empty, Item, Then, Or, Maybe, Many, Times, Takes, is_empty, begins}
 use Rattle.ttl_tokens.specs.Walks.{Never, Only, Same, Apart, Greedy}
-use Rattle.ttl_tokens.specs.Chars.{Chars, PastChar}
-use Rattle.ttl_tokens.specs.inner.CharWalks.{Longest}
+use Rattle.ttl_tokens.specs.Chars.{Chars, Longest, PastChar, exactly, word}
 use Rattle.ttl_tokens.proofs.BeginLemmas.{begins_with, never_where, never_where_none}
 use Rattle.ttl_tokens.proofs.FormLemmas.{times_takes, match_only}
 
@@ -169,6 +168,23 @@ pub char_never : {p : ℕ → Bool} {xs cs : List ℕ} {c : ℕ} → xs ≡ c �
     → Never PastChar (Item p) xs
 char_never {p = p} {xs = xs} {cs = cs} {c = c} e h =
     subst (λ v. Never PastChar (Item p) v) (sym e) (never_begins (Item p) c cs refl h)
+
+-- past a character, and past a text
+pub past_item : (p : ℕ → Bool) (xs ys : List ℕ) → PastChar p xs ys
+    → (c : ℕ) × (xs ≡ c ∷ ys) × (p c ≡ true)
+past_item p [] ys t = absurd t
+past_item p (c ∷ cs) ys t = (c, ap (λ (l : List ℕ). c ∷ l) t.1, t.0)
+
+pub past_exactly : (n : ℕ) (xs ys : List ℕ) → Takes PastChar (exactly n) xs ys → xs ≡ n ∷ ys
+past_exactly n xs ys t =
+    let c = past_item (λ d. d == n) xs ys t in
+    c.1 ∙ ap (λ d. d ∷ ys) (eqb-true c.0 n c.2)
+
+pub past_word : (cs xs ys : List ℕ) → Takes PastChar (word cs) xs ys → xs ≡ cs ++ ys
+past_word [] xs ys e = e
+past_word (c ∷ []) xs ys t = past_exactly c xs ys t
+past_word (c ∷ d ∷ cs) xs ys t =
+    past_exactly c xs t.0 t.1 ∙ ap (λ (l : List ℕ). c ∷ l) (past_word (d ∷ cs) t.0 ys t.2)
 
 -- a character of which a test holds is none of which it fails
 pub other_char : (p : ℕ → Bool) (c d : ℕ) → p d ≡ false → p c ≡ true → (c == d) ≡ false

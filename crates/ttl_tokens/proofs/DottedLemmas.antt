@@ -3,8 +3,7 @@ use Rattle.std.proofs.Common.{◌≡◌, ℕ, zero, suc, ◌≤◌, Bool, true, 
 use Rattle.std.proofs.Common.{◌⊎◌, inl, inr, arith, true≢false}
 use Rattle.ttl_tokens.specs.Form.{Then, Or, Many, Times, Takes}
 use Rattle.ttl_tokens.specs.Walks.{Never, Only}
-use Rattle.ttl_tokens.specs.Chars.{Chars, PastChar, dotted, exactly}
-use Rattle.ttl_tokens.specs.inner.CharWalks.{Longest}
+use Rattle.ttl_tokens.specs.Chars.{Chars, Longest, PastChar, dotted, exactly}
 use Rattle.ttl_tokens.specs.inner.NameForms.{Steps}
 use Rattle.ttl_tokens.proofs.CharLemmas.{first, takes_le, takes_nothing, apart_char}
 use Rattle.ttl_tokens.proofs.FormLemmas.{apart_never, times_one_more}

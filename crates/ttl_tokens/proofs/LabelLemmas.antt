@@ -5,8 +5,7 @@ use Rattle.ttl_tokens.specs.declared.token.TokenKind.{TokenKind}
 use Rattle.ttl_tokens.specs.declared.token.TokenKind.TheVariants.{BlankLabel}
 use Rattle.ttl_tokens.specs.Form.{Then}
 use Rattle.ttl_tokens.specs.Walks.{Never, Only, Same}
-use Rattle.ttl_tokens.specs.Chars.{PastChar, word}
-use Rattle.ttl_tokens.specs.inner.CharWalks.{Longest}
+use Rattle.ttl_tokens.specs.Chars.{Longest, PastChar, word}
 use Rattle.ttl_tokens.specs.Terminals.{blank_label}
 use Rattle.ttl_tokens.specs.Tokens.{Stands}
 use Rattle.ttl_tokens.specs.inner.Groups.{kind_group, IsTokenOf, IsNoTokenOf}

@@ -20,25 +20,25 @@ use Rattle.ttl_tokens.specs.Form.{Item, Then, Or, Maybe, Many, Takes}
 use Rattle.ttl_tokens.specs.Chars.{Chars, PastChar, exactly}
 use Rattle.ttl_tokens.specs.Terminals.{is_iri_char, uchar, three_quotes, short_char, short_string}
 use Rattle.ttl_tokens.specs.Terminals.{long_char, long_string}
-use Rattle.ttl_tokens.specs.Tokens.{IsNext}
+use Rattle.ttl_tokens.specs.Tokens.{IsNext, IsTokenAt}
 use Rattle.ttl_tokens.specs.inner.Marks.{HasMarks}
 use Rattle.ttl_tokens.specs.Unescaped.{mark_length, IsGiven, token_text, without_ends}
-use Rattle.ttl_tokens.proofs.RestLemmas.{takes_rest}
+use Rattle.ttl_tokens.proofs.RestLemmas.{IsRest, takes_rest}
 
 -- ---- the marks of a token
 
 -- what is left of xs behind a front of so many characters of ASCII
-record IsMark (n : ℕ) (xs ys : List ℕ) : Type 0 where
+pub record IsMark (n : ℕ) (xs ys : List ℕ) : Type 0 where
   front : List ℕ
   parts : xs ≡ front ++ ys
   long : length front ≡ n
   ascii : IsAscii front
 
 -- whatever the form takes is a mark of this length
-abbrev TakesMarks : ℕ → Chars → Type 0
+abbrev pub TakesMarks : ℕ → Chars → Type 0
 TakesMarks n f = (xs ys : List ℕ) → Takes PastChar f xs ys → IsMark n xs ys
 
-one_mark : (q : ℕ) → q < 128 → TakesMarks 1 (Item (λ c. c == q))
+pub one_mark : (q : ℕ) → q < 128 → TakesMarks 1 (Item (λ c. c == q))
 one_mark q small [] ys t = absurd t
 one_mark q small (c ∷ cs) ys t =
     let test : (c == q) ≡ true = t.0 in
@@ -60,32 +60,40 @@ two_marks m n f g mark_f mark_g xs ys t =
       ascii = IsAscii-append a.front b.front a.ascii b.ascii;
     }
 
-three_marks : (q : ℕ) → q < 128 → TakesMarks 3 (three_quotes q)
+pub three_marks : (q : ℕ) → q < 128 → TakesMarks 3 (three_quotes q)
 three_marks q small =
     two_marks 1 2 (exactly q) (Then (exactly q) (exactly q)) (one_mark q small)
     (two_marks 1 1 (exactly q) (exactly q) (one_mark q small) (one_mark q small))
 
--- what a form takes that begins and ends with a mark
+-- what a form takes that begins and ends with a mark, and what stands between them
+pub marks_round : (n : ℕ) (a f b : Chars) → TakesMarks n a → TakesMarks n b → (xs ys piece : List ℕ)
+    → xs ≡ piece ++ ys → (t : Takes PastChar (Then a (Then f b)) xs ys) → (inside : IsRest t.0 t.2.0)
+    → (m : HasMarks n piece) × (m.middle ≡ inside.0)
+marks_round n a f b marks_a marks_b xs ys piece cut t inside =
+    let x = marks_a xs t.0 t.1 in
+    let z = marks_b t.2.0 ys t.2.2 in
+    let inner : t.0 ≡ (inside.0 ++ z.front) ++ ys =
+    inside.1 ∙ ap (λ (l : List ℕ). inside.0 ++ l) z.parts ∙ sym (append_assoc inside.0 z.front ys) in
+    let whole : xs ≡ (x.front ++ (inside.0 ++ z.front)) ++ ys =
+    x.parts ∙ ap (λ (l : List ℕ). x.front ++ l) inner
+    ∙ sym (append_assoc x.front (inside.0 ++ z.front) ys) in (
+      record {
+        front = x.front;
+        middle = inside.0;
+        back = z.front;
+        parts = append_cancel_right piece (x.front ++ (inside.0 ++ z.front)) ys (sym cut ∙ whole);
+        front_length = x.long;
+        back_length = z.long;
+        front_ascii = x.ascii;
+        back_ascii = z.ascii;
+      },
+      refl,
+    )
+
 between_marks : (n : ℕ) (a f b : Chars) → TakesMarks n a → TakesMarks n b → (xs ys piece : List ℕ)
     → xs ≡ piece ++ ys → Takes PastChar (Then a (Then f b)) xs ys → HasMarks n piece
 between_marks n a f b marks_a marks_b xs ys piece cut t =
-    let x = marks_a xs t.0 t.1 in
-    let y = takes_rest f t.0 t.2.0 t.2.1 in
-    let z = marks_b t.2.0 ys t.2.2 in
-    let inner : t.0 ≡ (y.0 ++ z.front) ++ ys =
-    y.1 ∙ ap (λ (l : List ℕ). y.0 ++ l) z.parts ∙ sym (append_assoc y.0 z.front ys) in
-    let whole : xs ≡ (x.front ++ (y.0 ++ z.front)) ++ ys =
-    x.parts ∙ ap (λ (l : List ℕ). x.front ++ l) inner ∙ sym (append_assoc x.front (y.0 ++ z.front) ys) in
-    record {
-      front = x.front;
-      middle = y.0;
-      back = z.front;
-      parts = append_cancel_right piece (x.front ++ (y.0 ++ z.front)) ys (sym cut ∙ whole);
-      front_length = x.long;
-      back_length = z.long;
-      front_ascii = x.ascii;
-      back_ascii = z.ascii;
-    }
+    (marks_round n a f b marks_a marks_b xs ys piece cut t (takes_rest f t.0 t.2.0 t.2.1)).0
 
 no_marks : (piece : List ℕ) → HasMarks 0 piece
 no_marks piece = record {
@@ -122,19 +130,20 @@ next_marks StringLongQuote xs ys piece cut t = long_marks 34 (omega arith) xs ys
 next_marks StringLongSingleQuote xs ys piece cut t = long_marks 39 (omega arith) xs ys piece cut t.stands
 next_marks kind xs ys piece cut t = no_marks piece
 
+-- a token and what stands behind it
+pub token_parts : (text : List ℕ) (at : ℕ) (token : Token) → IsUtf8 text → IsTokenAt text at token
+    → chars (drop token.start text) ≡ chars (token_text text token) ++ chars (drop token.end text)
+token_parts text at token utf8 t =
+    ap chars (drop_split text token.start token.end t.order)
+    ∙ chars-append (token_text text token) (drop token.end text)
+    (IsUtf8-between text token.start token.end utf8 t.order t.begin t.end)
+
 -- the text of a token that was given
 pub given_marks : (text : List ℕ) (token : Token) → IsUtf8 text → IsGiven text token
     → HasMarks (mark_length token.kind) (chars (token_text text token))
 given_marks text token utf8 given =
-    let t = given.1 in
-    let piece : List ℕ = token_text text token in
-    let parts : drop token.start text ≡ piece ++ drop token.end text =
-    drop_split text token.start token.end t.order in
-    next_marks token.kind (chars (drop token.start text)) (chars (drop token.end text)) (chars piece)
-    (ap chars parts ∙ chars-append piece (drop token.end text)
-    (IsUtf8-between text token.start token.end utf8 t.order t.begin t.end)) t.next
-
--- ---- the bytes between the marks
+    next_marks token.kind (chars (drop token.start text)) (chars (drop token.end text))
+    (chars (token_text text token)) (token_parts text given.0 token utf8 given.1) given.1.next
 
 -- without as many at each end
 ends_off : (n : ℕ) (xs front middle back : List ℕ) → xs ≡ front ++ (middle ++ back) → length front ≡ n
@@ -146,6 +155,11 @@ ends_off n xs front middle back parts front_length back_length =
     let rest = length-append middle back in
     let size : length xs - 2 * n ≡ length middle = omega (arith, all, rest, front_length, back_length) in
     rw (cut, size) (take-append_seam middle back)
+
+pub without_marks : {n : ℕ} {xs : List ℕ} → (m : HasMarks n xs) → without_ends n xs ≡ m.middle
+without_marks {n = n} {xs = xs} m = ends_off n xs m.front m.middle m.back m.parts m.front_length m.back_length
+
+-- ---- the bytes between the marks
 
 module _ (n : ℕ) (bs : List ℕ) (utf8 : IsUtf8 bs) (m : HasMarks n (chars bs)) where
   bytes_parts : bs ≡ m.front ++ (encodes m.middle ++ m.back)
@@ -190,4 +204,4 @@ module _ (n : ℕ) (bs : List ℕ) (utf8 : IsUtf8 bs) (m : HasMarks n (chars bs)
       cut
       ∙ rw size (ends_off n bs m.front (encodes m.middle) m.back bytes_parts m.front_length m.back_length) in
       sym (chars_from_encodes m.middle inner inner_utf8 (sym bytes))
-      ∙ sym (ends_off n (chars bs) m.front m.middle m.back m.parts m.front_length m.back_length)
+      ∙ sym (without_marks m)

@@ -7,8 +7,7 @@ use Rattle.ttl_tokens.specs.declared.token.TokenKind.TheVariants.{PnameNs, Pname
 use Rattle.ttl_tokens.specs.declared.token.TokenKind.TheVariants.{WordFalse, WordPrefix, WordBase}
 use Rattle.ttl_tokens.specs.Form.{Takes}
 use Rattle.ttl_tokens.specs.Walks.{Never, Only}
-use Rattle.ttl_tokens.specs.Chars.{PastChar}
-use Rattle.ttl_tokens.specs.inner.CharWalks.{Longest}
+use Rattle.ttl_tokens.specs.Chars.{Longest, PastChar}
 use Rattle.ttl_tokens.specs.Terminals.{pname_ns, pname_ln, pn_local, terminal}
 use Rattle.ttl_tokens.specs.Tokens.{Stands}
 use Rattle.ttl_tokens.specs.inner.Groups.{kind_group, IsTokenOf, IsNoTokenOf}

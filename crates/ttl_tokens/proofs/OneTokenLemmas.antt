@@ -1,7 +1,7 @@
 -- At a place one token stands, and no other.
 use Rattle.std.proofs.Common.{◌≡◌, ℕ, ◌≤◌, ◌<◌, List, [], length, refl, sym, ap, ◌∙◌, subst, ◌⊎◌}
 use Rattle.std.proofs.Common.{inl, inr}
-use Rattle.std.proofs.Common.{arith, false, ◌∷◌}
+use Rattle.std.proofs.Common.{arith, ◌∷◌}
 use Rattle.std.proofs.Math.ListN.{drop}
 use Rattle.std.proofs.Math.Nat.{eq-or-lt_of_le}
 use Rattle.std.proofs.Math.Utf8.{encodes}
@@ -12,11 +12,11 @@ use Rattle.ttl_tokens.specs.declared.token.Token.{Token}
 use Rattle.ttl_tokens.specs.declared.token.TokenKind.{TokenKind}
 use Rattle.ttl_tokens.specs.declared.token.TokenKind.TheVariants.{Anon, End, StringQuote, StringSingleQuote}
 use Rattle.ttl_tokens.specs.Tokens.{Stands, IsToken, IsNext, IsTokenAt, IsNoTokenAt}
-use Rattle.ttl_tokens.specs.Blanks.{behind_blanks}
+use Rattle.ttl_tokens.specs.Blanks.{blanks}
 use Rattle.ttl_tokens.specs.Terminals.{terminal}
-use Rattle.ttl_tokens.proofs.CharLemmas.{takes_shorter}
+use Rattle.ttl_tokens.proofs.CharLemmas.{takes_le, takes_shorter}
 use Rattle.ttl_tokens.proofs.GroupLemmas.{nothing_stands_at_end}
-use Rattle.ttl_tokens.proofs.SquareLemmas.{behind_le}
+use Rattle.ttl_tokens.proofs.RestLemmas.{longest_one}
 
 -- two places with the same characters behind them are one
 pub same_place : (text : List ℕ) (a b : ℕ) → IsUtf8 text → a ≤ length text → b ≤ length text
@@ -77,7 +77,7 @@ one_token text at t u utf8 a b =
     let b_within = b.within in
     let start : t.start ≡ u.start =
     same_place text t.start u.start utf8 (omega (arith, a_order, a_within)) (omega (arith, b_order, b_within))
-    a.begin b.begin (a.behind ∙ sym b.behind) in
+    a.begin b.begin (longest_one a.behind b.behind) in
     let next : SameNext t.kind u.kind (chars (drop t.end text)) (chars (drop u.end text)) =
     same_next (chars (drop t.start text)) t.kind u.kind (chars (drop t.end text)) (chars (drop u.end text))
     a.next (subst (λ n. IsNext (chars (drop n text)) u.kind (chars (drop u.end text))) (sym start) b.next) in
@@ -98,7 +98,7 @@ pub token_or_none : (text : List ℕ) (at fault : ℕ) (t : Token) → IsUtf8 te
 token_or_none text at fault t utf8 a n = go (next_is _ t.kind (chars (drop t.end text)) a.next)
   where
     same : chars (drop t.start text) ≡ chars (drop fault text)
-    same = a.behind ∙ sym n.behind
+    same = longest_one a.behind n.behind
 
     go : ((t.kind ≡ End) × (chars (drop t.start text) ≡ []) × (chars (drop t.end text) ≡ []))
         ⊎ IsToken (chars (drop t.start text)) t.kind (chars (drop t.end text)) → ⊥
@@ -109,10 +109,9 @@ token_or_none text at fault t utf8 a n = go (next_is _ t.kind (chars (drop t.end
 
 stands_shorter : (k : TokenKind) (xs ys : List ℕ) → Stands k xs ys → length ys < length xs
 stands_shorter Anon xs ys t =
-    let inside = behind_le false t.0 in
     let whole : length xs ≡ length (91 ∷ t.0) = ap length t.1 in
-    let rest : length (behind_blanks t.0) ≡ length (93 ∷ ys) = ap length t.2 in
-    omega (arith, inside, whole, rest)
+    let rest : length (93 ∷ ys) ≤ length t.0 = takes_le blanks t.0 (93 ∷ ys) t.2.takes in
+    omega (arith, whole, rest)
 stands_shorter StringQuote xs ys t = takes_shorter (terminal StringQuote) xs ys refl t.0
 stands_shorter StringSingleQuote xs ys t = takes_shorter (terminal StringSingleQuote) xs ys refl t.0
 stands_shorter k xs ys t = takes_shorter (terminal k) xs ys refl t

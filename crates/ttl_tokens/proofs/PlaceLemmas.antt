@@ -1,5 +1,5 @@
 -- From characters to places in bytes: what stands behind is what is left of the text.
-use Rattle.std.proofs.Common.{◌≡◌, ℕ, ◌+◌, ◌-◌, ◌≤◌, ◌<◌, Bool, true, false, ◌==◌, List, [], ◌∷◌}
+use Rattle.std.proofs.Common.{◌≡◌, ℕ, ◌+◌, ◌-◌, ◌≤◌, ◌<◌, List, [], ◌∷◌}
 use Rattle.std.proofs.Common.{◌++◌, length, refl, sym, ap, ◌∙◌, subst, arith}
 use Rattle.std.proofs.Common.{true≢false}
 use Rattle.std.proofs.Math.ListN.{take, drop}
@@ -7,36 +7,17 @@ use Rattle.std.proofs.Math.Seq.{drop-append_seam}
 use Rattle.std.proofs.Math.Utf8.{encodes}
 use Rattle.std.proofs.lemmas.List.{take-append-drop, length-append, length-drop, nil_from_length}
 use Rattle.std.proofs.lemmas.Str.{encodes-chars, encodes-append, IsCharBoundary-from_drop, chars-nil}
-use Rattle.std.specs.Prelude.{if◌then◌else◌}
 use Rattle.std.specs.Str.{IsUtf8, IsCharBoundary, chars}
 use Rattle.ttl_tokens.specs.declared.token.TokenKind.{TokenKind}
 use Rattle.ttl_tokens.specs.declared.token.TokenKind.TheVariants.{Anon, End, StringQuote, StringSingleQuote}
-use Rattle.ttl_tokens.specs.Chars.{is_white, is_line_end}
-use Rattle.ttl_tokens.specs.Blanks.{behind, behind_blanks}
+use Rattle.ttl_tokens.specs.Blanks.{blanks, SkipsBlanks}
 use Rattle.ttl_tokens.specs.Terminals.{terminal}
-use Rattle.ttl_tokens.proofs.RestLemmas.{IsRest, rest_then, rest_cons, takes_rest}
+use Rattle.ttl_tokens.proofs.RestLemmas.{IsRest, rest_then, takes_rest}
 use Rattle.ttl_tokens.specs.Tokens.{Stands, IsToken, IsNoToken, IsNext, IsTokenAt, IsNoTokenAt}
-
-behind_rest : (b : Bool) (xs : List ℕ) → IsRest xs (behind b xs)
-behind_rest true [] = ([], refl)
-behind_rest false [] = ([], refl)
-behind_rest true (c ∷ cs) = step (is_line_end c) (behind_rest false cs) (behind_rest true cs)
-  where
-    step : (e : Bool) → IsRest cs (behind false cs) → IsRest cs (behind true cs)
-        → IsRest (c ∷ cs) (if e then behind false cs else behind true cs)
-    step true p q = rest_cons c cs (behind false cs) p
-    step false p q = rest_cons c cs (behind true cs) q
-behind_rest false (c ∷ cs) = step (is_white c) (c == 35) (behind_rest false cs) (behind_rest true cs)
-  where
-    step : (w h : Bool) → IsRest cs (behind false cs) → IsRest cs (behind true cs)
-        → IsRest (c ∷ cs) (if w then behind false cs else if h then behind true cs else (c ∷ cs))
-    step true h p q = rest_cons c cs (behind false cs) p
-    step false true p q = rest_cons c cs (behind true cs) q
-    step false false p q = ([], refl)
 
 stands_rest : (k : TokenKind) (xs ys : List ℕ) → Stands k xs ys → IsRest xs ys
 stands_rest Anon xs ys t =
-    let inside : IsRest t.0 (93 ∷ ys) = subst (λ v. IsRest t.0 v) t.2 (behind_rest false t.0) in
+    let inside : IsRest t.0 (93 ∷ ys) = takes_rest blanks t.0 (93 ∷ ys) t.2.takes in
     rest_then xs t.0 ys (91 ∷ [], t.1) (rest_then t.0 (93 ∷ ys) ys inside (93 ∷ [], refl))
 stands_rest StringQuote xs ys t = takes_rest (terminal StringQuote) xs ys t.0
 stands_rest StringSingleQuote xs ys t = takes_rest (terminal StringSingleQuote) xs ys t.0
@@ -74,10 +55,10 @@ rest_boundary text rest utf8 a =
 
 -- what stands behind white space and comments from a byte on is a rest of the text
 pub blanks_rest : (text : List ℕ) (at : ℕ) (behind : List ℕ) → IsUtf8 (drop at text) → IsUtf8 behind
-    → chars behind ≡ behind_blanks (chars (drop at text)) → IsRest (drop at text) behind
-blanks_rest text at behind utf8 utf8' same =
+    → SkipsBlanks (chars (drop at text)) (chars behind) → IsRest (drop at text) behind
+blanks_rest text at behind utf8 utf8' skips =
     bytes_rest (drop at text) behind utf8 utf8'
-    (subst (λ v. IsRest (chars (drop at text)) v) (sym same) (behind_rest false (chars (drop at text))))
+    (takes_rest blanks (chars (drop at text)) (chars behind) skips.takes)
 
 pub token_rest : (text : List ℕ) (kind : TokenKind) (rest : List ℕ) → IsUtf8 text → IsUtf8 rest
     → IsToken (chars text) kind (chars rest) → IsRest text rest
@@ -106,19 +87,19 @@ pub record IsBehind (text : List ℕ) (at : ℕ) (rest : List ℕ) : Type 0 wher
   pub within : at ≤ length text
   pub utf8 : IsUtf8 rest
   pub whole : IsUtf8 (drop at text)
-  pub same : chars rest ≡ behind_blanks (chars (drop at text))
+  pub skips : SkipsBlanks (chars (drop at text)) (chars rest)
 
 pub is_behind : (text : List ℕ) (at : ℕ) (slice rest : List ℕ) → at ≤ length text → slice ≡ drop at text
-    → IsUtf8 slice → IsUtf8 rest → chars rest ≡ behind_blanks (chars slice) → IsBehind text at rest
-is_behind text at slice rest within cut whole utf8 same = record {
+    → IsUtf8 slice → IsUtf8 rest → SkipsBlanks (chars slice) (chars rest) → IsBehind text at rest
+is_behind text at slice rest within cut whole utf8 skips = record {
   within = within;
   utf8 = utf8;
   whole = subst IsUtf8 cut whole;
-  same = same ∙ ap (λ (l : List ℕ). behind_blanks (chars l)) cut;
+  skips = subst (λ l. SkipsBlanks (chars l) (chars rest)) cut skips;
 }
 
 behind_drop : (text : List ℕ) (at : ℕ) (rest : List ℕ) → IsBehind text at rest → IsRest (drop at text) rest
-behind_drop text at rest b = blanks_rest text at rest b.whole b.utf8 b.same
+behind_drop text at rest b = blanks_rest text at rest b.whole b.utf8 b.skips
 
 behind_text : (text : List ℕ) (at : ℕ) (rest : List ℕ) → IsBehind text at rest → IsRest text rest
 behind_text text at rest b =
@@ -148,7 +129,7 @@ token_at_end text at rest b none =
       within = omega arith;
       begin = rest_boundary text rest b.utf8 place;
       end = rest_boundary text rest b.utf8 place;
-      behind = ap chars start ∙ b.same;
+      behind = rw start b.skips;
       next = (ap chars (start ∙ empty) ∙ chars-nil, ap chars (start ∙ empty) ∙ chars-nil);
     }
 
@@ -168,7 +149,7 @@ token_at text at rest kind left b utf8 t =
       within = omega arith;
       begin = rest_boundary text rest b.utf8 place;
       end = rest_boundary text left utf8 end;
-      behind = ap chars (rest_drop text rest place) ∙ b.same;
+      behind = rw (rest_drop text rest place) b.skips;
       next = rw (rest_drop text rest place, rest_drop text left end)
           (next_of (chars rest) kind (chars left) t);
     }
@@ -182,6 +163,6 @@ no_token_at text at rest b some n =
       from = place_le text at rest b.within (behind_drop text at rest b);
       within = omega (arith, some, shorter);
       begin = rest_boundary text rest b.utf8 place;
-      behind = ap chars (rest_drop text rest place) ∙ b.same;
+      behind = rw (rest_drop text rest place) b.skips;
       none = rw (rest_drop text rest place) n;
     }

@@ -7,9 +7,8 @@ use Rattle.ttl_tokens.specs.declared.token.TokenKind.TheVariants.{WordA, WordTru
 use Rattle.ttl_tokens.specs.declared.token.TokenKind.TheVariants.{WordBase}
 use Rattle.ttl_tokens.specs.Form.{Item, Then, Or, Maybe, Many, Times, Takes}
 use Rattle.ttl_tokens.specs.Walks.{Never, Only, Same, Apart}
-use Rattle.ttl_tokens.specs.Chars.{Chars, PastChar, word, any_case, between, is_letter, is_name_char}
+use Rattle.ttl_tokens.specs.Chars.{Chars, Longest, PastChar, word, any_case, between, is_letter, is_name_char}
 use Rattle.ttl_tokens.specs.Chars.{is_name_start, exactly}
-use Rattle.ttl_tokens.specs.inner.CharWalks.{Longest}
 use Rattle.ttl_tokens.specs.Terminals.{pn_prefix, pname_ns, terminal}
 use Rattle.ttl_tokens.specs.inner.NameForms.{is_word}
 use Rattle.ttl_tokens.proofs.CharLemmas.{many_longest, apart_char, takes_shorter}

@@ -3,8 +3,7 @@ use Rattle.std.proofs.Common.{◌≡◌, ℕ, zero, suc, ◌<◌, List, [], ◌�
 use Rattle.std.proofs.Common.{◌⊎◌, inl, inr, arith, append_assoc, length-append}
 use Rattle.std.proofs.Math.Nat.{eq-or-lt_of_le}
 use Rattle.ttl_tokens.specs.Form.{Empty, Item, Then, Or, Maybe, Many, Times, Takes}
-use Rattle.ttl_tokens.specs.Chars.{Chars, PastChar}
-use Rattle.ttl_tokens.specs.inner.CharWalks.{Longest}
+use Rattle.ttl_tokens.specs.Chars.{Chars, Longest, PastChar}
 
 -- ys is what is left of xs behind a front
 abbrev pub IsRest : List ℕ → List ℕ → Type 0
@@ -52,6 +51,13 @@ same_place f g xs ys zs s t l =
     let a = takes_rest f xs ys s in
     let b = takes_rest g xs zs t in
     same_rest a.0 b.0 ys zs (sym a.1 ∙ b.1) l
+
+-- the longest front is one
+pub longest_one : {f : Chars} {xs ys zs : List ℕ} → Longest f xs ys → Longest f xs zs → ys ≡ zs
+longest_one {f = f} {xs = xs} {ys = ys} {zs = zs} a b =
+    let le = a.longest zs b.takes in
+    let ge = b.longest ys a.takes in
+    same_place f f xs ys zs a.takes b.takes (omega (arith, le, ge))
 
 -- a front that is not the longest is shorter
 pub longest_other : {f : Chars} {xs ys : List ℕ} → Longest f xs ys → (zs : List ℕ) → Takes PastChar f xs zs

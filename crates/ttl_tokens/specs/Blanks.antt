@@ -1,14 +1,16 @@
 -- White space and comments between tokens (Turtle 1.1, sections 6.1 and 6.2).
-use Rattle.std.specs.Prelude.{ℕ, Bool, true, false, ◌==◌, List, [], ◌∷◌, if◌then◌else◌}
-use Rattle.ttl_tokens.specs.Chars.{is_white, is_line_end}
+use Rattle.std.specs.Prelude.{ℕ, not, List, codes}
+use Rattle.ttl_tokens.specs.Form.{Item, Then, Or, Many}
+use Rattle.ttl_tokens.specs.Chars.{Chars, Longest, word, is_white, is_line_end}
 
--- what stands behind white space and comments, where a comment is open or not
-abbrev pub behind : Bool → List ℕ → List ℕ
-behind in_comment [] = []
-behind true (c ∷ cs) = if is_line_end c then behind false cs else behind true cs
-behind false (c ∷ cs) =
-    if is_white c then behind false cs else if c == 35 then behind true cs else (c ∷ cs)
+-- from `#` to the end of the line
+abbrev pub comment : Chars
+comment = Then (word (codes "#")) (Many (Item (λ c. not (is_line_end c))))
 
--- what stands behind white space and comments
-abbrev pub behind_blanks : List ℕ → List ℕ
-behind_blanks xs = behind false xs
+-- white space and comments, again and again
+abbrev pub blanks : Chars
+blanks = Many (Or (Item is_white) comment)
+
+-- ys stands behind all white space and comments with which xs begins
+abbrev pub SkipsBlanks : List ℕ → List ℕ → Type 0
+SkipsBlanks xs ys = Longest blanks xs ys

@@ -1,6 +1,6 @@
 -- Forms over characters, and the classes of characters that Turtle names (Turtle 1.1, section 6.5).
-use Rattle.std.specs.Prelude.{◌≡◌, ℕ, ◌+◌, Bool, true, ◌&&◌, ◌||◌, ◌==◌, nat_le, List, [], ◌∷◌}
-use Rattle.ttl_tokens.specs.Form.{Form, Empty, Item, Then, Or, Maybe, Many}
+use Rattle.std.specs.Prelude.{◌≡◌, ℕ, ◌+◌, ◌≤◌, Bool, true, ◌&&◌, ◌||◌, ◌==◌, nat_le, List, [], ◌∷◌, length}
+use Rattle.ttl_tokens.specs.Form.{Form, Empty, Item, Then, Or, Maybe, Many, Takes}
 
 -- a form over characters: its items are tests of code points
 abbrev pub Chars : Type 0
@@ -10,6 +10,11 @@ Chars = Form (ℕ → Bool)
 abbrev pub PastChar : (ℕ → Bool) → List ℕ → List ℕ → Type 0
 PastChar p [] ys = ⊥
 PastChar p (c ∷ cs) ys = (p c ≡ true) × (cs ≡ ys)
+
+-- of the fronts that the form takes, the longest leaves ys
+pub record Longest (f : Chars) (xs ys : List ℕ) : Type 0 where
+  pub takes : Takes PastChar f xs ys
+  pub longest : (zs : List ℕ) → Takes PastChar f xs zs → length ys ≤ length zs
 
 -- ---- forms
 

@@ -6,12 +6,12 @@ use Rattle.ttl_tokens.specs.declared.token.TokenKind.{TokenKind}
 use Rattle.ttl_tokens.specs.declared.token.TokenKind.TheVariants.{Anon, End, StringQuote, StringSingleQuote}
 use Rattle.ttl_tokens.specs.Form.{Takes}
 use Rattle.ttl_tokens.specs.Chars.{PastChar}
-use Rattle.ttl_tokens.specs.Blanks.{behind_blanks}
+use Rattle.ttl_tokens.specs.Blanks.{SkipsBlanks}
 use Rattle.ttl_tokens.specs.Terminals.{terminal, three_quotes}
 
 -- square brackets with only white space and comments between them
 abbrev pub IsAnon : List ℕ → List ℕ → Type 0
-IsAnon xs ys = (inside : List ℕ) × (xs ≡ 91 ∷ inside) × (behind_blanks inside ≡ 93 ∷ ys)
+IsAnon xs ys = (inside : List ℕ) × (xs ≡ 91 ∷ inside) × SkipsBlanks inside (93 ∷ ys)
 
 -- three equal quotes begin a long string or no token
 abbrev pub BeginsLong : ℕ → List ℕ → Type 0
@@ -46,7 +46,7 @@ pub record IsTokenAt (text : List ℕ) (at : ℕ) (token : Token) : Type 0 where
   pub within : token.end ≤ length text
   pub begin : IsCharBoundary text token.start
   pub end : IsCharBoundary text token.end
-  pub behind : chars (drop token.start text) ≡ behind_blanks (chars (drop at text))
+  pub behind : SkipsBlanks (chars (drop at text)) (chars (drop token.start text))
   pub next : IsNext (chars (drop token.start text)) token.kind (chars (drop token.end text))
 
 -- behind white space and comments from byte `at` on, something stands at this byte that begins no token
@@ -54,5 +54,5 @@ pub record IsNoTokenAt (text : List ℕ) (at fault : ℕ) : Type 0 where
   pub from : at ≤ fault
   pub within : fault < length text
   pub begin : IsCharBoundary text fault
-  pub behind : chars (drop fault text) ≡ behind_blanks (chars (drop at text))
+  pub behind : SkipsBlanks (chars (drop at text)) (chars (drop fault text))
   pub none : IsNoToken (chars (drop fault text))

@@ -1,5 +1,5 @@
 -- Words of the inside: what is proved of public calls can be believed without them.
-pub mod CharWalks
+pub mod BlankWalk
 pub mod EscapeForms
 pub mod Groups
 pub mod IriRefForms

@@ -1,13 +1,12 @@
-ghost use Rattle.std.specs.Prelude.{◌≡◌};
 ghost use Rattle.std.specs.Str.{chars};
-ghost use Rattle.ttl_tokens.specs.Blanks.{behind_blanks};
+ghost use Rattle.ttl_tokens.specs.Blanks.{SkipsBlanks};
 
 use crate::classes::{is_line_end, is_white};
 use crate::walk::first_char;
 
 /// The text behind white space and comments.
 pub(crate) fn skip_blanks(text: &str) -> &str
-    ensures { chars result.now ≡ behind_blanks (chars text.now) }
+    ensures { SkipsBlanks (chars text.now) (chars result.now) }
 {
     let mut rest = text;
     let mut in_comment = false;

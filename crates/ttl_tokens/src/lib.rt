@@ -10,11 +10,12 @@
 //! | `blanks.rt`, `marks.rt`, `caret.rt` | white space and comments; marks and ANON; `^^` |
 //! | `numbers.rt`, `lang_tag.rt`, `iri_ref.rt`, `strings.rt`, `escapes.rt` | the terminals of these names |
 //! | `names.rt`, `local_names.rt`, `words.rt`, `blank_label.rt`, `name_walks.rt` | names, words and labels |
-//! | `laws.rt` | that one token stands at a place |
+//! | `laws.rt` | that one token stands at a place, and that a token means what its escapes stand for |
 //! | `walk.rt`, `classes.rt` | past a character; classes of characters |
 //!
-//! It stands on std alone. Start with `scan.rt`; `specs/Tokens.antt` says which token stands at a place,
-//! `specs/Terminals.antt` has the grammar, and `specs/Form.antt` the notation that it is written in.
+//! It stands on std alone. Start with `scan.rt`; `specs/Tokens.antt` says which token stands at a place, and
+//! `specs/Unescaped.antt` what it stands for; `specs/Terminals.antt` has the grammar, and `specs/Form.antt`
+//! the notation that it is written in.
 #![tactic(auto)]
 
 mod blank_label;
@@ -40,7 +41,7 @@ mod token;
 mod walk;
 mod words;
 
-pub use laws::one_token_stands;
+pub use laws::{escapes_are_undone, one_token_stands};
 pub use lookahead::Lookahead;
 pub use meaning::unescape;
 pub use scan::{next_token, next_token_after};

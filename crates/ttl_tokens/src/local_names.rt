@@ -1,7 +1,6 @@
 ghost use Rattle.std.specs.Prelude.{MatchOption};
 ghost use Rattle.std.specs.Str.{chars};
-ghost use Rattle.ttl_tokens.specs.inner.CharWalks.{Longest};
-ghost use Rattle.ttl_tokens.specs.Chars.{PastChar, exactly};
+ghost use Rattle.ttl_tokens.specs.Chars.{Longest, PastChar, exactly};
 ghost use Rattle.ttl_tokens.specs.Form.{Item, Or, Then};
 ghost use Rattle.ttl_tokens.specs.inner.NameForms.{Steps, local_char, local_start, local_tail};
 ghost use Rattle.ttl_tokens.specs.Terminals.{hex, is_local_escaped, plx, pn_local};

@@ -1,8 +1,7 @@
-ghost use Rattle.std.specs.Prelude.{◌≡◌, ℕ, ◌<◌, List, ◌∷◌, IfOk};
+ghost use Rattle.std.specs.Prelude.{◌≡◌, ◌≤◌, IfOk, drop, take};
 ghost use Rattle.std.specs.Str.{chars, encode_utf8_all};
-ghost use Rattle.ttl_tokens.specs.Unescaped.{before, char_of, digit_number, escaped_char, undone};
-ghost use Rattle.ttl_tokens.specs.Unescaped.{with_digit, IsGiven, meaning};
-ghost use Rattle.ttl_tokens.specs.declared.meaning.Mode.TheVariants.{Plain as plain_mode};
+ghost use Rattle.ttl_tokens.specs.Unescaped.{char_of, digit_number, escape_length, escape_number};
+ghost use Rattle.ttl_tokens.specs.Unescaped.{escaped_char, IsGiven, meaning, number_of, undone};
 
 use crate::Token;
 use crate::content::content;
@@ -20,90 +19,54 @@ pub fn unescape(alloc: Global, text: &str, token: &Token) -> Result<String, Allo
     undo(alloc, content(piece, token.kind))
 }
 
-// What a character stands behind.
-#[derive(Clone, Copy, Debug, PartialEq, Eq)]
-enum Mode {
-    Plain,
-    // a backslash
-    Escape,
-    // `\u` or `\U`: so many digits are to come, and those so far write this number
-    Digits { left: u32, number: u32 },
-}
-
-// The text with its escapes undone.
+// The text with its escapes undone: what stands between them is copied as it is.
 fn undo(alloc: Global, text: &str) -> Result<String, AllocError>
-    ensures { IfOk result (λ s. s.bytes.items ≡ encode_utf8_all (undone plain_mode (chars text.now))) }
+    ensures { IfOk result (λ s. s.bytes.items ≡ encode_utf8_all (undone (chars text.now))) }
 {
     let mut out = String::new(alloc);
-    let mut mode = Mode::Plain;
     let mut rest = text;
-    while let Some((first, behind)) = first_char(rest) {
-        let (next, meant) = step(mode, first);
-        if let Some(meant) = meant {
-            out.push(meant)?;
-        }
-        mode = next;
+    while let Some((plain, escape)) = rest.split_once('\\') {
+        out.push_str(plain)?;
+        let (meant, behind) = decoded(escape);
+        out.push(meant)?;
         rest = behind;
     }
+    out.push_str(rest)?;
     Ok(out)
 }
 
-// How it goes on behind a character, and which character is complete with it.
-fn step(mode: Mode, c: char) -> (Mode, Option<char>)
-    ensures { (cs : List ℕ) → undone mode (c ∷ cs) ≡ before result.1 (undone result.0 cs) }
+// What stands behind a backslash: the character that the escape stands for, and the text behind it.
+fn decoded(escape: &str) -> (char, &str)
+    ensures meant { result.0 ≡ char_of (escape_number (chars escape.now)) }
+    ensures behind { chars result.1.now ≡ drop (escape_length (chars escape.now)) (chars escape.now) }
 {
-    match mode {
-        Mode::Plain => {
-            if c == '\\' {
-                (Mode::Escape, None)
-            } else {
-                (Mode::Plain, Some(c))
-            }
-        }
-        Mode::Escape => match c {
-            'u' => (Mode::Digits { left: 4, number: 0 }, None),
-            'U' => (Mode::Digits { left: 8, number: 0 }, None),
-            _ => (Mode::Plain, Some(escaped_char(c))),
-        },
-        Mode::Digits { left, number } => {
-            let number = with_digit(number, c);
-            if left <= 1 {
-                (Mode::Plain, Some(char_of(number)))
-            } else {
-                (
-                    Mode::Digits {
-                        left: left - 1,
-                        number,
-                    },
-                    None,
-                )
-            }
-        }
+    match first_char(escape) {
+        Some(('u', digits)) => numbered(digits, 4),
+        Some(('U', digits)) => numbered(digits, 8),
+        Some((letter, behind)) => (escaped_char(letter), behind),
+        None => ('\\', escape),
     }
 }
 
-fn escaped_char(c: char) -> char
-    ensures { result ≡ escaped_char c }
+// The character whose number so many digits write, and the text behind them.
+fn numbered(text: &str, count: usize) -> (char, &str)
+    requires { count ≤ 8 }
+    ensures meant { result.0 ≡ char_of (number_of (take count (chars text.now))) }
+    ensures behind { chars result.1.now ≡ drop count (chars text.now) }
 {
-    match c {
-        't' => '\t',
-        'b' => '\u{8}',
-        'n' => '\n',
-        'r' => '\r',
-        'f' => '\u{C}',
-        _ => c,
+    let mut number = 0;
+    let mut rest = text;
+    for at in 0..count {
+        if let Some((digit, behind)) = first_char(rest) {
+            number = 16 * number + digit_number(digit);
+            rest = behind;
+        }
     }
-}
-
-fn with_digit(number: u32, digit: char) -> u32
-    ensures { result ≡ with_digit number digit }
-{
-    16 * (number % 0x1000_0000) + digit_number(digit)
+    (char_of(number), rest)
 }
 
 fn digit_number(c: char) -> u32
-    ensures value { result ≡ digit_number c }
-    ensures small { result < 16 }
+    ensures { result ≡ digit_number c }
 {
     match c {
         '0'..='9' => c as u32 - 48,
@@ -119,5 +82,18 @@ fn char_of(number: u32) -> char
     match char::from_u32(number) {
         Some(c) => c,
         None => '\u{FFFD}',
+    }
+}
+
+fn escaped_char(c: char) -> char
+    ensures { result ≡ escaped_char c }
+{
+    match c {
+        't' => '\t',
+        'b' => '\u{8}',
+        'n' => '\n',
+        'r' => '\r',
+        'f' => '\u{C}',
+        _ => c,
     }
 }

@@ -1,7 +1,6 @@
 ghost use Rattle.std.specs.Prelude.{MatchOption};
 ghost use Rattle.std.specs.Str.{chars};
-ghost use Rattle.ttl_tokens.specs.inner.CharWalks.{Longest};
-ghost use Rattle.ttl_tokens.specs.Chars.{PastChar, is_name_char, exactly};
+ghost use Rattle.ttl_tokens.specs.Chars.{Longest, PastChar, is_name_char, exactly};
 ghost use Rattle.ttl_tokens.specs.Form.{Item, Or};
 ghost use Rattle.ttl_tokens.specs.inner.NameForms.{Steps, name_tail};
 ghost use Rattle.ttl_tokens.specs.Walks.{Never, Only};

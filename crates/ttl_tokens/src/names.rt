@@ -1,7 +1,6 @@
 ghost use Rattle.std.specs.Prelude.{◌≡◌, true, MatchOption};
 ghost use Rattle.std.specs.Str.{chars};
-ghost use Rattle.ttl_tokens.specs.inner.CharWalks.{Longest};
-ghost use Rattle.ttl_tokens.specs.Chars.{PastChar, is_name_start};
+ghost use Rattle.ttl_tokens.specs.Chars.{Longest, PastChar, is_name_start};
 ghost use Rattle.ttl_tokens.specs.Form.{Item};
 ghost use Rattle.ttl_tokens.specs.inner.Groups.{IsNoTokenOf, IsTokenOf};
 ghost use Rattle.ttl_tokens.specs.Terminals.{pn_prefix, pname_ns};

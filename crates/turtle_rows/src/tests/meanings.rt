@@ -17,6 +17,7 @@ const MEANINGS: &str = r#"<>→
 "\"\\"→"\
 "\t\n\r"→␉␊␍
 "\u00e9\u00E9"→éé
+"ab\u0041cd\tef"→abAcd␉ef
 "\U0001F600!"→😀!
 "\\u0041"→\u0041
 "é"→é

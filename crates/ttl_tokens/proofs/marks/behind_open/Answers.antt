@@ -4,9 +4,8 @@ use Rattle.ttl_tokens.proofs.marks.behind_open.Goals as goal
 
 pub returns-in-Some : goal.returns-in-Some
 returns-in-Some c =
-    anon_found (chars c.args.inside.now) (chars c.in-Some.rest.now)
-    (rw c.skip_blanks.ensures at c.in-Some.ensures)
+    anon_found (chars c.args.inside.now) _ (chars c.in-Some.rest.now) c.skip_blanks.ensures c.in-Some.ensures
 
 pub returns-in-None : goal.returns-in-None
 returns-in-None c =
-    square_found (chars c.args.inside.now) (rw c.skip_blanks.ensures at c.in-None.ensures)
+    square_found (chars c.args.inside.now) _ c.skip_blanks.ensures c.in-None.ensures

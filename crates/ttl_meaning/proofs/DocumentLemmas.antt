@@ -140,6 +140,7 @@ IsDocumentOf-kept bounds s r pool document keeps none triples prefixes base abso
       terms = within.2;
       limit = keeps.stated.limit;
       triples = ap (λ v. v.items) triples ∙ within.3;
+      valid = keeps.valid;
       prefixes = record {
         sorted = prefixes.sorted;
         each = λ p. (

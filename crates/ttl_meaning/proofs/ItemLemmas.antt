@@ -4,20 +4,26 @@ use Rattle.std.proofs.Common.{refl, sym, ap, ◌∙◌, subst, string_bytes, byt
 use Rattle.std.specs.BTreeMap.{BTreeMap, get_by_text}
 use Rattle.std.specs.Map.{update}
 use Rattle.shx_term.specs.Pool.{Pooled}
+use Rattle.shx_term.specs.Vocabulary.{HasVocabulary}
+use Rattle.shx_term.specs.declared.term.Term.TheVariants.{Iri}
 use Rattle.shx_term.specs.declared.term.Literal.{Literal}
 use Rattle.ttl_tokens.specs.declared.token.Token.{Token}
 use Rattle.ttl_tokens.specs.declared.token.TokenKind.{TokenKind}
 use Rattle.ttl_tokens.specs.declared.token.TokenKind.TheVariants.{IriRef}
-use Rattle.ttl_meaning.specs.declared.context.Context.{Context}
+use Rattle.ttl_meaning.specs.declared.context.Context.{Context as kept_context}
 use Rattle.ttl_meaning.specs.declared.fault.NoTerm.{NoTerm}
 use Rattle.ttl_meaning.specs.declared.fault.TermFaultKind.{TermFaultKind}
 use Rattle.ttl_meaning.specs.declared.reader_state.ReaderState.{ReaderState}
-use Rattle.ttl_meaning.specs.State.{State, unless_fault, enter}
+use Rattle.ttl_meaning.specs.declared.placed.Placed.{Placed}
+use Rattle.ttl_meaning.specs.State.{State, Subject, Context, subject_term}
+use Rattle.ttl_meaning.specs.State.{unless_fault, put, begin_verb, enter}
 use Rattle.ttl_meaning.specs.Items.{put_literal, end_string, used_or_blamed, set_base, bind}
 use Rattle.ttl_meaning.specs.IsStated.{Bounds}
 use Rattle.ttl_meaning.specs.inner.IsReading.{Keeps, IsReading, Does, DoesSound, KeepsOn}
 use Rattle.ttl_meaning.specs.inner.Meant.{IsMeant}
+use Rattle.ttl_meaning.specs.inner.Placed.{IsPlaced, IsContext, AreContexts}
 use Rattle.ttl_meaning.specs.Terms.{in_namespace, iri_of_kind, local_of, namespace_of, prefix_of}
+use Rattle.ttl_meaning.proofs.KeepsLemmas.{Keeps-moved}
 
 none_by_test : {X : Type 0} (o : Option X) → false ≡ is_some o → o ≡ None
 none_by_test None e = refl
@@ -51,17 +57,46 @@ pub kept_in_turn : (f g : State → State) (r : ReaderState) (p : Pooled) (r' : 
     → KeepsOn (λ s. g (f s)) r p r'' p''
 kept_in_turn f g r p r' p' r'' p'' first then bounds s keeps = then bounds (f s) (first bounds s keeps)
 
+-- a verb is begun that has its number in the vocabulary
+pub kept_verb : (verb : Placed) (iri : List ℕ) (r : ReaderState) (r' : ReaderState) (p : Pooled)
+    → (HasVocabulary p.terms → IsPlaced p.terms verb (Iri iri))
+    → ((q : Pooled) (i : List ℕ) → IsPlaced q.terms verb (Iri i) → KeepsOn (begin_verb i) r q r' q)
+    → KeepsOn (begin_verb iri) r p r' p
+kept_verb verb iri r r' p placed begins bounds s keeps = begins p iri (placed keeps.vocabulary) bounds s keeps
+
+-- a node is put that has its number there
+pub kept_node : (node : Placed) (n : Subject) (r : ReaderState) (p : Pooled) (r' : ReaderState) (p' : Pooled)
+    → (HasVocabulary p.terms → IsPlaced p.terms node (subject_term n))
+    → ((m : Subject) → IsPlaced p.terms node (subject_term m) → KeepsOn (put m) r p r' p')
+    → KeepsOn (put n) r p r' p'
+kept_node node n r p r' p' placed puts bounds s keeps = puts n (placed keeps.vocabulary) bounds s keeps
+
 -- a context is entered that was made of what stood before
-pub kept_entered : (f : State → State) (context : State → Context) (inner : Context) (r : ReaderState)
-    (p : Pooled) (r' : ReaderState) (p' : Pooled) (r'' : ReaderState) (p'' : Pooled)
-    → ((bounds : Bounds) (s : State) → Keeps bounds s r p → inner ≡ context s)
-    → KeepsOn f r p r' p' → KeepsOn (enter inner) r' p' r'' p''
-    → KeepsOn (λ s. enter (context s) (f s)) r p r'' p''
-kept_entered f context inner r p r' p' r'' p'' same first then bounds s keeps =
-    subst (λ (c : Context). Keeps bounds (enter c (f s)) r'' p'') (same bounds s keeps)
-    (then bounds (f s) (first bounds s keeps))
+pub kept_entered : (f : State → State) (context : State → Context) (inner : kept_context) (r : ReaderState)
+    (p : Pooled) (r' : ReaderState) (p' : Pooled) (r'' : ReaderState)
+    → ((bounds : Bounds) (s : State) → Keeps bounds s r p → HasVocabulary p'.terms
+    → IsContext p'.terms inner (context s))
+    → KeepsOn f r p r' p'
+    → ((q : Pooled) (c : Context) → IsContext q.terms inner c → KeepsOn (enter c) r' q r'' q)
+    → KeepsOn (λ s. enter (context s) (f s)) r p r'' p'
+kept_entered f context inner r p r' p' r'' same first then bounds s keeps =
+    let after = first bounds s keeps in
+    then p' (context s) (same bounds s keeps after.vocabulary) bounds (f s) after
 
 -- ---- strings
+
+-- a text is held
+pub kept_held : (text : List ℕ) (held : String Global) (r : ReaderState) (p : Pooled)
+    → string_bytes held ≡ text → KeepsOn (λ s. record s { held = text }) r p (record r { held = held }) p
+kept_held text held r p said bounds s keeps = assumption (keeps, said)
+
+-- and where it began
+pub kept_said : (text : List ℕ) (at : ℕ) (held : String Global) (r : ReaderState) (p : Pooled)
+    → string_bytes held ≡ text
+    → KeepsOn (λ s. record s { held = text; held_at = at }) r p (record r { held = held; held_at = at }) p
+kept_said text at held r p said bounds s keeps =
+    let place : at ≡ at = refl in
+    assumption (keeps, said, place)
 
 -- the string that waited is taken, and its literal is put
 pub string_ends : (literal : List ℕ → Literal) (held : List ℕ) (made : Literal) (at : ℕ) (r : ReaderState)
@@ -112,6 +147,8 @@ kept_base iri base r p same bounds s keeps = record {
   held = keeps.held;
   held_at = keeps.held_at;
   stated = keeps.stated;
+  valid = keeps.valid;
+  vocabulary = keeps.vocabulary;
 }
 
 -- the namespace stands in the map under the name that was held
@@ -134,23 +171,16 @@ kept_bound iri name m r p r' named updated taken bounds s keeps =
       held = after.held;
       held_at = after.held_at;
       stated = after.stated;
+      valid = after.valid;
+      vocabulary = after.vocabulary;
     }
 
 -- ---- statements
 
 -- the contexts are these
-pub kept_contexts : (contexts : List Context) (v : Vec Context Global) (r : ReaderState) (p : Pooled)
-    → reverse v.items ≡ contexts
+pub kept_contexts : (contexts : List Context) (v : Vec kept_context Global) (r : ReaderState) (p : Pooled)
+    → AreContexts p.terms (reverse v.items) contexts
     → KeepsOn (λ s. record s { contexts = contexts }) r p (record r { contexts = v }) p
-kept_contexts contexts v r p same bounds s keeps = record {
-  fault = keeps.fault;
-  scope = keeps.scope;
-  base = keeps.base;
-  prefixes = keeps.prefixes;
-  labels = keeps.labels;
-  next = keeps.next;
-  contexts = same;
-  held = keeps.held;
-  held_at = keeps.held_at;
-  stated = keeps.stated;
-}
+kept_contexts contexts v r p are bounds s keeps =
+    Keeps-moved bounds s r p p v r.stated contexts s.triples keeps are keeps.stated keeps.valid
+    keeps.vocabulary

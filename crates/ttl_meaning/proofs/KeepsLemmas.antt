@@ -1,95 +1,129 @@
 -- What is kept of a reading where a term is put into its place.
-use Rattle.std.proofs.Common.{◌≡◌, ℕ, ◌+◌, ◌-◌, true, false, cond, List, [], ◌∷◌, ◌++◌, length, take}
-use Rattle.std.proofs.Common.{Some, Ok, refl, sym, ap, ◌∙◌, subst, inl, inr, arith, String, Vec, Global}
-use Rattle.std.specs.Prelude.{reverse, slice_get, Contains, ◌↔◌}
+use Rattle.std.proofs.Common.{◌≡◌, ℕ, ◌+◌, true, false, cond, List, [], ◌∷◌, ◌++◌}
+use Rattle.std.proofs.Common.{Ok, refl, sym, ap, ◌∙◌, subst, inl, inr, String, Vec, Global}
+use Rattle.std.specs.Prelude.{reverse, Contains, ◌↔◌, All}
 use Rattle.std.specs.BTreeSet.{BTreeSet, contains_text}
 use Rattle.std.specs.Str.{bytes_eq}
 use Rattle.std.proofs.lemmas.Bool.{false≢true}
-use Rattle.std.proofs.lemmas.List.{reverse-append, take_all, take_more}
-use Rattle.std.proofs.lemmas.Option.{slice_get_within, get_or_from_slice_get}
+use Rattle.std.proofs.lemmas.List.Elements.{All-append}
 use Rattle.std.proofs.lemmas.Slice.Eq.{bytes_eq-Decides}
 use Rattle.shx_term.specs.declared.term.Term.{Term}
+use Rattle.shx_term.specs.declared.term.Term.TheVariants.{Blank}
 use Rattle.shx_term.specs.declared.term.Literal.{Literal}
+use Rattle.shx_term.specs.declared.triple.TermTriple.{TermTriple}
 use Rattle.shx_term.specs.Pool.{Pooled}
+use Rattle.shx_term.specs.ValidTriples.{IsNotWide, IsValidTermTriple}
+use Rattle.shx_term.specs.Vocabulary.{HasVocabulary}
 use Rattle.shx_term.proofs.MemberLemmas.{Contains-head, Contains-tail, Contains-cases}
-use Rattle.ttl_meaning.specs.declared.context.Context.{Context}
-use Rattle.ttl_meaning.specs.declared.context.Context.TheVariants.{Open, About, Of}
+use Rattle.ttl_meaning.specs.declared.context.Context.{Context as kept_context}
+use Rattle.ttl_meaning.specs.declared.placed.Placed.TheVariants.{Term as AsTerm}
 use Rattle.ttl_meaning.specs.declared.reader_state.ReaderState.{ReaderState}
 use Rattle.ttl_meaning.specs.declared.stated.Stated.{Stated}
+use Rattle.ttl_meaning.specs.KeepsTerms.{KeepsTerms}
 use Rattle.ttl_meaning.specs.inner.IsReading.{Keeps, IsReading, DoesSound, KeepsOn}
-use Rattle.ttl_meaning.specs.IsStated.{Bounds, IsStated, triple_of}
+use Rattle.ttl_meaning.specs.inner.Placed.{IsPlaced, IsContext, AreContexts}
+use Rattle.ttl_meaning.specs.IsStated.{Bounds, IsStated}
 use Rattle.ttl_meaning.specs.Items.{put_judged, put_label, put_literal, put_new}
-use Rattle.ttl_meaning.specs.State.{State, put, put_in}
+use Rattle.ttl_meaning.specs.State.{State, Subject, ABlank, Context, subject_term, triple_in, behind_node}
+use Rattle.ttl_meaning.specs.State.{put, put_in, put_object, put_object_in}
 use Rattle.ttl_meaning.specs.Terms.{anonymous, judged, labelled}
+use Rattle.ttl_meaning.proofs.ContextLemmas.{HasInnermost, HasInnermost-last, AreContexts-pushed}
+use Rattle.ttl_meaning.proofs.ContextLemmas.{subject_is_not_wide, triple_in-valid}
+use Rattle.ttl_meaning.proofs.PlacedLemmas.{AreContexts-kept}
 
--- ---- contexts: a reading has the innermost last, and a state has it first
+-- a reading keeps on with other contexts and triples, over a pool that begins with the vocabulary
+pub Keeps-moved : (bounds : Bounds) (s : State) (r : ReaderState) (p p' : Pooled)
+    (kept : Vec kept_context Global) (stated : Stated) (contexts : List Context) (triples : List TermTriple)
+    → Keeps bounds s r p → AreContexts p'.terms (reverse kept.items) contexts
+    → IsStated bounds triples stated p' → All IsValidTermTriple triples → HasVocabulary p'.terms
+    → Keeps bounds (record s { contexts = contexts; triples = triples })
+    (record r { contexts = kept; stated = stated }) p'
+Keeps-moved bounds s r p p' kept stated contexts triples keeps are is valid begins = record {
+  fault = keeps.fault;
+  scope = keeps.scope;
+  base = keeps.base;
+  prefixes = keeps.prefixes;
+  labels = keeps.labels;
+  next = keeps.next;
+  contexts = are;
+  held = keeps.held;
+  held_at = keeps.held_at;
+  stated = is;
+  valid = valid;
+  vocabulary = begins;
+}
 
--- a list with this last element, backwards
-reverse-from_last : {X : Type 0} (xs : List X) (x : X) → slice_get xs (length xs - 1) ≡ Some x
-    → reverse xs ≡ x ∷ reverse (take (length xs - 1) xs)
-reverse-from_last xs x e =
-    let last = length xs - 1 in
-    let whole : take (last + 1) xs ≡ xs = take_all (last + 1) xs (omega arith) in
-    let split : xs ≡ take last xs ++ x ∷ [] =
-    sym whole ∙ take_more xs last x (slice_get_within xs last x e)
-    ∙ ap (λ y. take last xs ++ y ∷ []) (get_or_from_slice_get xs last x x e) in
-    ap reverse split ∙ reverse-append (take last xs) (x ∷ [])
+-- ---- a term is put into the innermost context, which is another one behind it
 
--- the other contexts, the innermost of them first
-abbrev pub outer : ReaderState → List Context
-outer r = reverse (take (length r.contexts.items - 1) r.contexts.items)
+module _ (r : ReaderState) (p p' : Pooled) (last new : kept_context) (left : List kept_context)
+    (kept : Vec kept_context Global) (stated : Stated) (popped : r.contexts.items ≡ left ++ last ∷ [])
+    (pushed : kept.items ≡ left ++ new ∷ []) (gains : KeepsTerms p p') (begins : HasVocabulary p'.terms) where
+  abbrev after : ReaderState
+  after = record r { contexts = kept; stated = stated }
 
--- the innermost context is this one
-abbrev pub IsInnermost : Context → ReaderState → Type 0
-IsInnermost context r = reverse r.contexts.items ≡ context ∷ outer r
+  -- what is innermost in a state
+  abbrev Innermost : State → Type 0
+  Innermost s = HasInnermost p.terms last left s.contexts
 
--- what is last in a reading is innermost
-pub IsInnermost-from_last : (r : ReaderState) (xs : List Context) (context last : Context)
-    → xs ≡ r.contexts.items → Some last ≡ slice_get xs (length xs - 1) → last ≡ context
-    → IsInnermost context r
-IsInnermost-from_last r xs context last same at is =
-    subst (λ ys. reverse ys ≡ context ∷ reverse (take (length ys - 1) ys)) same
-    (reverse-from_last xs context (sym at ∙ ap Some is))
+  Keeps-behind : (bounds : Bounds) (s : State) (keeps : Keeps bounds s r p) (has : Innermost s) (t : Term)
+      (behind : Context) → IsNotWide t → IsContext p'.terms new behind
+      → IsStated bounds (s.triples ++ triple_in t has.context) stated p'
+      → Keeps bounds
+      (record s { contexts = behind ∷ has.outer; triples = s.triples ++ triple_in t has.context }) after p'
+  Keeps-behind bounds s keeps has t behind narrow is states =
+      Keeps-moved bounds s r p p' kept stated (behind ∷ has.outer) (s.triples ++ triple_in t has.context)
+      keeps
+      (AreContexts-pushed p'.terms kept.items left new pushed behind has.outer is
+      (AreContexts-kept p p' gains (reverse left) has.outer has.others))
+      states
+      (All-append IsValidTermTriple s.triples (triple_in t has.context) keeps.valid
+      (triple_in-valid t has.context narrow))
+      begins
 
-module _ (bounds : Bounds) (s : State) (r : ReaderState) (pool : Pooled) (keeps : Keeps bounds s r pool) where
-  contexts_are : (context : Context) → IsInnermost context r → context ∷ outer r ≡ s.contexts
-  contexts_are context here = sym here ∙ keeps.contexts
+  innermost : (bounds : Bounds) (s : State) → Keeps bounds s r p → Innermost s
+  innermost bounds s keeps =
+      HasInnermost-last p.terms r.contexts.items left last popped s.contexts keeps.contexts
 
-  -- an object is put: its triple is stated
-  pub Keeps-object : (t subject verb : Term) (stated : Stated) (next : Pooled)
-      → IsInnermost (Of subject verb) r
-      → IsStated bounds (s.triples ++ triple_of subject verb t ∷ []) stated next
-      → Keeps bounds (put t s) (record r { stated = stated }) next
-  Keeps-object t subject verb stated next here is =
-      subst (λ cs. Keeps bounds (put_in t cs s) (record r { stated = stated }) next)
-      (contexts_are (Of subject verb) here) (assumption (keeps, is))
+  pub KeepsOn-put : (n : Subject)
+      → ((c : Context) → IsContext p.terms last c → IsContext p'.terms new (behind_node n c))
+      → ((c : Context) (bounds : Bounds) (triples : List TermTriple) → IsContext p.terms last c
+      → IsStated bounds triples r.stated p
+      → IsStated bounds (triples ++ triple_in (subject_term n) c) stated p')
+      → KeepsOn (put n) r p after p'
+  KeepsOn-put n behind states bounds s keeps =
+      let has = innermost bounds s keeps in
+      subst (λ cs. Keeps bounds (put_in n cs (record s { contexts = cs })) after p') (sym has.is)
+      (Keeps-behind bounds s keeps has (subject_term n) (behind_node n has.context) (subject_is_not_wide n)
+      (behind has.context has.innermost)
+      (states has.context bounds s.triples has.innermost keeps.stated))
 
-  -- a subject is put: the reading has it in place of the empty context
-  pub Keeps-subject : (t : Term) (contexts : Vec Context Global) (left : List Context) → IsInnermost Open r
-      → left ≡ take (length r.contexts.items - 1) r.contexts.items → contexts.items ≡ left ++ About t ∷ []
-      → Keeps bounds (put t s) (record r { contexts = contexts }) pool
-  Keeps-subject t contexts left here rest pushed =
-      let now : reverse contexts.items ≡ About t ∷ outer r =
-      ap reverse pushed ∙ reverse-append left (About t ∷ []) ∙ ap (λ xs. About t ∷ reverse xs) rest in
-      subst (λ cs. Keeps bounds (put_in t cs s) (record r { contexts = contexts }) pool)
-      (contexts_are Open here) (assumption (keeps, now))
-
-  -- where a verb is due nothing is put
-  pub Keeps-no_object : (t subject : Term) → IsInnermost (About subject) r → Keeps bounds (put t s) r pool
-  Keeps-no_object t subject here =
-      subst (λ cs. Keeps bounds (put_in t cs s) r pool) (contexts_are (About subject) here) keeps
+  pub KeepsOn-put_object : (t : Term) → IsNotWide t
+      → ((c : Context) → IsContext p.terms last c → IsContext p'.terms new c)
+      → ((c : Context) (bounds : Bounds) (triples : List TermTriple) → IsContext p.terms last c
+      → IsStated bounds triples r.stated p → IsStated bounds (triples ++ triple_in t c) stated p')
+      → KeepsOn (put_object t) r p after p'
+  KeepsOn-put_object t narrow behind states bounds s keeps =
+      let has = innermost bounds s keeps in
+      subst (λ cs. Keeps bounds (put_object_in t cs (record s { contexts = cs })) after p') (sym has.is)
+      (Keeps-behind bounds s keeps has t has.context narrow (behind has.context has.innermost)
+      (states has.context bounds s.triples has.innermost keeps.stated))
 
 -- ---- new nodes and labels
 
+-- what a node that is put does
+abbrev pub PutsNode : Term → ReaderState → Pooled → ReaderState → Pooled → Type 0
+PutsNode node r p r' p' =
+    (n : Subject) → IsPlaced p.terms (AsTerm node) (subject_term n) → KeepsOn (put n) r p r' p'
+
 -- a node with the number that comes next is put, and the number is counted up
 pub KeepsOn-put_new : (r r' : ReaderState) (p p' : Pooled) (node : Term) (next : ℕ)
-    → node ≡ anonymous r.scope r.next → next ≡ r.next + 1
-    → KeepsOn (put node) (record r { next = next }) p r' p' → KeepsOn put_new r p r' p'
+    → node ≡ Blank (anonymous r.scope r.next) → next ≡ r.next + 1
+    → PutsNode node (record r { next = next }) p r' p' → KeepsOn put_new r p r' p'
 KeepsOn-put_new r r' p p' node next is follows puts bounds s keeps =
     let more : State = record s { next = s.next + 1 } in
     let at : next ≡ s.next + 1 = follows ∙ ap (λ n. n + 1) keeps.next in
-    subst (λ t. Keeps bounds (put t more) r' p') (is ∙ (λ i. anonymous (keeps.scope i) (keeps.next i)))
-    (puts bounds more (assumption (keeps, at)))
+    puts (ABlank (anonymous s.scope s.next)) (is ∙ (λ i. Blank (anonymous (keeps.scope i) (keeps.next i))))
+    bounds more (assumption (keeps, at))
 
 -- a set of texts has one more
 abbrev pub HasAlso : BTreeSet (String Global) → List ℕ → BTreeSet (String Global) → Type 0
@@ -136,21 +170,21 @@ pub record KnowsLabel (label : List ℕ) (r mid : ReaderState) : Type 0 where
 
 -- a node with a label is put, once the label is known
 pub KeepsOn-put_label : (r mid r' : ReaderState) (p p' : Pooled) (node : Term) (label : List ℕ)
-    → KnowsLabel label r mid → node ≡ labelled mid.scope label
-    → KeepsOn (put node) mid p r' p' → KeepsOn (put_label label) r p r' p'
+    → KnowsLabel label r mid → node ≡ Blank (labelled mid.scope label)
+    → PutsNode node mid p r' p' → KeepsOn (put_label label) r p r' p'
 KeepsOn-put_label r mid r' p p' node label knows is puts bounds s keeps =
     let more : State = record s { labels = label ∷ s.labels } in
     let labels = has_more r.labels knows.labels label s.labels knows.also keeps.labels in
     let kept : Keeps bounds more (record r { labels = knows.labels }) p = assumption (keeps, labels) in
     let now : Keeps bounds more mid p = subst (λ x. Keeps bounds more x p) (sym knows.same) kept in
-    subst (λ t. Keeps bounds (put t more) r' p') (is ∙ ap (λ scope. labelled scope label) now.scope)
-    (puts bounds more now)
+    puts (ABlank (labelled s.scope label)) (is ∙ ap (λ scope. Blank (labelled scope label)) now.scope)
+    bounds more now
 
 -- ---- literals
 
 -- a literal without a fault is put
 pub DoesSound-put_literal : (r r' : ReaderState) (p p' : Pooled) (at : ℕ) (literal : Literal) (term : Term)
-    → Ok term ≡ judged literal → KeepsOn (put term) r p r' p'
+    → Ok term ≡ judged literal → KeepsOn (put_object term) r p r' p'
     → DoesSound (put_literal at literal) r p r' p'
 DoesSound-put_literal r r' p p' at literal term good puts bounds s none keeps =
     let after = puts bounds s keeps in

@@ -1,7 +1,9 @@
+pub mod ContextLemmas
 pub mod DocumentLemmas
 pub mod ItemLemmas
 pub mod KeepsLemmas
 pub mod NodeLemmas
+pub mod PlacedLemmas
 pub mod SearchLemmas
 pub mod StatedLemmas
 pub mod TokenTextLemmas

@@ -1,7 +1,7 @@
 -- Blank nodes by the way in which they are spelled.
 use Rattle.std.proofs.Common.{◌≡◌, ℕ, ◌≤◌, List, ◌++◌, codes, get_or, Result, Ok}
-use Rattle.std.proofs.Common.{sym, ap, ◌∙◌, arith}
-use Rattle.std.specs.Prelude.{decimal}
+use Rattle.std.proofs.Common.{sym, ap, subst, ◌∙◌, arith}
+use Rattle.std.specs.Prelude.{decimal, Contains}
 use Rattle.std.specs.Str.Parse.{ParsesUnsigned}
 use Rattle.std.proofs.lemmas.Fmt.{decimal_injective, parse-decimal}
 use Rattle.std.proofs.lemmas.List.{append_cancel_left}
@@ -60,3 +60,14 @@ module _ (document : Document) where
           ap Anonymous (decimal_injective m n (omega (arith, p.1, document.few))
           (omega (arith, q.1, document.few))
           (append_cancel_left (codes "_:a-") (decimal m) (decimal n) e))
+
+  -- the label of a node that is spelled with one
+  pub its_label : (node : BlankName) (label : List ℕ) → HasNode document node
+      → spelling_of (Blank node) ≡ codes "_:d-" ++ label → Contains document.labels.items label
+  its_label node label has is = by_name node.name has.1 (as_data node _ has is)
+    where
+      by_name : (a : LocalName) → HasName document a → blank_spelling Data a ≡ codes "_:d-" ++ label
+          → Contains document.labels.items label
+      by_name (Labelled l) p e =
+          subst (Contains document.labels.items) (append_cancel_left (codes "_:d-") l label e) p
+      by_name (Anonymous n) p e = absurd (kinds_differ label (decimal n) (sym e))

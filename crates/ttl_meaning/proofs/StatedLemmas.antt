@@ -9,7 +9,7 @@ use Rattle.std.proofs.lemmas.List.Elements.{filter_map-append}
 use Rattle.shx_term.specs.declared.term.Term.{Term}
 use Rattle.shx_term.specs.declared.triple.Triple.{Triple}
 use Rattle.shx_term.specs.declared.triple.TermTriple.{TermTriple}
-use Rattle.shx_term.specs.Pool.{Pooled, is_held, with_terms}
+use Rattle.shx_term.specs.Pool.{Pooled, IsFullFor, is_held, with_term, with_terms}
 use Rattle.shx_term.specs.TripleTerms.{terms_of, numbered, numbered_all}
 use Rattle.shx_term.proofs.HeldLemmas.{with_terms-append, with_terms_grow, length-le-with_terms}
 use Rattle.shx_term.proofs.HeldLemmas.{all_held}
@@ -52,6 +52,10 @@ numbered_all-push bounds terms next ts t u before entered number =
     ∙ ap (λ xs. numbered_all next ts ++ xs) last
     ∙ ap (λ xs. xs ++ u ∷ [])
     (ap (λ xs. numbered_all xs ts) (entered ∙ grown.1) ∙ numbers_stay terms grown.0 ts all)
+
+-- with a term for which a pool is full its limit is passed
+pub past_limit : (pool : Pooled) (t : Term) → IsFullFor pool t → pool.limit < length (with_term pool.terms t)
+past_limit pool t full = rw full.absent (omega (arith, full.at_limit, length-append pool.terms (t ∷ [])))
 
 module _ (bounds : Bounds) (triples : List TermTriple) (t : TermTriple) (stated : Stated)
     (pool : Pooled) where
@@ -107,4 +111,31 @@ module _ (bounds : Bounds) (triples : List TermTriple) (t : TermTriple) (stated 
       most = is.most;
       limit = limit ∙ is.limit;
       within = stored_within stated.excess none is.within;
+    }
+
+  -- the limit of terms is passed with those of the triple
+  module _ (next : Pooled) (few : stated.count < stated.most) (limit : next.limit ≡ pool.limit)
+      (past : pool.limit < length (with_terms pool.terms (terms_of (t ∷ []))))
+      (is : IsStated bounds triples stated pool) where
+    abbrev full : Stated
+    full = record stated { count = stated.count + 1; excess = Some Terms }
+
+    full_within : (excess : Option Excess) → is_some excess ≡ false
+        → IsWithin excess bounds triples stated pool
+        → IsWithin (Some Terms) bounds (triples ++ t ∷ []) full next
+    full_within (Some excess) none within = absurd (cc)
+    full_within None none within =
+        let one_more = length-append triples (t ∷ []) in
+        let terms : with_terms pool.terms (terms_of (t ∷ [])) ≡ terms_with bounds (triples ++ t ∷ []) =
+        ap (λ xs. with_terms xs (terms_of (t ∷ []))) within.2 ∙ sym (terms_with-push bounds triples t) in (
+          omega (arith, within.0, one_more),
+          omega (arith, within.0, one_more, few, is.most),
+          omega (arith, past, is.limit, ap length terms),
+        )
+
+    pub IsStated-full : is_some stated.excess ≡ false → IsStated bounds (triples ++ t ∷ []) full next
+    IsStated-full none = record {
+      most = is.most;
+      limit = limit ∙ is.limit;
+      within = full_within stated.excess none is.within;
     }

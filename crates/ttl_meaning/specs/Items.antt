@@ -1,26 +1,23 @@
 -- What each item of the grammar does (Turtle 1.1, section 7.3).
 use Rattle.std.specs.Prelude.{ℕ, ◌+◌, List, [], ◌∷◌, drop, codes, Result, Ok, Err}
 use Rattle.shx_term.specs.declared.term.Term.{Term}
-use Rattle.shx_term.specs.declared.term.Term.TheVariants.{Iri}
 use Rattle.shx_term.specs.declared.term.Literal.{Literal}
-use Rattle.shx_term.specs.Vocabulary.{rdf}
 use Rattle.shx_term.specs.Spelling.{xsd_string}
 use Rattle.ttl_tokens.specs.declared.token.Token.{Token}
 use Rattle.ttl_tokens.specs.Unescaped.{token_text}
-use Rattle.ttl_meaning.specs.declared.context.Context.TheVariants.{Open, About, Of}
 use Rattle.ttl_meaning.specs.declared.fault.TermFaultKind.{TermFaultKind}
 use Rattle.ttl_meaning.specs.declared.iris.IriRole.{IriRole}
 use Rattle.ttl_meaning.specs.declared.iris.IriRole.TheVariants.{Node, Verb, Datatype}
-use Rattle.ttl_meaning.specs.State.{State, unless_fault, blame, put, begin_verb, enter, leave}
+use Rattle.ttl_meaning.specs.State.{State, AnIri, ABlank, Open, About, Of}
+use Rattle.ttl_meaning.specs.State.{unless_fault, blame, put, put_object, begin_verb, enter, leave}
 use Rattle.ttl_meaning.specs.Terms.{said, prefix_of, iri_of, iri_of_reference, judged, typed, datatype_of}
-use Rattle.ttl_meaning.specs.Terms.{tagged}
-use Rattle.ttl_meaning.specs.Terms.{anonymous, labelled}
+use Rattle.ttl_meaning.specs.Terms.{tagged, anonymous, labelled, rdf_iri}
 
 -- ---- literals
 
 -- a literal that begins at this byte stands here, or has a fault
 abbrev pub put_judged : ℕ → Result Term TermFaultKind → State → State
-put_judged at (Ok term) s = put term s
+put_judged at (Ok term) s = put_object term s
 put_judged at (Err kind) s = blame (record { kind = kind; at = at }) s
 
 abbrev pub put_literal : ℕ → Literal → State → State
@@ -49,8 +46,8 @@ on_tag text token = unless_fault (λ s. end_string (tagged s.held (drop 1 (token
 
 -- an IRI is a node, a verb, or the datatype of the string that waits
 abbrev pub used : IriRole → List ℕ → State → State
-used Node iri s = put (Iri iri) s
-used Verb iri s = begin_verb (Iri iri) s
+used Node iri s = put (AnIri iri) s
+used Verb iri s = begin_verb iri s
 used Datatype iri s = end_string (typed s.held iri) s
 
 -- an IRI that begins at this byte is used, or has a fault
@@ -64,12 +61,12 @@ on_iri text role token = unless_fault (λ s. used_or_blamed (used role) token.st
 
 -- `a` as a verb
 abbrev pub on_a : State → State
-on_a = unless_fault (begin_verb (rdf (codes "type")))
+on_a = unless_fault (begin_verb (rdf_iri (codes "type")))
 
 -- ---- blank nodes and collections
 
 abbrev pub put_label : List ℕ → State → State
-put_label label s = put (labelled s.scope label) (record s { labels = label ∷ s.labels })
+put_label label s = put (ABlank (labelled s.scope label)) (record s { labels = label ∷ s.labels })
 
 -- BLANK_NODE_LABEL
 abbrev pub on_label : List ℕ → Token → State → State
@@ -77,7 +74,7 @@ on_label text token = unless_fault (put_label (drop 2 (token_text text token)))
 
 -- a new anonymous node, in its place
 abbrev pub put_new : State → State
-put_new s = put (anonymous s.scope s.next) (record s { next = s.next + 1 })
+put_new s = put (ABlank (anonymous s.scope s.next)) (record s { next = s.next + 1 })
 
 -- ANON
 abbrev pub on_anon : State → State
@@ -85,7 +82,7 @@ on_anon = unless_fault put_new
 
 -- `[`: a new node, of which what follows speaks
 abbrev pub open_node : State → State
-open_node = unless_fault (λ s. enter (About (anonymous s.scope s.next)) (put_new s))
+open_node = unless_fault (λ s. enter (About (ABlank (anonymous s.scope s.next))) (put_new s))
 
 -- `]`
 abbrev pub close_node : State → State
@@ -94,24 +91,24 @@ close_node = unless_fault leave
 -- the first cell of a collection, at its first member
 abbrev pub first_cell : State → State
 first_cell = unless_fault (λ s.
-    enter (Of (anonymous s.scope s.next) (rdf (codes "first"))) (put_new s))
+    enter (Of (ABlank (anonymous s.scope s.next)) (rdf_iri (codes "first"))) (put_new s))
 
 -- the next cell, at its member
 abbrev pub next_cell : State → State
 next_cell = unless_fault (λ s.
-    enter (Of (anonymous s.scope s.next) (rdf (codes "first"))) (leave (put_new s)))
+    enter (Of (ABlank (anonymous s.scope s.next)) (rdf_iri (codes "first"))) (leave (put_new s)))
 
 -- behind a member the cell waits for the rest
 abbrev pub behind_member : State → State
-behind_member = unless_fault (begin_verb (rdf (codes "rest")))
+behind_member = unless_fault (begin_verb (rdf_iri (codes "rest")))
 
 -- `)` behind members
 abbrev pub end_list : State → State
-end_list = unless_fault (λ s. leave (put (rdf (codes "nil")) s))
+end_list = unless_fault (λ s. leave (put (AnIri (rdf_iri (codes "nil"))) s))
 
 -- `()`
 abbrev pub empty_list : State → State
-empty_list = unless_fault (put (rdf (codes "nil")))
+empty_list = unless_fault (put (AnIri (rdf_iri (codes "nil"))))
 
 -- ---- directives
 

@@ -1,6 +1,7 @@
 pub mod InForce
 pub mod IsStated
 pub mod Items
+pub mod KeepsTerms
 pub mod State
 pub mod Terms
 pub mod inner

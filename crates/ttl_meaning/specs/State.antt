@@ -1,17 +1,33 @@
 -- What a reader of Turtle knows at a place (Turtle 1.1, section 7.1), and what it has read.
 use Rattle.std.specs.Prelude.{ℕ, List, [], ◌∷◌, ◌++◌, Option, Some, None, is_some}
 use Rattle.std.specs.Prelude.{if◌then◌else◌}
+use Rattle.shx_term.specs.declared.term.BlankName.{BlankName}
 use Rattle.shx_term.specs.declared.term.Term.{Term}
+use Rattle.shx_term.specs.declared.term.Term.TheVariants.{Iri, Blank}
 use Rattle.shx_term.specs.declared.term.Scope.{Scope}
 use Rattle.shx_term.specs.declared.triple.TermTriple.{TermTriple}
-use Rattle.ttl_meaning.specs.declared.context.Context.{Context}
-use Rattle.ttl_meaning.specs.declared.context.Context.TheVariants.{Open, About, Of}
 use Rattle.ttl_meaning.specs.declared.fault.TermFault.{TermFault}
 
 -- a prefix, and the namespace that it stands for
 pub record Binding : Type 0 where
   pub name : List ℕ
   pub iri : List ℕ
+
+-- what a triple may speak of: an IRI or a blank node
+pub data Subject : Type 0 where
+  AnIri : List ℕ → Subject
+  ABlank : BlankName → Subject
+
+abbrev pub subject_term : Subject → Term
+subject_term (AnIri iri) = Iri iri
+subject_term (ABlank name) = Blank name
+
+-- what the next term belongs to: to nothing yet, to a subject that waits for its verb, or to a subject and
+-- a verb, which is an IRI
+pub data Context : Type 0 where
+  Open : Context
+  About : Subject → Context
+  Of : Subject → List ℕ → Context
 
 pub record State : Type 0 where
   -- which text it is
@@ -41,28 +57,48 @@ blame fault s = record s { fault = Some fault }
 
 -- ---- contexts
 
--- the term stands in this context
-abbrev pub put_in : Term → List Context → State → State
-put_in t [] s = s
-put_in t (Open ∷ outer) s = record s { contexts = About t ∷ outer }
-put_in t (About subject ∷ outer) s = s
-put_in t (Of subject verb ∷ outer) s =
-    record s { triples = s.triples ++ (record { s = subject; p = verb; o = t } ∷ []) }
+-- the triple that a term makes in a context
+abbrev pub triple_in : Term → Context → List TermTriple
+triple_in object Open = []
+triple_in object (About subject) = []
+triple_in object (Of subject verb) = record { s = subject_term subject; p = Iri verb; o = object } ∷ []
 
-abbrev pub put : Term → State → State
-put t s = put_in t s.contexts s
+-- what a context is behind an IRI or a blank node
+abbrev pub behind_node : Subject → Context → Context
+behind_node node Open = About node
+behind_node node (About subject) = About subject
+behind_node node (Of subject verb) = Of subject verb
+
+-- an IRI or a blank node stands in the innermost context
+abbrev pub put_in : Subject → List Context → State → State
+put_in node [] s = s
+put_in node (context ∷ outer) s = record s {
+  contexts = behind_node node context ∷ outer;
+  triples = s.triples ++ triple_in (subject_term node) context;
+}
+
+abbrev pub put : Subject → State → State
+put node s = put_in node s.contexts s
+
+-- a literal stands there: it is an object, and never a subject
+abbrev pub put_object_in : Term → List Context → State → State
+put_object_in literal [] s = s
+put_object_in literal (context ∷ outer) s = record s { triples = s.triples ++ triple_in literal context }
+
+abbrev pub put_object : Term → State → State
+put_object literal s = put_object_in literal s.contexts s
 
 -- a context goes on with this verb
-abbrev pub goes_on_with : Term → Context → Context
+abbrev pub goes_on_with : List ℕ → Context → Context
 goes_on_with verb Open = Open
 goes_on_with verb (About subject) = Of subject verb
 goes_on_with verb (Of subject other) = Of subject verb
 
-abbrev pub with_verb : Term → List Context → List Context
+abbrev pub with_verb : List ℕ → List Context → List Context
 with_verb verb [] = []
 with_verb verb (context ∷ outer) = goes_on_with verb context ∷ outer
 
-abbrev pub begin_verb : Term → State → State
+abbrev pub begin_verb : List ℕ → State → State
 begin_verb verb s = record s { contexts = with_verb verb s.contexts }
 
 abbrev pub without_first : List Context → List Context

@@ -6,7 +6,8 @@ use Rattle.std.specs.Cmp.Lexicographic.{pointwise}
 use Rattle.std.specs.List.{before_first}
 use Rattle.std.specs.Str.{encode_utf8_all}
 use Rattle.shx_term.specs.declared.term.Term.{Term}
-use Rattle.shx_term.specs.declared.term.Term.TheVariants.{Blank, Lit}
+use Rattle.shx_term.specs.declared.term.Term.TheVariants.{Lit}
+use Rattle.shx_term.specs.declared.term.BlankName.{BlankName}
 use Rattle.shx_term.specs.declared.term.Literal.{Literal}
 use Rattle.shx_term.specs.declared.term.Scope.{Scope}
 use Rattle.shx_term.specs.declared.term.LocalName.TheVariants.{Labelled, Anonymous}
@@ -77,8 +78,12 @@ datatype_of Decimal = xsd (codes "decimal")
 datatype_of Double = xsd (codes "double")
 datatype_of kind = xsd (codes "boolean")
 
+-- an IRI of RDF's own
+abbrev pub rdf_iri : List ℕ → List ℕ
+rdf_iri name = codes "http://www.w3.org/1999/02/22-rdf-syntax-ns#" ++ name
+
 abbrev pub lang_string : List ℕ
-lang_string = codes "http://www.w3.org/1999/02/22-rdf-syntax-ns#langString"
+lang_string = rdf_iri (codes "langString")
 
 abbrev pub typed : List ℕ → List ℕ → Literal
 typed lexical datatype = record { lexical = lexical; datatype = datatype; tag = None }
@@ -94,8 +99,8 @@ tagged lexical tag = record {
 
 -- ---- blank nodes
 
-abbrev pub anonymous : Scope → ℕ → Term
-anonymous scope number = Blank (record { scope = scope; name = Anonymous number })
+abbrev pub anonymous : Scope → ℕ → BlankName
+anonymous scope number = record { scope = scope; name = Anonymous number }
 
-abbrev pub labelled : Scope → List ℕ → Term
-labelled scope label = Blank (record { scope = scope; name = Labelled label })
+abbrev pub labelled : Scope → List ℕ → BlankName
+labelled scope label = record { scope = scope; name = Labelled label }

@@ -3,3 +3,4 @@ pub mod Ascending
 pub mod DocumentOf
 pub mod IsReading
 pub mod Meant
+pub mod Placed

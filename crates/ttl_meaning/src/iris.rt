@@ -5,11 +5,13 @@ ghost use Rattle.ttl_tokens.specs.Unescaped.{IsGiven};
 ghost use Rattle.iri_resolve.specs.Resolution.{IsAbsolute};
 ghost use Rattle.ttl_meaning.specs.inner.IsReading.{DoesSound, Finds};
 ghost use Rattle.ttl_meaning.specs.Items.{used};
+ghost use Rattle.ttl_meaning.specs.KeepsTerms.{KeepsTerms};
 ghost use Rattle.ttl_meaning.specs.inner.Meant.{IsMeant};
 ghost use Rattle.ttl_meaning.specs.Terms.{iri_of as iri_meant, iri_of_reference, in_namespace, local_of};
 ghost use Rattle.ttl_meaning.specs.Terms.{said};
 
 use crate::fault::{NoTerm, TermFaultKind};
+use crate::placed::Placed;
 use crate::reader_state::ReaderState;
 use crate::terms::{prefix_text, typed};
 use iri_resolve::{IriFault, resolve};
@@ -60,11 +62,12 @@ impl ReaderState {
         role: IriRole,
         iri: IriText,
     ) -> Result<(), Memory>
-        ensures { OnOk result (DoesSound (used role iri) self.old pool.old self.new pool.new) }
+        ensures keeps { KeepsTerms pool.old pool.new }
+        ensures does { OnOk result (DoesSound (used role iri) self.old pool.old self.new pool.new) }
     {
         match role {
-            IriRole::Node => self.put(pool, Term::Iri(iri)),
-            IriRole::Verb => self.begin_verb(Term::Iri(iri)),
+            IriRole::Node => self.put(pool, Placed::Term(Term::Iri(iri))),
+            IriRole::Verb => self.begin_verb(Placed::Term(Term::Iri(iri))),
             IriRole::Datatype => {
                 let lexical = self.take_held();
                 self.put_literal(pool, self.held_at, typed(lexical, iri))

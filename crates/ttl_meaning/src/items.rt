@@ -10,16 +10,16 @@ ghost use Rattle.ttl_meaning.specs.Items.{on_label as label_item, on_anon as ano
 ghost use Rattle.ttl_meaning.specs.Items.{close_node};
 ghost use Rattle.ttl_meaning.specs.Items.{first_cell, next_cell, behind_member, end_list, empty_list};
 ghost use Rattle.ttl_meaning.specs.Items.{begin_statement};
+ghost use Rattle.ttl_meaning.specs.KeepsTerms.{KeepsTerms};
 
 use crate::context::Context;
 use crate::fault::{NoTerm, TermFault};
 use crate::iris::IriRole;
 use crate::literals::bare;
+use crate::placed::Placed;
 use crate::reader_state::ReaderState;
-use crate::terms::{
-    FIRST, NIL, REST, TYPE, anonymous, iri, iri_text, string_datatype, tag_text, tagged,
-    token_text, typed,
-};
+use crate::terms::{anonymous, iri_text, string_datatype, tag_text, tagged, token_text, typed};
+use shx_term::vocabulary::{RDF_FIRST, RDF_NIL, RDF_REST, RDF_TYPE};
 use shx_term::{Memory, Pool};
 use std::alloc::AllocError;
 use ttl_tokens::{Token, unescape};
@@ -47,7 +47,8 @@ impl ReaderState {
         token: &Token,
     ) -> Result<(), Memory>
         requires { IsGiven text.now token.now }
-        ensures { OnOk result
+        ensures keeps { KeepsTerms pool.old pool.new }
+        ensures does { OnOk result
             (Does (iri_item text.now role token.now) self.old pool.old self.new pool.new) }
     {
         if self.fault.is_some() {
@@ -71,14 +72,15 @@ impl ReaderState {
         if self.fault.is_some() {
             return Ok(());
         }
-        let verb = iri(self.alloc, TYPE)?;
-        self.begin_verb(verb)
+        self.begin_verb(Placed::Id(RDF_TYPE))
     }
 
     /// A literal that is written without quotes: `INTEGER`, `DECIMAL`, `DOUBLE`, `true` or `false`.
     pub fn on_literal(&mut self, pool: &mut Pool, text: &str, token: &Token) -> Result<(), Memory>
         requires { IsGiven text.now token.now }
-        ensures { OnOk result (Does (literal_item text.now token.now) self.old pool.old self.new pool.new) }
+        ensures keeps { KeepsTerms pool.old pool.new }
+        ensures does { OnOk result
+            (Does (literal_item text.now token.now) self.old pool.old self.new pool.new) }
     {
         if self.fault.is_some() {
             return Ok(());
@@ -103,7 +105,8 @@ impl ReaderState {
 
     /// The string that waits has neither tag nor datatype.
     pub fn plain_string(&mut self, pool: &mut Pool) -> Result<(), Memory>
-        ensures { OnOk result (Does plain_string self.old pool.old self.new pool.new) }
+        ensures keeps { KeepsTerms pool.old pool.new }
+        ensures does { OnOk result (Does plain_string self.old pool.old self.new pool.new) }
     {
         if self.fault.is_some() {
             return Ok(());
@@ -117,7 +120,8 @@ impl ReaderState {
     pub fn on_tag(&mut self, pool: &mut Pool, text: &str, token: &Token) -> Result<(), Memory>
         requires given { IsGiven text.now token.now }
         requires kind { token.now.kind ≡ LangTag }
-        ensures { OnOk result (Does (tag_item text.now token.now) self.old pool.old self.new pool.new) }
+        ensures keeps { KeepsTerms pool.old pool.new }
+        ensures does { OnOk result (Does (tag_item text.now token.now) self.old pool.old self.new pool.new) }
     {
         if self.fault.is_some() {
             return Ok(());
@@ -131,7 +135,9 @@ impl ReaderState {
     pub fn on_label(&mut self, pool: &mut Pool, text: &str, token: &Token) -> Result<(), Memory>
         requires given { IsGiven text.now token.now }
         requires kind { token.now.kind ≡ BlankLabel }
-        ensures { OnOk result (Does (label_item text.now token.now) self.old pool.old self.new pool.new) }
+        ensures keeps { KeepsTerms pool.old pool.new }
+        ensures does { OnOk result
+            (Does (label_item text.now token.now) self.old pool.old self.new pool.new) }
     {
         if self.fault.is_some() {
             return Ok(());
@@ -141,7 +147,8 @@ impl ReaderState {
 
     /// `ANON`.
     pub fn on_anon(&mut self, pool: &mut Pool) -> Result<(), Memory>
-        ensures { OnOk result (Does anon_item self.old pool.old self.new pool.new) }
+        ensures keeps { KeepsTerms pool.old pool.new }
+        ensures does { OnOk result (Does anon_item self.old pool.old self.new pool.new) }
     {
         if self.fault.is_some() {
             return Ok(());
@@ -151,14 +158,15 @@ impl ReaderState {
 
     /// `[`: a new node, of which what follows speaks.
     pub fn open_node(&mut self, pool: &mut Pool) -> Result<(), Memory>
-        ensures { OnOk result (Does open_node self.old pool.old self.new pool.new) }
+        ensures keeps { KeepsTerms pool.old pool.new }
+        ensures does { OnOk result (Does open_node self.old pool.old self.new pool.new) }
     {
         if self.fault.is_some() {
             return Ok(());
         }
         let node = anonymous(self.scope, self.next);
         self.put_new(pool)?;
-        self.enter(Context::About(node))
+        self.enter(Context::About(Placed::Term(node)))
     }
 
     /// `]`
@@ -172,19 +180,21 @@ impl ReaderState {
 
     /// The first cell of a collection, at its first member.
     pub fn first_cell(&mut self, pool: &mut Pool) -> Result<(), Memory>
-        ensures { OnOk result (Does first_cell self.old pool.old self.new pool.new) }
+        ensures keeps { KeepsTerms pool.old pool.new }
+        ensures does { OnOk result (Does first_cell self.old pool.old self.new pool.new) }
     {
         if self.fault.is_some() {
             return Ok(());
         }
         let cell = anonymous(self.scope, self.next);
         self.put_new(pool)?;
-        self.enter(Context::Of(cell, iri(self.alloc, FIRST)?))
+        self.enter(Context::Of(Placed::Term(cell), Placed::Id(RDF_FIRST)))
     }
 
     /// The next cell of a collection, at its member.
     pub fn next_cell(&mut self, pool: &mut Pool) -> Result<(), Memory>
-        ensures { OnOk result (Does next_cell self.old pool.old self.new pool.new) }
+        ensures keeps { KeepsTerms pool.old pool.new }
+        ensures does { OnOk result (Does next_cell self.old pool.old self.new pool.new) }
     {
         if self.fault.is_some() {
             return Ok(());
@@ -192,7 +202,7 @@ impl ReaderState {
         let cell = anonymous(self.scope, self.next);
         self.put_new(pool)?;
         self.leave();
-        self.enter(Context::Of(cell, iri(self.alloc, FIRST)?))
+        self.enter(Context::Of(Placed::Term(cell), Placed::Id(RDF_FIRST)))
     }
 
     /// Behind a member its cell waits for the rest of the collection.
@@ -202,29 +212,30 @@ impl ReaderState {
         if self.fault.is_some() {
             return Ok(());
         }
-        let verb = iri(self.alloc, REST)?;
-        self.begin_verb(verb)
+        self.begin_verb(Placed::Id(RDF_REST))
     }
 
     /// `)` behind members.
     pub fn end_list(&mut self, pool: &mut Pool) -> Result<(), Memory>
-        ensures { OnOk result (Does end_list self.old pool.old self.new pool.new) }
+        ensures keeps { KeepsTerms pool.old pool.new }
+        ensures does { OnOk result (Does end_list self.old pool.old self.new pool.new) }
     {
         if self.fault.is_some() {
             return Ok(());
         }
-        self.put(pool, iri(self.alloc, NIL)?)?;
+        self.put(pool, Placed::Id(RDF_NIL))?;
         self.leave();
         Ok(())
     }
 
     /// `()`
     pub fn empty_list(&mut self, pool: &mut Pool) -> Result<(), Memory>
-        ensures { OnOk result (Does empty_list self.old pool.old self.new pool.new) }
+        ensures keeps { KeepsTerms pool.old pool.new }
+        ensures does { OnOk result (Does empty_list self.old pool.old self.new pool.new) }
     {
         if self.fault.is_some() {
             return Ok(());
         }
-        self.put(pool, iri(self.alloc, NIL)?)
+        self.put(pool, Placed::Id(RDF_NIL))
     }
 }

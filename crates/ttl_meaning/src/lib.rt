@@ -15,6 +15,7 @@
 //! | `document.rt`, `tables.rt` | `Document`: what a text states |
 //! | `document_terms.rt`, `literals.rt` | what tokens stand for behind a document |
 //! | `context.rt` | `Context`: what the next term belongs to |
+//! | `placed.rt` | `Placed`: a term by itself, or by its number |
 //! | `fault.rt` | why a term has no place here, or there is none |
 //!
 //! It stands on `ttl_tokens` for what tokens say, on `iri_resolve`, `value_space`, `shx_term` and `itoa`.
@@ -31,6 +32,7 @@ mod iris;
 mod items;
 mod literals;
 mod nodes;
+mod placed;
 mod reader_state;
 mod stated;
 mod strings;
@@ -43,5 +45,6 @@ pub use document::{Document, Prefix};
 pub use fault::{NoNode, NoTerm, TermFault, TermFaultKind};
 pub use iris::IriRole;
 pub use literals::{bare_literal, plain_string, tagged_string, typed_string};
+pub use placed::Placed;
 pub use reader_state::ReaderState;
 pub use stated::{Excess, Stated};

@@ -47,6 +47,8 @@ impl ReaderState {
             (record { triples = most; terms = pool.now.limit; held = pool.now.terms })
             (first_state scope base.now) reading pool.now) }
     {
+        // A pool begins with the vocabulary.
+        let _ = pool.len();
         Ok(ReaderState {
             alloc,
             scope,

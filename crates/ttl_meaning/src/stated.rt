@@ -1,11 +1,18 @@
-ghost use Rattle.std.specs.Prelude.{◌≡◌, ◌<◌, List, [], ◌∷◌, ◌++◌, length, Some, OnOk, IfOk, IfErr};
+ghost use Rattle.std.specs.Prelude.{◌≡◌, ℕ, ◌<◌, List, [], ◌∷◌, ◌++◌, length, Some, OnOk, IfOk, IfErr};
+ghost use Rattle.std.specs.Prelude.{slice_get};
 ghost use Rattle.shx_term.specs.declared.term.Term.{Term as term};
+ghost use Rattle.shx_term.specs.declared.term.Term.TheVariants.{Iri};
 ghost use Rattle.shx_term.specs.declared.triple.TermTriple.{TermTriple as term_triple};
 ghost use Rattle.shx_term.specs.Pool.{with_terms};
-ghost use Rattle.shx_term.specs.TripleTerms.{terms_of, numbered};
+ghost use Rattle.shx_term.specs.TripleTerms.{terms_of, numbered as numbered_in};
 ghost use Rattle.ttl_meaning.specs.IsStated.{Bounds, IsStated, triple_of};
+ghost use Rattle.ttl_meaning.specs.KeepsTerms.{KeepsTerms};
+ghost use Rattle.ttl_meaning.specs.State.{Subject as a_subject, Of as of, subject_term};
+ghost use Rattle.ttl_meaning.specs.inner.Placed.{IsContext, IsPlaced};
 
-use shx_term::{Memory, Pool, PoolFault, Term, Triple};
+use crate::context::Context;
+use crate::placed::Placed;
+use shx_term::{Memory, Pool, PoolFault, Triple};
 use std::alloc::{AllocError, Global};
 
 /// Which limit was passed.
@@ -46,35 +53,40 @@ impl Stated {
         self.triples
     }
 
-    // One triple more. It takes three look-ups by hash.
+    // One triple more, and the context in which it was stated, with the numbers of its terms. It takes a
+    // look-up by hash for each term that has no number yet.
     pub(crate) fn add(
         &mut self,
         pool: &mut Pool,
-        subject: &Term,
-        verb: &Term,
-        object: &Term,
-    ) -> Result<(), Memory>
-        ensures { OnOk result ((bounds : Bounds) (triples : List term_triple)
-            → IsStated bounds triples self.old pool.old
-            → IsStated bounds (triples ++ (triple_of subject.now verb.now object.now ∷ []))
-            self.new pool.new) }
+        subject: Placed,
+        verb: Placed,
+        object: &Placed,
+    ) -> Result<Context, Memory>
+        ensures keeps { KeepsTerms pool.old pool.new }
+        ensures context { (s : a_subject) (iri : List ℕ) → IsPlaced pool.old.terms subject (subject_term s)
+            → IsPlaced pool.old.terms verb (Iri iri)
+            → IfOk result (λ context. IsContext pool.new.terms context (of s iri)) }
+        ensures stated { (s p o : term) (bounds : Bounds) (triples : List term_triple)
+            → IsPlaced pool.old.terms subject s → IsPlaced pool.old.terms verb p
+            → IsPlaced pool.old.terms object.now o → IsStated bounds triples self.old pool.old
+            → OnOk result (IsStated bounds (triples ++ (triple_of s p o ∷ [])) self.new pool.new) }
     {
         if self.count >= self.most {
             self.excess = Some(Excess::Triples);
-            return Ok(());
+            return Ok(Context::Of(subject, verb));
         }
         self.count += 1;
         if self.excess.is_some() {
-            return Ok(());
+            return Ok(Context::Of(subject, verb));
         }
-        match entered(pool, subject, verb, object) {
+        match numbered(pool, &subject, &verb, object) {
             Ok(triple) => {
                 self.triples.push(triple)?;
-                Ok(())
+                Ok(Context::Of(Placed::Id(triple.s), Placed::Id(triple.p)))
             }
             Err(PoolFault::Full) => {
                 self.excess = Some(Excess::Terms);
-                Ok(())
+                Ok(Context::Of(subject, verb))
             }
             Err(PoolFault::Memory) => Err(AllocError),
         }
@@ -82,18 +94,30 @@ impl Stated {
 }
 
 // A triple over the numbers of its terms, which are entered in turn.
-fn entered(pool: &mut Pool, subject: &Term, verb: &Term, object: &Term) -> Result<Triple, PoolFault>
-    ensures limit { pool.new.limit ≡ pool.old.limit }
-    ensures entered { let triple = triple_of subject.now verb.now object.now in
-        OnOk result (pool.new.terms ≡ with_terms pool.old.terms (terms_of (triple ∷ []))) }
-    ensures triple { let triple = triple_of subject.now verb.now object.now in
-        IfOk result (λ numbers. numbered pool.new.terms triple ≡ Some numbers) }
-    ensures full { let triple = triple_of subject.now verb.now object.now in
-        IfErr result (λ fault. fault ≡ PoolFault.Full
-        → pool.old.limit < length (with_terms pool.old.terms (terms_of (triple ∷ [])))) }
+fn numbered(
+    pool: &mut Pool,
+    subject: &Placed,
+    verb: &Placed,
+    object: &Placed,
+) -> Result<Triple, PoolFault>
+    ensures keeps { KeepsTerms pool.old pool.new }
+    ensures entered { (s p o : term) → IsPlaced pool.old.terms subject.now s
+        → IsPlaced pool.old.terms verb.now p → IsPlaced pool.old.terms object.now o
+        → OnOk result (pool.new.terms ≡ with_terms pool.old.terms (terms_of (triple_of s p o ∷ []))) }
+    ensures triple { (s p o : term) → IsPlaced pool.old.terms subject.now s
+        → IsPlaced pool.old.terms verb.now p → IsPlaced pool.old.terms object.now o
+        → IfOk result (λ triple. numbered_in pool.new.terms (triple_of s p o) ≡ Some triple) }
+    ensures places { (s p : term) → IsPlaced pool.old.terms subject.now s
+        → IsPlaced pool.old.terms verb.now p
+        → IfOk result (λ triple. (slice_get pool.new.terms triple.s ≡ Some s)
+        × (slice_get pool.new.terms triple.p ≡ Some p)) }
+    ensures full { (s p o : term) → IsPlaced pool.old.terms subject.now s
+        → IsPlaced pool.old.terms verb.now p → IsPlaced pool.old.terms object.now o
+        → IfErr result (λ fault. fault ≡ PoolFault.Full
+        → pool.old.limit < length (with_terms pool.old.terms (terms_of (triple_of s p o ∷ [])))) }
 {
-    let s = pool.enter(subject)?;
-    let p = pool.enter(verb)?;
-    let o = pool.enter(object)?;
+    let s = subject.number(pool)?;
+    let p = verb.number(pool)?;
+    let o = object.number(pool)?;
     Ok(Triple { s, p, o })
 }

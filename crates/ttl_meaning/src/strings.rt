@@ -3,6 +3,7 @@ ghost use Rattle.std.specs.Prelude.{◌≡◌, OnOk, string_bytes, []};
 ghost use Rattle.shx_term.specs.Pool.{Pooled};
 ghost use Rattle.ttl_meaning.specs.inner.IsReading.{DoesSound, KeepsOn};
 ghost use Rattle.ttl_meaning.specs.Items.{put_literal, end_string};
+ghost use Rattle.ttl_meaning.specs.KeepsTerms.{KeepsTerms};
 
 use crate::fault::TermFault;
 use crate::reader_state::ReaderState;
@@ -18,10 +19,11 @@ impl ReaderState {
         at: usize,
         literal: Literal,
     ) -> Result<(), Memory>
-        ensures { OnOk result (DoesSound (put_literal at literal) self.old pool.old self.new pool.new) }
+        ensures keeps { KeepsTerms pool.old pool.new }
+        ensures does { OnOk result (DoesSound (put_literal at literal) self.old pool.old self.new pool.new) }
     {
         match judged(literal) {
-            Ok(term) => self.put(pool, term),
+            Ok(term) => self.put_object(pool, term),
             Err(kind) => {
                 self.fault = Some(TermFault { kind, at });
                 Ok(())

@@ -1,11 +1,12 @@
 //! The terms that are made.
 ghost use Rattle.std.specs.Prelude.{◌≡◌, drop, string_bytes, IfOk};
-ghost use Rattle.shx_term.specs.declared.term.Term.TheVariants.{Iri};
+ghost use Rattle.shx_term.specs.declared.term.Term.TheVariants.{Blank};
+ghost use Rattle.shx_term.specs.ValidTriples.{IsNotWide};
 ghost use Rattle.shx_term.specs.Spelling.{xsd_string};
 ghost use Rattle.ttl_tokens.specs.declared.token.TokenKind.TheVariants.{LangTag};
 ghost use Rattle.ttl_tokens.specs.Unescaped.{IsGiven, token_text as text_of};
-ghost use Rattle.ttl_meaning.specs.Terms.{anonymous as anonymous_term, judged as judged_term, prefix_of};
-ghost use Rattle.ttl_meaning.specs.Terms.{labelled as labelled_term, datatype_of as kind_datatype};
+ghost use Rattle.ttl_meaning.specs.Terms.{anonymous as anonymous_node, judged as judged_term, prefix_of};
+ghost use Rattle.ttl_meaning.specs.Terms.{labelled as labelled_node, datatype_of as kind_datatype};
 ghost use Rattle.ttl_meaning.specs.Terms.{tagged as tagged_literal, typed as typed_literal};
 
 use crate::TermFaultKind;
@@ -15,14 +16,6 @@ use shx_term::{
 use std::alloc::Global;
 use ttl_tokens::{Token, TokenKind};
 use value_space::{is_float, wide};
-
-pub(crate) const TYPE: &str = "http://www.w3.org/1999/02/22-rdf-syntax-ns#type";
-
-pub(crate) const FIRST: &str = "http://www.w3.org/1999/02/22-rdf-syntax-ns#first";
-
-pub(crate) const REST: &str = "http://www.w3.org/1999/02/22-rdf-syntax-ns#rest";
-
-pub(crate) const NIL: &str = "http://www.w3.org/1999/02/22-rdf-syntax-ns#nil";
 
 const LANG_STRING: &str = "http://www.w3.org/1999/02/22-rdf-syntax-ns#langString";
 
@@ -41,14 +34,8 @@ pub(crate) fn iri_text(alloc: Global, text: &str) -> Result<IriText, Memory>
     Ok(IriText::new(String::from_str(alloc, text)?))
 }
 
-pub(crate) fn iri(alloc: Global, text: &str) -> Result<Term, Memory>
-    ensures { IfOk result (λ term. term ≡ Iri text.now) }
-{
-    Ok(Term::Iri(iri_text(alloc, text)?))
-}
-
 pub(crate) fn anonymous(scope: Scope, number: u32) -> Term
-    ensures { result ≡ anonymous_term scope number }
+    ensures { result ≡ Blank (anonymous_node scope number) }
 {
     Term::Blank(BlankName {
         scope,
@@ -57,7 +44,7 @@ pub(crate) fn anonymous(scope: Scope, number: u32) -> Term
 }
 
 pub(crate) fn labelled(alloc: Global, scope: Scope, label: &str) -> Result<Term, Memory>
-    ensures { IfOk result (λ term. term ≡ labelled_term scope label.now) }
+    ensures { IfOk result (λ term. term ≡ Blank (labelled_node scope label.now)) }
 {
     let label = Label::new(String::from_str(alloc, label)?);
     Ok(Term::Blank(BlankName {
@@ -92,7 +79,8 @@ pub(crate) fn tagged(alloc: Global, lexical: String, tag: &str) -> Result<Litera
 
 // A literal as a term, unless it has a fault.
 pub(crate) fn judged(literal: Literal) -> Result<Term, TermFaultKind>
-    ensures { result ≡ judged_term literal }
+    ensures judged { result ≡ judged_term literal }
+    ensures narrow { IfOk result IsNotWide }
 {
     if is_float(&literal) {
         return Err(TermFaultKind::FloatLiteral);

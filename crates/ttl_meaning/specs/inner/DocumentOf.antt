@@ -1,5 +1,5 @@
 -- What a document is for the state that is reached at its end.
-use Rattle.std.specs.Prelude.{◌≡◌, ℕ, ◌-◌, List, map, Contains, ◌↔◌, Some, String, true}
+use Rattle.std.specs.Prelude.{◌≡◌, ℕ, ◌-◌, List, map, Contains, ◌↔◌, Some, String, true, All}
 use Rattle.std.specs.BTreeMap.{BTreeMap, get_by_text}
 use Rattle.std.specs.BTreeSet.{BTreeSet, contains_text}
 use Rattle.std.specs.Cmp.Lexicographic.{slice_cmp}
@@ -7,6 +7,7 @@ use Rattle.std.specs.Ordering.{nat_cmp}
 use Rattle.shx_term.specs.InOrder.{Lists}
 use Rattle.shx_term.specs.Pool.{Pooled}
 use Rattle.shx_term.specs.TripleTerms.{numbered_all}
+use Rattle.shx_term.specs.ValidTriples.{IsValidTermTriple}
 use Rattle.iri_resolve.specs.Resolution.{IsAbsolute}
 use Rattle.ttl_meaning.specs.declared.document.Document.{Document}
 use Rattle.ttl_meaning.specs.declared.document.Prefix.{Prefix}
@@ -25,6 +26,7 @@ pub record IsDocumentOf (bounds : Bounds) (s : State) (document : Document) (poo
   pub terms : pool.terms ≡ terms_with bounds s.triples
   pub limit : pool.limit ≡ bounds.terms
   pub triples : document.triples.items ≡ numbered_all pool.terms s.triples
+  pub valid : All IsValidTermTriple s.triples
   pub prefixes : IsPrefixTable s document.prefixes.items
   pub base : document.base ≡ s.base
   pub absolute : IsAbsolute document.base

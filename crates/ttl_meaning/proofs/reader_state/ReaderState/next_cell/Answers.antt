@@ -1,21 +1,27 @@
 use Rattle.std.proofs.Common.{codes}
 use Rattle.std.proofs.lemmas.Result.{on_ok_weaker}
-use Rattle.shx_term.specs.Vocabulary.{rdf}
-use Rattle.ttl_meaning.specs.declared.context.Context.TheVariants.{Of}
-use Rattle.ttl_meaning.specs.State.{enter, leave}
+use Rattle.ttl_meaning.specs.declared.context.Context.TheVariants.{Of as AnOf}
+use Rattle.ttl_meaning.specs.declared.placed.Placed.TheVariants.{Term, Id}
+use Rattle.ttl_meaning.specs.State.{ABlank, Of, enter, leave}
 use Rattle.ttl_meaning.specs.Items.{put_new}
-use Rattle.ttl_meaning.specs.Terms.{anonymous}
+use Rattle.ttl_meaning.specs.Terms.{anonymous, rdf_iri}
 use Rattle.ttl_meaning.proofs.ItemLemmas.{item_kept, kept_in_turn, kept_entered}
+use Rattle.ttl_meaning.proofs.PlacedLemmas.{first_placed}
 use Rattle.ttl_meaning.proofs.reader_state.ReaderState.next_cell.Goals as goal
 
-pub returns : goal.returns
-returns c =
+pub returns-clause-does : goal.returns-clause-does
+returns-clause-does c =
+    let first = rdf_iri (codes "first") in
     on_ok_weaker _
-    (item_kept (λ s. enter (Of (anonymous s.scope s.next) (rdf (codes "first"))) (leave (put_new s))) _ _ _ _
+    (item_kept (λ s. enter (Of (ABlank (anonymous s.scope s.next)) first) (leave (put_new s))) _ _ _ _
     c.if-is_some.ensures)
     (on_ok_weaker _
-    (kept_entered (λ s. leave (put_new s)) (λ s. Of (anonymous s.scope s.next) (rdf (codes "first")))
-    _ _ _ _ _ _ _
-    (λ bounds s keeps. cc (c.anonymous-cell.ensures, c.in_ok-iri.ensures, keeps.scope, keeps.next))
-    (kept_in_turn put_new leave _ _ _ _ _ _ c.in_ok-put_new.ensures (c.leave.ensures c.put_new.new.pool)))
-    (c.enter.ensures c.put_new.new.pool))
+    (kept_entered (λ s. leave (put_new s)) (λ s. Of (ABlank (anonymous s.scope s.next)) first)
+    (AnOf (Term c.anonymous-cell.result) (Id 1)) c.args.self.now c.args.pool.now _ c.put_new.new.pool _
+    (λ bounds s keeps has. (
+      cc (c.anonymous-cell.ensures, keeps.scope, keeps.next),
+      first_placed c.put_new.new.pool.terms has,
+    ))
+    (kept_in_turn put_new leave _ _ _ _ _ _ c.in_ok-put_new.ensures.does
+    (c.leave.ensures c.put_new.new.pool)))
+    c.enter.ensures)

@@ -11,8 +11,8 @@ range_from-requires c = λ _.
     rw c.token_text.ensures
     (label_cut c.args.text.now c.args.token.now c.utf8.text c.requires.given c.requires.kind)
 
-pub returns : goal.returns
-returns c =
+pub returns-clause-does : goal.returns-clause-does
+returns-clause-does c =
     let text = token_text c.args.text.now c.args.token.now in
     on_ok_weaker _ (item_kept (put_label (drop 2 text)) _ _ _ _ c.if-is_some.ensures)
-    (rw (c.range_from.ensures.value, c.token_text.ensures) at c.put_label.ensures)
+    (rw (c.range_from.ensures.value, c.token_text.ensures) at c.put_label.ensures.does)

@@ -9,8 +9,8 @@ use Rattle.ttl_meaning.proofs.reader_state.ReaderState.put_label.Goals.{
 }
 use Rattle.ttl_meaning.proofs.reader_state.ReaderState.put_label.Goals.{else-not-contains}
 
-pub returns : goal.returns
-returns c =
+pub returns-clause-does : goal.returns-clause-does
+returns-clause-does c =
     let label = c.args.label.now in
     let knows : KnowsLabel label c.args.self.now c.if-not-contains.self =
     elim c.if-not-contains.branch [
@@ -30,4 +30,4 @@ returns c =
     ] in
     on_ok_weaker c.put.result
     (KeepsOn-put_label c.args.self.now c.if-not-contains.self c.put.new.self c.args.pool.now c.put.new.pool
-    c.in_ok-node.node label knows c.in_ok-node.ensures) c.put.ensures
+    c.in_ok-node.node label knows c.in_ok-node.ensures) c.put.ensures.does

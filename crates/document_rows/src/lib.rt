@@ -7,7 +7,7 @@
 //! | `tests/refused.rt` | texts and their fault, by the tables beside it |
 //! | `tests/limits.rt` | texts that meet or pass a limit |
 //! | `tests/one_term.rt` | what is found at one token behind a document, by the tables beside it |
-//! | `tests/pools.rt` | texts that are read into one pool |
+//! | `tests/pools.rt` | texts that are read into one pool, and the terms that are left of a refused one |
 //!
 //! It stands on `ttl_read` and `row_tools`. A table is a text of rows, and a test asks for the first row that
 //! is met otherwise.

@@ -5,13 +5,13 @@ use Rattle.std.proofs.lemmas.Bool.{and_left, not-true, or_from, or_left, or_righ
 use Rattle.shx_term.specs.Pool.{Pooled}
 use Rattle.ttl_tokens.specs.declared.token.Token.{Token}
 use Rattle.ttl_tokens.specs.declared.token.TokenKind.{TokenKind}
-use Rattle.ttl_tokens.specs.declared.token.TokenKind.TheVariants.{End}
+use Rattle.ttl_tokens.specs.declared.token.TokenKind.TheVariants.{End, CloseSquare, CloseRound}
 use Rattle.ttl_tokens.specs.Form.{Then, Many}
 use Rattle.ttl_meaning.specs.Items.{first_cell, next_cell, end_list, close_node}
 use Rattle.ttl_meaning.specs.State.{State}
 use Rattle.ttl_read.specs.declared.reader.Reader.{Reader}
 use Rattle.ttl_read.specs.inner.Follows.{Avoids, takes_no_token, may_begin}
-use Rattle.ttl_read.specs.Grammar.{Rule, is_close_round, is_close_square, member, members, sign, do_}
+use Rattle.ttl_read.specs.Grammar.{Rule, member, members, sign, do_, is_kind}
 use Rattle.ttl_read.specs.inner.Reads.{Stands, Reads, Refuses, Passes, next_if}
 use Rattle.ttl_read.specs.inner.Stops.{goes_on, stops_nowhere, predicates_go_on}
 use Rattle.ttl_read.proofs.HereLemmas.{IsHere, here_refuses, no_follower_unless}
@@ -22,7 +22,7 @@ use Rattle.ttl_read.proofs.ReadLemmas.{regroup_reads, regroup_refuses}
 
 -- anything but a `)` goes on with members
 abbrev pub goes_without_close : Token → Bool
-goes_without_close t = not (is_close_round t.kind)
+goes_without_close t = not (is_kind CloseRound t.kind)
 
 -- a member behind another
 abbrev pub next_member : Rule → Rule
@@ -40,7 +40,7 @@ pub do_avoids : (act : State → State) (stop : Token → Bool) (h : Rule) → A
 do_avoids act stop h free = record { some = free.some; other = free.other }
 
 -- what goes on with a string is no `)`
-tags_no_close : (k : TokenKind) → goes_on (at_kind k) && is_close_round k ≡ false
+tags_no_close : (k : TokenKind) → goes_on (at_kind k) && is_kind CloseRound k ≡ false
 tags_no_close End = refl
 tags_no_close k = refl
 
@@ -67,25 +67,25 @@ close_only a e = or_from _ _ (not-true a e) refl
 
 -- ... and behind all of them a `)`
 pub close_avoids : (h : Rule) → Avoids stops_nowhere h
-    → Avoids goes_without_close (Then (sign is_close_round end_list) h)
-close_avoids h free = record { some = refl; other = λ t e. close_only (is_close_round t.kind) e }
+    → Avoids goes_without_close (Then (sign CloseRound end_list) h)
+close_avoids h free = record { some = refl; other = λ t e. close_only (is_kind CloseRound t.kind) e }
 
 -- no `)` is here, so nothing that may follow members
 pub no_close : (text : List ℕ) (r : Reader) → IsUtf8 text → Stands text r.tokens
-    → next_if is_close_round r.tokens.next ≡ None → NoFollower text goes_without_close r
+    → next_if (is_kind CloseRound) r.tokens.next ≡ None → NoFollower text goes_without_close r
 no_close text r utf8 stands none =
-    no_follower_unless text is_close_round goes_without_close r utf8 stands (λ t e. ap not e) none
+    no_follower_unless text (is_kind CloseRound) goes_without_close r utf8 stands (λ t e. ap not e) none
 
 -- no member begins with a `)`
 pub no_next_member : {text : List ℕ} {r : Reader} {t : Token} (o : Rule) (p : Pooled) (stop : Token → Bool)
-    → IsObject o → IsHere text r t → is_close_round t.kind ≡ true → Refuses text (next_member o) stop r p
+    → IsObject o → IsHere text r t → is_kind CloseRound t.kind ≡ true → Refuses text (next_member o) stop r p
 no_next_member {t = t} o p stop is here close =
     here_refuses (next_member o) p stop here (member_some next_cell o is)
     (member_begins next_cell o is t (is.other t (or_right _ _ close)))
 
 -- ... nor do all of them
 pub no_members : {text : List ℕ} {r : Reader} {t : Token} (o : Rule) (p : Pooled) (stop : Token → Bool)
-    → IsObject o → IsHere text r t → is_close_round t.kind ≡ true → Refuses text (members o) stop r p
+    → IsObject o → IsHere text r t → is_kind CloseRound t.kind ≡ true → Refuses text (members o) stop r p
 no_members {t = t} o p stop is here close =
     here_refuses (members o) p stop here (and_left _ _ (member_some first_cell o is))
     (or_from _ _ (member_begins first_cell o is t (is.other t (or_right _ _ close)))
@@ -96,7 +96,7 @@ no_members {t = t} o p stop is here close =
 -- the `)` behind the last of them
 pub members_read : {text : List ℕ} {o : Rule} {r m r' : Reader} {p q p' : Pooled} → IsObject o
     → Goes text (first_members o) (next_member o) goes_without_close r p m q
-    → Refuses text (next_member o) goes_on m q → Passes text (sign is_close_round end_list) m q r' p'
+    → Refuses text (next_member o) goes_on m q → Passes text (sign CloseRound end_list) m q r' p'
     → Reads text (members o) stops_nowhere r p r' p'
 members_read {o = o} is goes none close =
     regroup_reads (then_reads close_avoids (goes_to_end (members_avoid o is) goes none) (passes_reads close))
@@ -118,10 +118,10 @@ no_other_member {o = o} is stop goes none =
 -- ---- property lists
 
 close_square_other : (k : TokenKind)
-    → predicates_go_on (at_kind k) && may_begin (sign is_close_square close_node) (at_kind k) ≡ false
+    → predicates_go_on (at_kind k) && may_begin (sign CloseSquare close_node) (at_kind k) ≡ false
 close_square_other End = refl
 close_square_other k = refl
 
 -- behind predicates and objects stands a `]`
-pub square_avoids : Avoids predicates_go_on (sign is_close_square close_node)
+pub square_avoids : Avoids predicates_go_on (sign CloseSquare close_node)
 square_avoids = record { some = refl; other = λ t e. apart _ _ (close_square_other t.kind) e }

@@ -1,5 +1,5 @@
 -- The brackets of a statement, counted token by token.
-use Rattle.std.proofs.Common.{◌≡◌, ℕ, Bool, true, false, ◌&&◌, ◌||◌, List, [], ◌∷◌, refl, sym, ap, ◌∙◌, subst}
+use Rattle.std.proofs.Common.{◌≡◌, ℕ, Bool, true, false, ◌&&◌, List, [], ◌∷◌, refl, sym, ap, ◌∙◌, subst}
 use Rattle.std.proofs.Common.{true≢false, Option, Some, None, if◌then◌else◌, ◌<◌, ◌⊎◌, inl, inr, arith}
 use Rattle.std.specs.Prelude.{nat_le, MatchOption}
 use Rattle.std.proofs.lemmas.Bool.Decides.{nat_tests}
@@ -8,8 +8,7 @@ use Rattle.ttl_tokens.specs.declared.token.Token.{Token}
 use Rattle.ttl_tokens.specs.Tokens.{IsTokenAt, IsNoTokenAt}
 use Rattle.ttl_tokens.proofs.OneTokenLemmas.{one_token, token_or_none, some_token}
 use Rattle.ttl_read.specs.Depth.{IsRun, IsTooDeep, IsNotTooDeep, IsOneTooMany, NoneTooMany, first_too_many}
-use Rattle.ttl_read.specs.Depth.{is_dot_or_end, is_open, open_behind, first_too_deep}
-use Rattle.ttl_read.specs.Grammar.{is_word_base, is_word_prefix}
+use Rattle.ttl_read.specs.Depth.{is_dot_or_end, is_open, open_behind, first_too_deep, is_prefix_or_base}
 
 -- ---- at the end of a run
 
@@ -97,19 +96,19 @@ not_too_deep text limit at none place deep = go deep.tokens deep.run deep.first
 
 -- of a statement that begins so no brackets are counted
 pub not_counted : (text : List ℕ) (limit at : ℕ) (t : Token) → IsUtf8 text → IsTokenAt text at t
-    → (is_word_prefix t.kind || is_word_base t.kind) ≡ true → IsNotTooDeep text limit at
+    → is_prefix_or_base t.kind ≡ true → IsNotTooDeep text limit at
 not_counted text limit at t utf8 here free place deep = go deep.tokens deep.run deep.first
   where
     go : (ts : List Token) → IsRun text at ts → first_too_deep limit ts ≡ Some place → ⊥
     go [] run e = absurd (cc)
     go (u ∷ us) run e =
         let same : u ≡ t = one_token text at u t utf8 run.0 here in
-        let begins : (is_word_prefix u.kind || is_word_base u.kind) ≡ true =
-        ap (λ (v : Token). is_word_prefix v.kind || is_word_base v.kind) same ∙ free in
+        let begins : is_prefix_or_base u.kind ≡ true =
+        ap (λ (v : Token). is_prefix_or_base v.kind) same ∙ free in
         none_is_none place (rw begins at e)
 
 pub counted : (text : List ℕ) (limit at place : ℕ) (t : Token) → IsUtf8 text → IsTokenAt text at t
-    → (is_word_prefix t.kind || is_word_base t.kind) ≡ false → IsOneTooMany text limit at 0 place
+    → is_prefix_or_base t.kind ≡ false → IsOneTooMany text limit at 0 place
     → IsTooDeep text limit at place
 counted text limit at place t utf8 here counts one = go one.tokens one.run one.first
   where
@@ -118,8 +117,8 @@ counted text limit at place t utf8 here counts one = go one.tokens one.run one.f
     go [] run e = absurd (cc)
     go (u ∷ us) run e =
         let same : u ≡ t = one_token text at u t utf8 run.0 here in
-        let begins : (is_word_prefix u.kind || is_word_base u.kind) ≡ false =
-        ap (λ (v : Token). is_word_prefix v.kind || is_word_base v.kind) same ∙ counts in
+        let begins : is_prefix_or_base u.kind ≡ false =
+        ap (λ (v : Token). is_prefix_or_base v.kind) same ∙ counts in
         record { tokens = u ∷ us; run = run; first = rw begins e }
 
 -- ---- the loop
@@ -141,7 +140,7 @@ fits_where false limit n e = refl
 
 pub too_deep_where : (text : List ℕ) (limit at : ℕ) (t : Token) (result : Option ℕ) → IsUtf8 text
     → IsTokenAt text at t
-    → (is_word_prefix t.kind || is_word_base t.kind) ≡ false
+    → is_prefix_or_base t.kind ≡ false
     → MatchOption result (NoneTooMany text limit at 0) (IsOneTooMany text limit at 0)
     → MatchOption result (IsNotTooDeep text limit at) (IsTooDeep text limit at)
 too_deep_where text limit at t None utf8 here counts none = not_too_deep text limit at none

@@ -10,20 +10,20 @@ use Rattle.ttl_tokens.specs.Unescaped.{token_text}
 use Rattle.ttl_tokens.proofs.FormLemmas.{same_refl, same_only, same_never, or_same, left_same}
 use Rattle.ttl_read.specs.declared.reader.Reader.{Reader}
 use Rattle.ttl_read.specs.declared.reader.Refused.{Refused}
-use Rattle.ttl_read.specs.Grammar.{Rule, tag_word, is_lang_tag, is_word_prefix, is_word_base, is_dot, mark}
-use Rattle.ttl_read.specs.Grammar.{prefix_binding, base_setting, directive}
+use Rattle.ttl_tokens.specs.declared.token.TokenKind.TheVariants.{LangTag, WordPrefix, WordBase, Dot}
+use Rattle.ttl_read.specs.Grammar.{Rule, tag_word, mark, prefix_binding, base_setting, directive, is_kind}
 use Rattle.ttl_read.specs.inner.Reads.{IsNowhere, ParsesAlone}
 use Rattle.ttl_read.proofs.AnswerLemmas.{then_alone, left_alone, right_alone, alone_handed_on}
 use Rattle.ttl_read.proofs.HereLemmas.{IsHere, item_passes, mark_passes, keeps_reading, here_nowhere}
-use Rattle.ttl_read.proofs.KindLemmas.{only_tag, only_prefix, only_base}
+use Rattle.ttl_read.proofs.KindLemmas.{kind_is}
 
 -- ---- directives that begin with `@`
 
 abbrev pub prefix_and_dot : List ℕ → Rule
-prefix_and_dot text = Then (prefix_binding text) (mark is_dot)
+prefix_and_dot text = Then (prefix_binding text) (mark Dot)
 
 abbrev pub base_and_dot : List ℕ → Rule
-base_and_dot text = Then (base_setting text) (mark is_dot)
+base_and_dot text = Then (base_setting text) (mark Dot)
 
 abbrev at_prefix : List ℕ → Rule
 at_prefix text = Then (tag_word text (codes "@prefix")) (prefix_and_dot text)
@@ -40,18 +40,18 @@ other_tag_nowhere {text = text} word f p here is =
 
 -- a tag is passed, and the answer is on what comes behind it
 tag_alone : {text : List ℕ} {r : Reader} {t : Token} (f : Rule) (word : List ℕ)
-    → IsHere text r t → is_lang_tag t.kind ≡ true → pointwise nat_eq (token_text text t) word ≡ true
+    → IsHere text r t → is_kind LangTag t.kind ≡ true → pointwise nat_eq (token_text text t) word ≡ true
     → (m : Reader) → m.reading ≡ r.reading → m.tokens.place ≡ t.end → (p : Pooled) (r' : Reader) (p' : Pooled)
     (result : Result (Unit {0}) Refused)
     → ParsesAlone text f m p r' p' result → ParsesAlone text (Then (tag_word text word) f) r p r' p' result
 tag_alone {text = text} {r = r} f word here kind is m same behind p r' p' result a =
-    let test = λ (u : Token). is_lang_tag u.kind && pointwise nat_eq (token_text text u) word in
+    let test = λ (u : Token). is_kind LangTag u.kind && pointwise nat_eq (token_text text u) word in
     then_alone (item_passes test (λ u s. s) here (rw (kind, is) refl) (keeps_reading r m p same) behind)
     f r' p' result a
 
 -- `@prefix` is passed
 pub at_prefix_alone : {text : List ℕ} {r : Reader} {t : Token} → IsHere text r t
-    → is_lang_tag t.kind ≡ true → pointwise nat_eq (token_text text t) (codes "@prefix") ≡ true
+    → is_kind LangTag t.kind ≡ true → pointwise nat_eq (token_text text t) (codes "@prefix") ≡ true
     → (m : Reader) → m.reading ≡ r.reading → m.tokens.place ≡ t.end → (p : Pooled) (r' : Reader) (p' : Pooled)
     (result : Result (Unit {0}) Refused)
     → ParsesAlone text (prefix_and_dot text) m p r' p' result
@@ -63,7 +63,7 @@ at_prefix_alone {text = text} {t = t} here kind is m same behind p r' p' result 
 
 -- `@base` is passed
 pub at_base_alone : {text : List ℕ} {r : Reader} {t : Token} → IsHere text r t
-    → is_lang_tag t.kind ≡ true → pointwise nat_eq (token_text text t) (codes "@base") ≡ true
+    → is_kind LangTag t.kind ≡ true → pointwise nat_eq (token_text text t) (codes "@base") ≡ true
     → (m : Reader) → m.reading ≡ r.reading → m.tokens.place ≡ t.end → (p : Pooled) (r' : Reader) (p' : Pooled)
     (result : Result (Unit {0}) Refused)
     → ParsesAlone text (base_and_dot text) m p r' p' result
@@ -77,7 +77,7 @@ at_base_alone {text = text} {t = t} here kind is m same behind p r' p' result a 
 
 abbrev word_directive : List ℕ → Rule
 word_directive text =
-    Or (Then (mark is_word_prefix) (prefix_binding text)) (Then (mark is_word_base) (base_setting text))
+    Or (Then (mark WordPrefix) (prefix_binding text)) (Then (mark WordBase) (base_setting text))
 
 -- ---- directives
 
@@ -99,17 +99,17 @@ first_two_alone n f g r' p' result a =
 
 -- a tag is here, and the answer is on the directives that begin with one
 pub tagged_alone : {text : List ℕ} {r : Reader} {t : Token} → IsHere text r t
-    → is_lang_tag t.kind ≡ true → (p : Pooled) (r' : Reader) (p' : Pooled)
+    → is_kind LangTag t.kind ≡ true → (p : Pooled) (r' : Reader) (p' : Pooled)
     (result : Result (Unit {0}) Refused)
     → ParsesAlone text (Or (at_prefix text) (at_base text)) r p r' p' result
     → ParsesAlone text (directive text) r p r' p' result
 tagged_alone {text = text} {t = t} here kind p r' p' result a =
-    first_two_alone (here_nowhere (word_directive text) p here refl (rw (only_tag t.kind kind) refl))
+    first_two_alone (here_nowhere (word_directive text) p here refl (rw (kind_is LangTag t.kind kind) refl))
     (at_prefix text) (at_base text) r' p' result a
 
 -- a word is here, and the answer is on the directives that begin with one
 words_alone : {text : List ℕ} {r : Reader} {t : Token} → IsHere text r t
-    → is_lang_tag t.kind ≡ false → (p : Pooled) (r' : Reader) (p' : Pooled)
+    → is_kind LangTag t.kind ≡ false → (p : Pooled) (r' : Reader) (p' : Pooled)
     (result : Result (Unit {0}) Refused)
     → ParsesAlone text (word_directive text) r p r' p' result
     → ParsesAlone text (directive text) r p r' p' result
@@ -119,26 +119,26 @@ words_alone {text = text} here kind p r' p' result a =
 
 -- PREFIX is passed
 pub word_prefix_alone : {text : List ℕ} {r : Reader} {t : Token} → IsHere text r t
-    → is_word_prefix t.kind ≡ true → (m : Reader) → m.reading ≡ r.reading → m.tokens.place ≡ t.end
+    → is_kind WordPrefix t.kind ≡ true → (m : Reader) → m.reading ≡ r.reading → m.tokens.place ≡ t.end
     → (p : Pooled) (r' : Reader) (p' : Pooled)
     (result : Result (Unit {0}) Refused) → ParsesAlone text (prefix_binding text) m p r' p' result
     → ParsesAlone text (directive text) r p r' p' result
 word_prefix_alone {text = text} {t = t} here kind m same behind p r' p' result a =
-    let is = only_prefix t.kind kind in
-    let base = here_nowhere (Then (mark is_word_base) (base_setting text)) p here refl (rw is refl) in
+    let is = kind_is WordPrefix t.kind kind in
+    let base = here_nowhere (Then (mark WordBase) (base_setting text)) p here refl (rw is refl) in
     words_alone here (rw is refl) p r' p' result
     (left_alone base _ r' p' result
-    (then_alone (mark_passes is_word_prefix m p here kind same behind) _ r' p' result a))
+    (then_alone (mark_passes WordPrefix m p here kind same behind) _ r' p' result a))
 
 -- BASE is passed
 pub word_base_alone : {text : List ℕ} {r : Reader} {t : Token} → IsHere text r t
-    → is_word_base t.kind ≡ true → (m : Reader) → m.reading ≡ r.reading → m.tokens.place ≡ t.end
+    → is_kind WordBase t.kind ≡ true → (m : Reader) → m.reading ≡ r.reading → m.tokens.place ≡ t.end
     → (p : Pooled) (r' : Reader) (p' : Pooled)
     (result : Result (Unit {0}) Refused) → ParsesAlone text (base_setting text) m p r' p' result
     → ParsesAlone text (directive text) r p r' p' result
 word_base_alone {text = text} {t = t} here kind m same behind p r' p' result a =
-    let is = only_base t.kind kind in
-    let prefix = here_nowhere (Then (mark is_word_prefix) (prefix_binding text)) p here refl (rw is refl) in
+    let is = kind_is WordBase t.kind kind in
+    let prefix = here_nowhere (Then (mark WordPrefix) (prefix_binding text)) p here refl (rw is refl) in
     words_alone here (rw is refl) p r' p' result
     (right_alone prefix _ r' p' result
-    (then_alone (mark_passes is_word_base m p here kind same behind) _ r' p' result a))
+    (then_alone (mark_passes WordBase m p here kind same behind) _ r' p' result a))

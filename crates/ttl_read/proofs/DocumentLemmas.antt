@@ -1,6 +1,6 @@
 -- The statements of a text, one after the other.
-use Rattle.std.proofs.Common.{◌≡◌, ℕ, zero, suc, ◌≤◌, true, false, List, length, refl, sym, ap}
-use Rattle.std.proofs.Common.{◌∙◌, ◌⊎◌, subst, inl, inr, true≢false, arith, Option, Some, None, Result, Ok}
+use Rattle.std.proofs.Common.{◌≡◌, ℕ, zero, suc, ◌≤◌, false, List, length, refl, sym, ap}
+use Rattle.std.proofs.Common.{◌∙◌, ◌⊎◌, subst, inl, inr, arith, Option, Some, None, Result, Ok}
 use Rattle.std.proofs.Common.{Err}
 use Rattle.std.specs.Prelude.{IfErr, IsErrAnd}
 use Rattle.std.specs.Str.{IsUtf8, IsValidUpTo}
@@ -9,28 +9,30 @@ use Rattle.shx_term.specs.declared.term.Scope.{Scope}
 use Rattle.shx_term.specs.Pool.{Pooled}
 use Rattle.ttl_tokens.specs.declared.token.Token.{Token}
 use Rattle.ttl_tokens.specs.declared.token.NoToken.{NoToken}
+use Rattle.ttl_tokens.specs.declared.token.TokenKind.TheVariants.{End}
 use Rattle.ttl_tokens.specs.Form.{Times}
 use Rattle.ttl_tokens.proofs.OneTokenLemmas.{one_token, token_or_none, same_place}
+use Rattle.ttl_tokens.proofs.RestLemmas.{longest_one}
 use Rattle.ttl_meaning.specs.declared.document.Document.{Document}
 use Rattle.ttl_meaning.specs.declared.stated.Excess.{Excess}
 use Rattle.ttl_meaning.specs.declared.stated.Excess.TheVariants.{Triples, Terms}
 use Rattle.ttl_meaning.specs.declared.stated.Stated.{Stated}
 use Rattle.ttl_meaning.specs.inner.DocumentOf.{IsDocumentOf}
 use Rattle.ttl_meaning.specs.inner.IsReading.{IsReading}
-use Rattle.ttl_meaning.specs.IsStated.{Bounds, IsWithin, terms_with}
+use Rattle.ttl_meaning.specs.IsStated.{Bounds, IsWithin}
 use Rattle.ttl_meaning.specs.State.{State, first_state}
 use Rattle.ttl_read.specs.declared.fault.TtlFault.{TtlFault}
 use Rattle.ttl_read.specs.declared.fault.TtlFault.TheVariants.{At, Memory}
 use Rattle.ttl_read.specs.declared.reader.Reader.{Reader}
 use Rattle.ttl_read.specs.Documents.{Setting, IsStatement, HasCause, IsAtEnd, BeginsAt, HasBadStatement}
-use Rattle.ttl_read.specs.Documents.{HasFault}
-use Rattle.ttl_read.specs.Documents.{first_byte, code_of, place_of}
+use Rattle.ttl_read.specs.Documents.{HasFault, HoldsRead, Reaches}
+use Rattle.ttl_read.specs.Documents.{first_byte, start_of, code_of, place_of}
 use Rattle.ttl_read.specs.Grammar.{Place}
 use Rattle.ttl_read.specs.inner.Reads.{Stands, IsNext, place, start_of_next}
-use Rattle.ttl_read.specs.inner.Sound.{IsSound, Led, LedWrong, Concludes, is_end, is_end_next}
+use Rattle.ttl_read.specs.inner.Sound.{IsSound, Led, LedWrong, Concludes, Holds, IsGood, is_end_next}
 use Rattle.ttl_read.specs.inner.Stated.{States, FaultStands}
 use Rattle.ttl_read.specs.Unique.{One, IsOneFault}
-use Rattle.ttl_read.proofs.KindLemmas.{only_end}
+use Rattle.ttl_read.proofs.KindLemmas.{kind_is_not}
 use Rattle.ttl_read.proofs.UniqueLemmas.{chain, end_never}
 
 -- ---- one statement more
@@ -68,13 +70,8 @@ not_at_end : (text : List ℕ) (at : ℕ) (n : Result Token NoToken) → IsUtf8 
     → is_end_next n ≡ false → IsAtEnd text at → ⊥
 not_at_end text at (Ok token) utf8 here more end =
     let same : token ≡ end.0 = one_token text at token end.0 utf8 here end.1 in
-    true≢false (sym (ap is_end (ap (λ (t : Token). t.kind) same ∙ end.2)) ∙ more)
+    kind_is_not End token.kind more (ap (λ (t : Token). t.kind) same ∙ end.2)
 not_at_end text at (Err none) utf8 here more end = token_or_none text at none.at end.0 utf8 end.1 here
-
-pub at_end : (text : List ℕ) (at : ℕ) (n : Result Token NoToken) → IsNext text at n → is_end_next n ≡ true
-    → IsAtEnd text at
-at_end text at (Ok token) here end = (token, here, only_end token.kind end)
-at_end text at (Err none) here end = absurd (cc)
 
 pub concludes_wrong : (t : Setting) (r : Reader) (p : Pooled) (m : Reader) (q : Pooled) (n : Reader)
     (o : Pooled)
@@ -103,14 +100,9 @@ begins_once text at n m utf8 (inl a) (inr b) = absurd (token_or_none text at m a
 begins_once text at n m utf8 (inr a) (inl b) = absurd (token_or_none text at n b.0 utf8 b.1 a)
 begins_once text at n m utf8 (inr a) (inr b) =
     same_place text n m utf8 (omega (arith, a.within)) (omega (arith, b.within)) a.begin b.begin
-    (a.behind ∙ sym b.behind)
+    (longest_one a.behind b.behind)
 
 -- ---- within the limits
-
-pub record IsGood (bounds : Bounds) (s : State) : Type 0 where
-  pub terms : s.fault ≡ None
-  pub triples : length s.triples ≤ bounds.triples
-  pub room : length (terms_with bounds s.triples) ≤ bounds.terms
 
 good_behind : (t : Setting) (n : ℕ) (x y : Place) → Times (IsStatement t) n x y → IsGood t.bounds x.state
     → IsGood t.bounds y.state
@@ -124,14 +116,58 @@ no_excess None bounds s stated p good within = refl
 no_excess (Some Terms) bounds s stated p good within = absurd (omega (arith, good.room, within.2))
 no_excess (Some Triples) bounds s stated p good within = absurd (omega (arith, good.triples, within.1))
 
--- ---- a text
-
-abbrev start_place : Setting → Scope → List ℕ → Place
-start_place t scope base = record { at = first_byte t.text; state = first_state scope base }
-
 sound_chain : (t : Setting) (n : ℕ) (x y : Place) → Times (One t) n x y → Times (IsStatement t) n x y
 sound_chain t zero x y e = e
 sound_chain t (suc n) x y s = (s.0, s.1.is, sound_chain t n s.0 y s.2)
+
+-- ---- the pool
+
+-- whatever is kept behind statements without fault, the pool holds their terms
+pub holds_led : (t : Setting) (r : Reader) (p : Pooled) (m : Reader) (q : Pooled) (s : State) (p' : Pooled)
+    → Leading t r p m q → p'.terms ≡ q.terms → Holds t r p s p'
+holds_led t r p m q s p' leading same = λ good reads.
+    let here = leading s reads in
+    let y = place m here.state in
+    let statements = sound_chain t here.count (place r s) y here.statements in
+    let behind = good_behind t here.count (place r s) y statements good in
+    let within = (here.reads.keeps behind.terms).stated.within in
+    let none = no_excess m.reading.stated.excess t.bounds here.state m.reading.stated q behind within in
+    let all = subst (λ (e : Option Excess). IsWithin e t.bounds here.state.triples m.reading.stated q) none
+    within in
+    (y, (here.count, statements), same ∙ all.2)
+
+-- at the start, where so many terms are held
+first_good : (t : Setting) (scope : Scope) (base : List ℕ) {n : ℕ} → n ≡ length t.bounds.held
+    → n ≤ t.bounds.terms → IsGood t.bounds (first_state scope base)
+first_good t scope base count room = record {
+  terms = refl;
+  triples = omega arith;
+  room = omega (arith, count, room);
+}
+
+pub holds_read : (t : Setting) (scope : Scope) (base : List ℕ) (r : Reader) (p p' : Pooled) {n : ℕ}
+    → n ≡ length t.bounds.held → n ≤ t.bounds.terms → r.tokens.place ≡ first_byte t.text
+    → IsReading t.bounds (first_state scope base) r.reading p → Holds t r p (first_state scope base) p'
+    → HoldsRead t scope base p'
+holds_read t scope base r p p' count room start reads holds =
+    let s = first_state scope base in
+    let led = holds (first_good t scope base count room) reads in
+    record {
+      reached = led.0;
+      statements = subst (λ (n : ℕ). Reaches t (record { at = n; state = s }) led.0) start led.1;
+      terms = led.2;
+    }
+
+-- where nothing was read it holds what it held
+pub holds_nothing : (t : Setting) (scope : Scope) (base : List ℕ) (pool : Pooled)
+    → pool.terms ≡ t.bounds.held → HoldsRead t scope base pool
+holds_nothing t scope base pool same = record {
+  reached = start_of t.text scope base;
+  statements = (zero, refl);
+  terms = same;
+}
+
+-- ---- a text
 
 -- where statements lead to the end, they lead to no other end, and to no fault
 end_only : (t : Setting) (n m : ℕ) (x y z : Place) → IsUtf8 t.text → Times (One t) n x y → IsAtEnd t.text y.at
@@ -192,18 +228,17 @@ fault_endless t x z m code at utf8 wrong s end =
 
 -- what is given at the end of a text is what it states
 pub states_where : (t : Setting) (scope : Scope) (base : List ℕ) (r : Reader) (p : Pooled) (r' : Reader)
-    (p' : Pooled) (u : Unit {0}) (document : Document)
-    → IsUtf8 t.text → r.tokens.place ≡ first_byte t.text
-    → IsReading t.bounds (first_state scope base) r.reading p → length t.bounds.held ≤ t.bounds.terms
-    → Concludes t r p r' p' (Ok u)
+    (p' : Pooled) (u : Unit {0}) (document : Document) {n : ℕ}
+    → n ≡ length t.bounds.held → n ≤ t.bounds.terms → IsUtf8 t.text → r.tokens.place ≡ first_byte t.text
+    → IsReading t.bounds (first_state scope base) r.reading p → Concludes t r p r' p' (Ok u)
     → ((s : State) → s.fault ≡ None → r'.reading.stated.excess ≡ None → IsReading t.bounds s r'.reading p'
     → IsDocumentOf t.bounds s document p')
     → States t scope base document p'
-states_where t scope base r p r' p' u document utf8 start reads room concludes made =
+states_where t scope base r p r' p' u document count room utf8 start reads concludes made =
     let led = concludes (first_state scope base) reads in
     let s = led.0.state in
     let end = place r' s in
-    let x = start_place t scope base in
+    let x = start_of t.text scope base in
     let statements = subst (λ (n : ℕ).
     Times (One t) led.0.count (record {
       at = n;
@@ -211,7 +246,7 @@ states_where t scope base r p r' p' u document utf8 start reads room concludes m
           first_state scope base;
     }) end) start led.0.statements in
     let good = good_behind t led.0.count x end (sound_chain t led.0.count x end statements)
-    (record { terms = refl; triples = omega arith; room = room }) in
+    (first_good t scope base count room) in
     let none = no_excess r'.reading.stated.excess t.bounds s r'.reading.stated p' good
     (led.0.reads.keeps good.terms).stated.within in (
       s,
@@ -228,7 +263,7 @@ states_where t scope base r p r' p' u document utf8 start reads room concludes m
     )
   where
     not_faulty : (code at : ℕ) → HasFault t scope base code at → IsUtf8 t.text
-        → (HasBadStatement t (start_place t scope base) code at → ⊥) → ⊥
+        → (HasBadStatement t (start_of t.text scope base) code at → ⊥) → ⊥
     not_faulty code at (inl bytes) utf8 none = bytes.1 utf8
     not_faulty code at (inr bad) utf8 none = none bad.1
 
@@ -255,16 +290,16 @@ fault_where t scope base r p r' p' e (Err (At code at)) is utf8 start reads conc
       cause = (wrong.cause.0, wrong.cause.1.is, wrong.cause.2, wrong.cause.3);
     }
 
-    other : LedWrong t (start_place t scope base) code at → (c a : ℕ) → HasFault t scope base c a
+    other : LedWrong t (start_of t.text scope base) code at → (c a : ℕ) → HasFault t scope base c a
         → (code ≡ c) × (at ≡ a)
     other wrong c a (inl bytes) = absurd (bytes.1 utf8)
-    other wrong c a (inr bad) = fault_only t (start_place t scope base) code at c a utf8 wrong bad.1
+    other wrong c a (inr bad) = fault_only t (start_of t.text scope base) code at c a utf8 wrong bad.1
 
-    one_fault : LedWrong t (start_place t scope base) code at → IsOneFault t scope base code at
+    one_fault : LedWrong t (start_of t.text scope base) code at → IsOneFault t scope base code at
     one_fault wrong = record {
-      is = inr (utf8, bad_of (start_place t scope base) wrong);
+      is = inr (utf8, bad_of (start_of t.text scope base) wrong);
       only = other wrong;
-      none = λ s is. fault_endless t (start_place t scope base) is.1.0 is.1.1.0 code at utf8 wrong is.1.1.1
+      none = λ s is. fault_endless t (start_of t.text scope base) is.1.0 is.1.1.0 code at utf8 wrong is.1.1.1
           is.1.2;
     }
 fault_where t scope base r p r' p' e (Err Memory) is utf8 start reads concludes = tt

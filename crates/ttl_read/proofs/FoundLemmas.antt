@@ -1,11 +1,10 @@
 -- What belongs to a string, and what is answered of a term.
-use Rattle.std.proofs.Common.{◌≡◌, ℕ, Bool, true, false, ◌&&◌, List, Result, Ok, Err, refl, sym, ap, ◌∙◌}
-use Rattle.std.proofs.Common.{subst, true≢false}
+use Rattle.std.proofs.Common.{◌≡◌, ◌≢◌, ℕ, true, List, Result, Ok, Err, subst}
 use Rattle.std.specs.Prelude.{IfOk}
 use Rattle.std.specs.Str.{IsUtf8}
 use Rattle.ttl_tokens.specs.declared.token.Token.{Token}
 use Rattle.ttl_tokens.specs.declared.token.TokenKind.{TokenKind}
-use Rattle.ttl_tokens.specs.declared.token.TokenKind.TheVariants.{End}
+use Rattle.ttl_tokens.specs.declared.token.TokenKind.TheVariants.{LangTag, Carets}
 use Rattle.ttl_tokens.specs.Tokens.{IsTokenAt, IsNoTokenAt}
 use Rattle.ttl_tokens.proofs.OneTokenLemmas.{one_token, token_or_none}
 use Rattle.ttl_meaning.specs.declared.document.Document.{Document}
@@ -14,9 +13,8 @@ use Rattle.ttl_read.specs.declared.fault.TtlFault.TheVariants.{At, Memory}
 use Rattle.ttl_read.specs.declared.term.Reading.{Reading}
 use Rattle.ttl_read.specs.declared.term.Suffix.TheVariants.{Nothing}
 use Rattle.ttl_read.specs.Found.{Answers, HasSuffix}
-use Rattle.ttl_read.specs.Grammar.{is_iri, is_lang_tag, is_carets}
+use Rattle.ttl_read.specs.Grammar.{is_iri}
 use Rattle.ttl_read.specs.ReadTerm.{Found, A, No, IsFound}
-use Rattle.ttl_read.proofs.KindLemmas.{apart}
 
 -- ---- answers
 
@@ -34,19 +32,17 @@ module _ (text : List ℕ) (token : Token) (document : Document) where
 
 -- ---- the next token
 
--- where the next token is of another kind, none of this kind comes next
-pub other_next : (text : List ℕ) (at : ℕ) (test : TokenKind → Bool) (next : Token) → IsUtf8 text
-    → IsTokenAt text at next → test next.kind ≡ false → (other : Token) → IsTokenAt text at other
-    → test other.kind ≡ true → ⊥
-other_next text at test next utf8 here none other also is =
-    let same : other ≡ next = one_token text at other next utf8 also here in
-    true≢false (sym is ∙ ap (λ (t : Token). test t.kind) same ∙ none)
-
-pub carets_or_tag : (k : TokenKind) → is_carets k && is_lang_tag k ≡ false
-carets_or_tag End = refl
-carets_or_tag k = refl
+-- where the next token is another, none such comes next
+pub other_next : (text : List ℕ) (at : ℕ) (Such : TokenKind → Type 0) (next : Token) → IsUtf8 text
+    → IsTokenAt text at next → (Such next.kind → ⊥) → (other : Token) → IsTokenAt text at other
+    → Such other.kind → ⊥
+other_next text at Such next utf8 here none other also is =
+    none (subst (λ (t : Token). Such t.kind) (one_token text at other next utf8 also here) is)
 
 -- ---- what belongs to a string
+
+pub tag_or_carets : {k : TokenKind} → k ≡ LangTag → k ≡ Carets → ⊥
+tag_or_carets tag carets = absurd (cc)
 
 module _ (text : List ℕ) (string : Token) (utf8 : IsUtf8 text) where
   -- no token comes next
@@ -58,23 +54,22 @@ module _ (text : List ℕ) (string : Token) (utf8 : IsUtf8 text) where
 
   module _ (next : Token) (here : IsTokenAt text string.end next) where
     -- neither a tag nor carets come next
-    pub nothing_at_other : is_lang_tag next.kind ≡ false → is_carets next.kind ≡ false
-        → HasSuffix text string Nothing
+    pub nothing_at_other : next.kind ≢ LangTag → next.kind ≢ Carets → HasSuffix text string Nothing
     nothing_at_other untagged none = (
-      λ other tag. other_next text string.end is_lang_tag next utf8 here untagged other tag.0 tag.1,
+      λ other tag.
+          other_next text string.end (λ k. k ≡ LangTag) next utf8 here untagged other tag.0 tag.1,
       λ other datatype.
-          other_next text string.end is_carets next utf8 here none datatype.0 datatype.1 datatype.2,
+          other_next text string.end (λ k. k ≡ Carets) next utf8 here none datatype.0 datatype.1 datatype.2,
     )
 
     -- carets come next, and behind them no IRI
-    pub nothing_at_carets : is_carets next.kind ≡ true
+    pub nothing_at_carets : next.kind ≡ Carets
         → ((other : Token) → IsTokenAt text next.end other → is_iri other.kind ≡ true → ⊥)
         → HasSuffix text string Nothing
     nothing_at_carets carets none = (
       λ other tag.
-          other_next text string.end is_lang_tag next utf8 here
-          (apart (is_carets next.kind) (is_lang_tag next.kind) (carets_or_tag next.kind) carets) other tag.0
-          tag.1,
+          other_next text string.end (λ k. k ≡ LangTag) next utf8 here (λ e. tag_or_carets e carets) other
+          tag.0 tag.1,
       λ other datatype.
           let same : datatype.0 ≡ next = one_token text string.end datatype.0 next utf8 datatype.1 here in
           none other (subst (λ (t : Token). IsTokenAt text t.end other) same datatype.3) datatype.4,

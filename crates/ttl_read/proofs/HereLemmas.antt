@@ -18,7 +18,7 @@ use Rattle.ttl_meaning.specs.State.{State}
 use Rattle.ttl_read.specs.declared.reader.Reader.{Reader}
 use Rattle.ttl_read.specs.declared.reader.Tokens.{Tokens}
 use Rattle.ttl_read.specs.inner.Follows.{takes_no_token, may_begin}
-use Rattle.ttl_read.specs.Grammar.{Rule, StepsTo, One, token, sign, mark}
+use Rattle.ttl_read.specs.Grammar.{Rule, StepsTo, One, is_kind, one_of, token, sign, mark}
 use Rattle.ttl_read.specs.inner.Reads.{Stands, Advances, IsNext, Passes, IsNowhere, Refuses, place, next_if}
 use Rattle.ttl_read.proofs.PassLemmas.{nowhere_refuses}
 use Rattle.ttl_read.proofs.ReadLemmas.{NoFollower}
@@ -56,18 +56,25 @@ item_passes {text = text} {r = r} {t = t} test act h holds does behind = record 
   );
 }
 
--- ... by its kind
-pub token_passes : {text : List ℕ} {r r' : Reader} {p p' : Pooled} {t : Token} (test : TokenKind → Bool)
-    (act : Token → State → State) → IsHere text r t → test t.kind ≡ true
+-- ... by its group
+pub group_passes : {text : List ℕ} {r r' : Reader} {p p' : Pooled} {t : Token} (group : TokenKind → Bool)
+    (act : Token → State → State) → IsHere text r t → group t.kind ≡ true
     → Does (act t) r.reading p r'.reading p' → r'.tokens.place ≡ t.end
-    → Passes text (token test act) r p r' p'
-token_passes test act h holds does behind = item_passes (λ u. test u.kind) act h holds does behind
+    → Passes text (one_of group act) r p r' p'
+group_passes group act h holds does behind = item_passes (λ u. group u.kind) act h holds does behind
+
+-- ... by its kind
+pub token_passes : {text : List ℕ} {r r' : Reader} {p p' : Pooled} {t : Token} (kind : TokenKind)
+    (act : Token → State → State) → IsHere text r t → is_kind kind t.kind ≡ true
+    → Does (act t) r.reading p r'.reading p' → r'.tokens.place ≡ t.end
+    → Passes text (token kind act) r p r' p'
+token_passes kind act h holds does behind = group_passes (is_kind kind) act h holds does behind
 
 -- ... whatever it says
-pub sign_passes : {text : List ℕ} {r r' : Reader} {p p' : Pooled} {t : Token} (test : TokenKind → Bool)
-    (act : State → State) → IsHere text r t → test t.kind ≡ true → Does act r.reading p r'.reading p'
-    → r'.tokens.place ≡ t.end → Passes text (sign test act) r p r' p'
-sign_passes test act h holds does behind = token_passes test (λ u. act) h holds does behind
+pub sign_passes : {text : List ℕ} {r r' : Reader} {p p' : Pooled} {t : Token} (kind : TokenKind)
+    (act : State → State) → IsHere text r t → is_kind kind t.kind ≡ true → Does act r.reading p r'.reading p'
+    → r'.tokens.place ≡ t.end → Passes text (sign kind act) r p r' p'
+sign_passes kind act h holds does behind = token_passes kind (λ u. act) h holds does behind
 
 -- what is read stays as it is
 pub keeps_reading : (r m : Reader) (p : Pooled) → m.reading ≡ r.reading
@@ -76,12 +83,11 @@ keeps_reading r m p same = λ bounds s reads.
     subst (λ (x : ReaderState). IsReading bounds s x p) (sym same) reads
 
 -- ... where nothing is done
-pub mark_passes : {text : List ℕ} {r : Reader} {t : Token} (test : TokenKind → Bool) (r' : Reader)
-    (p : Pooled)
-    → IsHere text r t → test t.kind ≡ true → r'.reading ≡ r.reading → r'.tokens.place ≡ t.end
-    → Passes text (mark test) r p r' p
-mark_passes {r = r} test r' p h holds same behind =
-    sign_passes test (λ s. s) h holds (keeps_reading r r' p same) behind
+pub mark_passes : {text : List ℕ} {r : Reader} {t : Token} (kind : TokenKind) (r' : Reader) (p : Pooled)
+    → IsHere text r t → is_kind kind t.kind ≡ true → r'.reading ≡ r.reading → r'.tokens.place ≡ t.end
+    → Passes text (mark kind) r p r' p
+mark_passes {r = r} kind r' p h holds same behind =
+    sign_passes kind (λ s. s) h holds (keeps_reading r r' p same) behind
 
 -- a form that begins otherwise is nowhere
 pub here_nowhere : {text : List ℕ} {r : Reader} {t : Token} (f : Rule) (p : Pooled) → IsHere text r t
@@ -181,16 +187,24 @@ no_follower_unless text test stop r utf8 stands on none = go r.tokens.next refl 
     go (Ok t) is none = here_stops stop (is_here r utf8 stands is) (on t (unpicked (test t.kind) t none))
 
 -- a form that begins with such a token alone is not here
+pub nowhere_unless : (text : List ℕ) (test : TokenKind → Bool) (f : Rule) (r : Reader) (p : Pooled)
+    → IsUtf8 text → Stands text r.tokens → takes_no_token f ≡ false
+    → ((t : Token) → test t.kind ≡ false → may_begin f t ≡ false) → next_if test r.tokens.next ≡ None
+    → IsNowhere text f r p
+nowhere_unless text test f r p utf8 stands some other none = go r.tokens.next refl none
+  where
+    go : (n : Result Token NoToken) → r.tokens.next ≡ n → next_if test n ≡ None → IsNowhere text f r p
+    go (Err n) is none = none_nowhere text f n r p utf8 stands is some
+    go (Ok t) is none =
+        here_nowhere f p (is_here r utf8 stands is) some (other t (unpicked (test t.kind) t none))
+
+-- ... whatever may follow
 pub refuses_unless : (text : List ℕ) (test : TokenKind → Bool) (f : Rule) (stop : Token → Bool) (r : Reader)
     (p : Pooled) → IsUtf8 text → Stands text r.tokens → takes_no_token f ≡ false
     → ((t : Token) → test t.kind ≡ false → may_begin f t ≡ false) → next_if test r.tokens.next ≡ None
     → Refuses text f stop r p
-refuses_unless text test f stop r p utf8 stands some other none = go r.tokens.next refl none
-  where
-    go : (n : Result Token NoToken) → r.tokens.next ≡ n → next_if test n ≡ None → Refuses text f stop r p
-    go (Err n) is none = nowhere_refuses (none_nowhere text f n r p utf8 stands is some)
-    go (Ok t) is none =
-        here_refuses f p stop (is_here r utf8 stands is) some (other t (unpicked (test t.kind) t none))
+refuses_unless text test f stop r p utf8 stands some other none =
+    nowhere_refuses (nowhere_unless text test f r p utf8 stands some other none)
 
 -- whether a token was found
 pub found : (o : Option Token) → is_some o ≡ true → (t : Token) × (o ≡ Some t)

@@ -1,18 +1,16 @@
 -- With which tokens a form begins: the kind of the next one decides.
-use Rattle.std.proofs.Common.{◌≡◌, ℕ, ◌-◌, ◌<◌, zero, suc, Bool, true, false, ◌&&◌, ◌||◌, List, refl}
+use Rattle.std.proofs.Common.{◌≡◌, ◌≢◌, ℕ, ◌-◌, ◌<◌, zero, suc, Bool, true, false, ◌&&◌, ◌||◌, List, refl}
 use Rattle.std.proofs.Common.{sym, true≢false, arith}
+use denote.Enum.Bare.{same_true, same_false, false_same}
+use Rattle.ttl_tokens.specs.contracts.token.TokenKind.{the_type}
 use Rattle.ttl_tokens.specs.declared.token.Token.{Token}
 use Rattle.ttl_tokens.specs.declared.token.TokenKind.{TokenKind}
-use Rattle.ttl_tokens.specs.declared.token.TokenKind.TheVariants.{End, BlankLabel, Anon, WordA, LangTag}
-use Rattle.ttl_tokens.specs.declared.token.TokenKind.TheVariants.{Carets, WordPrefix, WordBase, OpenRound}
-use Rattle.ttl_tokens.specs.declared.token.TokenKind.TheVariants.{OpenSquare}
+use Rattle.ttl_tokens.specs.declared.token.TokenKind.TheVariants.{End, BlankLabel, Anon, LangTag, Carets}
+use Rattle.ttl_tokens.specs.declared.token.TokenKind.TheVariants.{CloseRound}
 use Rattle.ttl_tokens.specs.Form.{Or}
-use Rattle.ttl_read.specs.inner.Sound.{is_end}
 use Rattle.ttl_read.specs.inner.Follows.{takes_no_token, may_begin}
-use Rattle.ttl_read.specs.Grammar.{is_iri, is_blank_label, is_anon, is_word_a, is_word_prefix, is_word_base}
-use Rattle.ttl_read.specs.Grammar.{Rule, is_string, is_bare_literal, is_lang_tag, is_carets, is_open_round}
-use Rattle.ttl_read.specs.Grammar.{is_close_round, is_open_square, node, literal, plain_object, object}
-use Rattle.ttl_read.specs.Grammar.{collection, property_list}
+use Rattle.ttl_read.specs.Grammar.{Rule, is_iri, is_string, is_bare_literal, is_kind, node, literal}
+use Rattle.ttl_read.specs.Grammar.{plain_object, object, collection, property_list}
 
 -- a token of this kind
 abbrev pub at_kind : TokenKind → Token
@@ -23,51 +21,20 @@ pub apart : (p q : Bool) → p && q ≡ false → p ≡ true → q ≡ false
 apart true q none holds = none
 apart false q none holds = absurd (true≢false (sym holds))
 
--- ---- tests that hold of one kind alone
+-- ---- one kind alone
 
-pub only_label : (k : TokenKind) → is_blank_label k ≡ true → k ≡ BlankLabel
-only_label BlankLabel h = refl
-only_label k h = absurd (true≢false (sym h))
+pub kind_is : (kind other : TokenKind) → is_kind kind other ≡ true → other ≡ kind
+kind_is kind other = same_true the_type tt other kind
 
-pub only_anon : (k : TokenKind) → is_anon k ≡ true → k ≡ Anon
-only_anon Anon h = refl
-only_anon k h = absurd (true≢false (sym h))
+pub not_of_kind : (kind other : TokenKind) → other ≢ kind → is_kind kind other ≡ false
+not_of_kind kind other = false_same the_type tt other kind
 
-pub only_word_a : (k : TokenKind) → is_word_a k ≡ true → k ≡ WordA
-only_word_a WordA h = refl
-only_word_a k h = absurd (true≢false (sym h))
-
-pub only_tag : (k : TokenKind) → is_lang_tag k ≡ true → k ≡ LangTag
-only_tag LangTag h = refl
-only_tag k h = absurd (true≢false (sym h))
-
-pub only_carets : (k : TokenKind) → is_carets k ≡ true → k ≡ Carets
-only_carets Carets h = refl
-only_carets k h = absurd (true≢false (sym h))
-
-pub only_prefix : (k : TokenKind) → is_word_prefix k ≡ true → k ≡ WordPrefix
-only_prefix WordPrefix h = refl
-only_prefix k h = absurd (true≢false (sym h))
-
-pub only_base : (k : TokenKind) → is_word_base k ≡ true → k ≡ WordBase
-only_base WordBase h = refl
-only_base k h = absurd (true≢false (sym h))
-
-pub only_open_round : (k : TokenKind) → is_open_round k ≡ true → k ≡ OpenRound
-only_open_round OpenRound h = refl
-only_open_round k h = absurd (true≢false (sym h))
-
-pub only_open_square : (k : TokenKind) → is_open_square k ≡ true → k ≡ OpenSquare
-only_open_square OpenSquare h = refl
-only_open_square k h = absurd (true≢false (sym h))
-
-pub only_end : (k : TokenKind) → is_end k ≡ true → k ≡ End
-only_end End h = refl
-only_end k h = absurd (true≢false (sym h))
+pub kind_is_not : (kind other : TokenKind) → is_kind kind other ≡ false → other ≢ kind
+kind_is_not kind other = same_false the_type other kind
 
 -- ---- tests of which one holds at most
 
-pub iri_or_blank_node : (k : TokenKind) → is_iri k && (is_blank_label k || is_anon k) ≡ false
+pub iri_or_blank_node : (k : TokenKind) → is_iri k && (is_kind BlankLabel k || is_kind Anon k) ≡ false
 iri_or_blank_node End = refl
 iri_or_blank_node k = refl
 
@@ -96,7 +63,7 @@ begins_other text k e = e
 
 -- what may stand behind an object and begins none
 abbrev pub ends_object : TokenKind → Bool
-ends_object k = (is_lang_tag k || is_carets k) || is_close_round k
+ends_object k = (is_kind LangTag k || is_kind Carets k) || is_kind CloseRound k
 
 -- the form of an object, as far as one token tells
 pub record IsObject (o : Rule) : Type 0 where

@@ -3,11 +3,14 @@ pub mod CollectionLemmas
 pub mod DepthLemmas
 pub mod DirectiveLemmas
 pub mod DocumentLemmas
+pub mod FitLemmas
 pub mod FollowLemmas
 pub mod FoundLemmas
 pub mod HereLemmas
+pub mod KeepsTermsLemmas
 pub mod KindLemmas
 pub mod LiteralLemmas
+pub mod NestLemmas
 pub mod ObjectLemmas
 pub mod OneFoundLemmas
 pub mod PassLemmas

@@ -1,5 +1,5 @@
 -- At a token one thing is found.
-use Rattle.std.proofs.Common.{◌≡◌, ℕ, Bool, true, false, List, sym, ap, ◌∙◌, subst, inl, inr}
+use Rattle.std.proofs.Common.{◌≡◌, ◌≢◌, ℕ, Bool, true, false, List, sym, ap, ◌∙◌, subst, inl, inr}
 use Rattle.std.proofs.Common.{true≢false, drop}
 use Rattle.std.specs.Bool.{MatchBool}
 use Rattle.std.specs.Str.{IsUtf8}
@@ -9,8 +9,7 @@ use Rattle.ttl_tokens.specs.declared.token.Token.{Token}
 use Rattle.ttl_tokens.specs.declared.token.TokenKind.{TokenKind}
 use Rattle.ttl_tokens.specs.declared.token.TokenKind.TheVariants.{IriRef, PnameLn, PnameNs, BlankLabel}
 use Rattle.ttl_tokens.specs.declared.token.TokenKind.TheVariants.{Integer, Decimal, Double, WordTrue}
-use Rattle.ttl_tokens.specs.declared.token.TokenKind.TheVariants.{WordFalse}
-use Rattle.ttl_tokens.specs.declared.token.TokenKind.TheVariants.{StringQuote, StringSingleQuote}
+use Rattle.ttl_tokens.specs.declared.token.TokenKind.TheVariants.{WordFalse, StringQuote, StringSingleQuote}
 use Rattle.ttl_tokens.specs.declared.token.TokenKind.TheVariants.{StringLongQuote, StringLongSingleQuote}
 use Rattle.ttl_tokens.specs.Tokens.{IsTokenAt}
 use Rattle.ttl_tokens.specs.Unescaped.{token_text}
@@ -19,12 +18,12 @@ use Rattle.ttl_meaning.specs.declared.document.Document.{Document}
 use Rattle.ttl_meaning.specs.InForce.{in_force}
 use Rattle.ttl_meaning.specs.Terms.{said, iri_of, judged, typed, tagged, datatype_of}
 use Rattle.ttl_meaning.proofs.NodeLemmas.{one_node}
-use Rattle.ttl_read.specs.Grammar.{is_iri, is_blank_label, is_bare_literal, is_string, is_lang_tag, is_carets}
+use Rattle.ttl_read.specs.Grammar.{is_iri, is_bare_literal, is_string, is_kind}
 use Rattle.ttl_read.specs.ReadTerm.{Found, A, No, found, found_iri, found_typed}
 use Rattle.ttl_read.specs.ReadTerm.{IsFound, AnIri, ANode, ALiteral, AString, Other, IsNodeFound}
 use Rattle.ttl_read.specs.ReadTerm.{IsStringFound, HasTag, HasDatatype}
-use Rattle.ttl_read.proofs.FoundLemmas.{carets_or_tag}
-use Rattle.ttl_read.proofs.KindLemmas.{apart}
+use Rattle.ttl_read.proofs.FoundLemmas.{tag_or_carets}
+use Rattle.ttl_read.proofs.KindLemmas.{not_of_kind}
 
 -- one answer alone
 abbrev IsOnce : (Found → Type 0) → Type 0
@@ -43,7 +42,7 @@ once_match false P Q p q = q
 module _ (P Q R S T : Type 0) where
   abbrev ByKind : TokenKind → Type 0
   ByKind k =
-      MatchBool (is_iri k) P (MatchBool (is_blank_label k) Q (MatchBool (is_bare_literal k) R
+      MatchBool (is_iri k) P (MatchBool (is_kind BlankLabel k) Q (MatchBool (is_bare_literal k) R
       (MatchBool (is_string k) S T)))
 
   by_iri : (k : TokenKind) → is_iri k ≡ true → P → ByKind k
@@ -52,9 +51,8 @@ module _ (P Q R S T : Type 0) where
   by_iri PnameNs h p = p
   by_iri k h p = absurd (true≢false (sym h))
 
-  by_node : (k : TokenKind) → is_blank_label k ≡ true → Q → ByKind k
-  by_node BlankLabel h q = q
-  by_node k h q = absurd (true≢false (sym h))
+  by_node : (k : TokenKind) → k ≡ BlankLabel → Q → ByKind k
+  by_node k h q = rw h q
 
   by_literal : (k : TokenKind) → is_bare_literal k ≡ true → R → ByKind k
   by_literal Integer h r = r
@@ -71,9 +69,9 @@ module _ (P Q R S T : Type 0) where
   by_string StringLongQuote h s = s
   by_string k h s = absurd (true≢false (sym h))
 
-  by_other : (k : TokenKind) → is_iri k ≡ false → is_blank_label k ≡ false → is_bare_literal k ≡ false
+  by_other : (k : TokenKind) → is_iri k ≡ false → k ≢ BlankLabel → is_bare_literal k ≡ false
       → is_string k ≡ false → T → ByKind k
-  by_other k iri label bare string t = rw (iri, label, bare, string) t
+  by_other k iri label bare string t = rw (iri, not_of_kind BlankLabel k label, bare, string) t
 
 module _ (text : List ℕ) (token : Token) (document : Document) (utf8 : IsUtf8 text) where
   -- ---- a blank node
@@ -105,10 +103,7 @@ module _ (text : List ℕ) (token : Token) (document : Document) (utf8 : IsUtf8 
   tag_or_datatype : (t u : Token) → HasTag text token t → HasDatatype text token u → ⊥
   tag_or_datatype t u tag datatype =
       let same : t ≡ datatype.0 = one_token text token.end t datatype.0 utf8 tag.0 datatype.1 in
-      let untagged : is_lang_tag datatype.0.kind ≡ false =
-      apart (is_carets datatype.0.kind) (is_lang_tag datatype.0.kind) (carets_or_tag datatype.0.kind)
-      datatype.2 in
-      true≢false (sym tag.1 ∙ ap (λ (t : Token). is_lang_tag t.kind) same ∙ untagged)
+      tag_or_carets tag.1 (ap (λ (t : Token). t.kind) same ∙ datatype.2)
 
   string_once : IsOnce (IsStringFound text token document)
   string_once a b (inl t) (inl u) = t.2 ∙ ap with_tag (one_tag t.0 u.0 t.1 u.1) ∙ sym u.2
@@ -145,7 +140,7 @@ module _ (text : List ℕ) (token : Token) (document : Document) (utf8 : IsUtf8 
   by_kind_once : IsOnce IsByKind
   by_kind_once =
       once_match (is_iri token.kind) (λ a. a ≡ the_iri) _ (once_equal the_iri)
-      (once_match (is_blank_label token.kind) (IsNodeFound text token document) _ node_once
+      (once_match (is_kind BlankLabel token.kind) (IsNodeFound text token document) _ node_once
       (once_match (is_bare_literal token.kind) (λ a. a ≡ the_literal) _ (once_equal the_literal)
       (once_match (is_string token.kind) (IsStringFound text token document) (λ a. a ≡ No 2 token.start)
       string_once (once_equal (No 2 token.start)))))

@@ -3,14 +3,14 @@ use Rattle.std.proofs.Common.{◌≡◌, ℕ, zero, suc, Bool, true, false, ◌&
 use Rattle.shx_term.specs.Pool.{Pooled}
 use Rattle.ttl_tokens.specs.declared.token.Token.{Token}
 use Rattle.ttl_tokens.specs.declared.token.TokenKind.{TokenKind}
-use Rattle.ttl_tokens.specs.declared.token.TokenKind.TheVariants.{End}
+use Rattle.ttl_tokens.specs.declared.token.TokenKind.TheVariants.{End, LangTag, WordPrefix, WordBase, Dot}
 use Rattle.ttl_tokens.specs.Form.{Then, Or}
 use Rattle.ttl_meaning.specs.Items.{begin_statement}
 use Rattle.ttl_meaning.specs.inner.IsReading.{Does}
 use Rattle.ttl_read.specs.declared.reader.Reader.{Reader}
 use Rattle.ttl_read.specs.declared.reader.Refused.{Refused}
-use Rattle.ttl_read.specs.Grammar.{Rule, is_lang_tag, is_word_prefix, is_word_base, is_dot, mark, directive}
-use Rattle.ttl_read.specs.Grammar.{triples, statement}
+use Rattle.ttl_read.specs.Grammar.{Rule, mark, directive, triples, statement, is_kind}
+use Rattle.ttl_read.specs.Depth.{is_prefix_or_base}
 use Rattle.ttl_read.specs.inner.Follows.{Avoids, takes_no_token, may_begin}
 use Rattle.ttl_read.specs.inner.Reads.{ParsesAlone}
 use Rattle.ttl_read.specs.inner.Stops.{predicates_go_on}
@@ -20,8 +20,8 @@ use Rattle.ttl_read.proofs.KindLemmas.{at_kind, apart}
 use Rattle.ttl_read.proofs.PassLemmas.{do_passes, then_nowhere}
 use Rattle.ttl_read.proofs.TriplesLemmas.{triples_take}
 
-abbrev triples_and_dot : List ℕ → ℕ → Rule
-triples_and_dot text depth = Then (triples text depth) (mark is_dot)
+abbrev pub triples_and_dot : List ℕ → ℕ → Rule
+triples_and_dot text depth = Then (triples text depth) (mark Dot)
 
 -- a statement behind its beginning
 abbrev pub statement_body : List ℕ → ℕ → Rule
@@ -36,10 +36,10 @@ body_takes text (suc depth) = refl
 
 -- what begins a directive
 abbrev pub begins_directive : TokenKind → Bool
-begins_directive k = is_lang_tag k || is_word_prefix k || is_word_base k
+begins_directive k = is_kind LangTag k || is_prefix_or_base k
 
 -- triples begin with no such token
-directive_or_triples : (text : List ℕ) (depth start stop : ℕ) (k : TokenKind)
+pub directive_or_triples : (text : List ℕ) (depth start stop : ℕ) (k : TokenKind)
     → begins_directive k && may_begin (triples text depth) (record { kind = k; start = start; end = stop })
     ≡ false
 directive_or_triples text zero start stop End = refl
@@ -47,12 +47,12 @@ directive_or_triples text zero start stop k = refl
 directive_or_triples text (suc depth) start stop End = refl
 directive_or_triples text (suc depth) start stop k = refl
 
-dot_other : (k : TokenKind) → predicates_go_on (at_kind k) && is_dot k ≡ false
+dot_other : (k : TokenKind) → predicates_go_on (at_kind k) && is_kind Dot k ≡ false
 dot_other End = refl
 dot_other k = refl
 
 -- what follows triples may be a dot
-pub dot_avoids : Avoids predicates_go_on (mark is_dot)
+pub dot_avoids : Avoids predicates_go_on (mark Dot)
 dot_avoids = record { some = refl; other = λ t e. apart _ _ (dot_other t.kind) e }
 
 -- ---- statements
@@ -79,7 +79,7 @@ directive_alone {text = text} {t = t} depth here begins p r' p' result a =
 
 -- no directive begins here, and the answer is on triples and their dot
 pub triples_alone : {text : List ℕ} {r : Reader} {t : Token} (depth : ℕ) → IsHere text r t
-    → is_lang_tag t.kind ≡ false → is_word_prefix t.kind ≡ false → is_word_base t.kind ≡ false
+    → is_kind LangTag t.kind ≡ false → is_kind WordPrefix t.kind ≡ false → is_kind WordBase t.kind ≡ false
     → (p : Pooled) (r' : Reader) (p' : Pooled) (result : Result (Unit {0}) Refused)
     → ParsesAlone text (triples_and_dot text depth) r p r' p' result
     → ParsesAlone text (statement_body text depth) r p r' p' result

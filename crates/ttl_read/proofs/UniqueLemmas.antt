@@ -86,20 +86,21 @@ le_test h = grind (arith, nat_tests, h)
 pub cause_of_settled : (t : Setting) (x y : Place) → Settled t x y → (c : Cause) → HasCause t x c
     → cause_by t.bounds y.state ≡ Some c
 cause_of_settled t x y settled (TooDeep at) deep = absurd (settled.derived.0 at deep)
-cause_of_settled t x y settled NoStatement none = absurd (none.1.none y settled.derived.1)
+cause_of_settled t x y settled NoStatement none =
+    absurd ((none.1 settled.derived.1.0).none y settled.derived.1.1)
 cause_of_settled t x y settled (BadTerm fault) bad =
-    let same : y ≡ bad.0 = settled.only bad.0 bad.1.1 in
+    let same : y ≡ bad.0 = settled.only bad.1.1.0 bad.0 bad.1.1.1 in
     let has : y.state.fault ≡ Some fault = ap (λ (z : Place). z.state.fault) same ∙ bad.2 in
     rw has refl
 cause_of_settled t x y settled TooManyTriples many =
-    let same : y ≡ many.0 = settled.only many.0 many.1.1 in
+    let same : y ≡ many.0 = settled.only many.1.1.0 many.0 many.1.1.1 in
     let none : y.state.fault ≡ None = ap (λ (z : Place). z.state.fault) same ∙ many.2 in
     let passed : nat_lt t.bounds.triples (length y.state.triples) ≡ true =
     subst (λ (z : Place). nat_lt t.bounds.triples (length z.state.triples) ≡ true) (sym same)
     (lt_test many.3) in
     rw (none, passed) refl
 cause_of_settled t x y settled TooManyTerms many =
-    let same : y ≡ many.0 = settled.only many.0 many.1.1 in
+    let same : y ≡ many.0 = settled.only many.1.1.0 many.0 many.1.1.1 in
     let none : y.state.fault ≡ None = ap (λ (z : Place). z.state.fault) same ∙ many.2 in
     let fits : nat_lt t.bounds.triples (length y.state.triples) ≡ false =
     subst (λ (z : Place). nat_lt t.bounds.triples (length z.state.triples) ≡ false) (sym same)
@@ -113,7 +114,7 @@ cause_of_settled t x y settled TooManyTerms many =
 pub sound_by : (t : Setting) (x y z : Place) → Settled t x y → IsStatement t x z
     → (y ≡ z) × (cause_by t.bounds y.state ≡ None)
 sound_by t x y z settled is =
-    let same : y ≡ z = settled.only z is.derived.1 in
+    let same : y ≡ z = settled.only is.derived.1.0 z is.derived.1.1 in
     let none : y.state.fault ≡ None = ap (λ (v : Place). v.state.fault) same ∙ is.terms in
     let fits : nat_lt t.bounds.triples (length y.state.triples) ≡ false =
     subst (λ (v : Place). nat_lt t.bounds.triples (length v.state.triples) ≡ false) (sym same)
@@ -170,15 +171,15 @@ nowhere_only : (t : Setting) (x : Place) → HasCause t x NoStatement → (d : C
     → NoStatement ≡ d
 nowhere_only t x none (TooDeep at) is = absurd (none.0 at is)
 nowhere_only t x none NoStatement is = refl
-nowhere_only t x none (BadTerm fault) is = absurd (none.1.none is.0 is.1.1)
-nowhere_only t x none TooManyTriples is = absurd (none.1.none is.0 is.1.1)
-nowhere_only t x none TooManyTerms is = absurd (none.1.none is.0 is.1.1)
+nowhere_only t x none (BadTerm fault) is = absurd ((none.1 is.1.1.0).none is.0 is.1.1.1)
+nowhere_only t x none TooManyTriples is = absurd ((none.1 is.1.1.0).none is.0 is.1.1.1)
+nowhere_only t x none TooManyTerms is = absurd ((none.1 is.1.1.0).none is.0 is.1.1.1)
 
 pub one_nowhere : (t : Setting) (x : Place) → HasCause t x NoStatement → OneCause t x NoStatement
 one_nowhere t x none = record {
   is = none;
   only = nowhere_only t x none;
-  none = λ z is. none.1.none z is.derived.1;
+  none = λ z is. (none.1 is.derived.1.0).none z is.derived.1.1;
 }
 
 -- ---- no statement at the end
@@ -194,8 +195,9 @@ takes_some text (suc depth) = refl
 
 pub end_never : (t : Setting) (x z : Place) → IsUtf8 t.text → IsAtEnd t.text x.at → IsStatement t x z → ⊥
 end_never t x z utf8 end is =
-    (never_here t.text (statement t.text t.depth) x end.0 utf8 (takes_some t.text t.depth)
-    (begins_not t.text t.depth end.0 end.2) end.1).none z is.derived.1
+    let depth = is.derived.1.0 in
+    (never_here t.text (statement t.text depth) x end.0 utf8 (takes_some t.text depth)
+    (begins_not t.text depth end.0 end.2) end.1).none z is.derived.1.1
 
 -- ---- chains of statements
 

@@ -1,12 +1,12 @@
 -- How deep the brackets of a statement go.
-use Rattle.std.specs.Prelude.{◌≡◌, ℕ, ◌+◌, ◌-◌, Bool, true, false, ◌||◌, ◌&&◌, nat_le, List, [], ◌∷◌}
+use Rattle.std.specs.Prelude.{◌≡◌, ℕ, ◌+◌, ◌-◌, Bool, true, false, ◌&&◌, nat_le, List, [], ◌∷◌}
 use Rattle.std.specs.Prelude.{Option, Some, None, if◌then◌else◌}
 use Rattle.ttl_tokens.specs.declared.token.Token.{Token}
 use Rattle.ttl_tokens.specs.declared.token.TokenKind.{TokenKind}
-use Rattle.ttl_tokens.specs.declared.token.TokenKind.TheVariants.{Dot, End}
+use Rattle.ttl_tokens.specs.declared.token.TokenKind.TheVariants.{Dot, End, WordPrefix, WordBase}
+use Rattle.ttl_tokens.specs.declared.token.TokenKind.TheVariants.{OpenSquare, CloseSquare, OpenRound}
+use Rattle.ttl_tokens.specs.declared.token.TokenKind.TheVariants.{CloseRound}
 use Rattle.ttl_tokens.specs.Tokens.{IsTokenAt}
-use Rattle.ttl_read.specs.Grammar.{is_word_prefix, is_word_base, is_open_square, is_open_round}
-use Rattle.ttl_read.specs.Grammar.{is_close_square, is_close_round}
 
 abbrev pub is_dot_or_end : TokenKind → Bool
 is_dot_or_end Dot = true
@@ -19,10 +19,19 @@ IsRun text at [] = Unit
 IsRun text at (t ∷ ts) = IsTokenAt text at t × (is_dot_or_end t.kind ≡ false) × IsRun text t.end ts
 
 abbrev pub is_open : TokenKind → Bool
-is_open kind = is_open_square kind || is_open_round kind
+is_open OpenSquare = true
+is_open OpenRound = true
+is_open kind = false
 
 abbrev pub is_close : TokenKind → Bool
-is_close kind = is_close_square kind || is_close_round kind
+is_close CloseSquare = true
+is_close CloseRound = true
+is_close kind = false
+
+abbrev pub is_prefix_or_base : TokenKind → Bool
+is_prefix_or_base WordPrefix = true
+is_prefix_or_base WordBase = true
+is_prefix_or_base kind = false
 
 -- how many brackets are open behind a token, where so many were before it
 abbrev pub open_behind : TokenKind → ℕ → ℕ
@@ -39,7 +48,7 @@ first_too_many limit n (t ∷ ts) =
 abbrev pub first_too_deep : ℕ → List Token → Option ℕ
 first_too_deep limit [] = None
 first_too_deep limit (t ∷ ts) =
-    if is_word_prefix t.kind || is_word_base t.kind then None else first_too_many limit 0 (t ∷ ts)
+    if is_prefix_or_base t.kind then None else first_too_many limit 0 (t ∷ ts)
 
 -- of the statement from a place on, this bracket opens one too many
 pub record IsTooDeep (text : List ℕ) (limit at place : ℕ) : Type 0 where

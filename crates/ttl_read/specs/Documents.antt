@@ -10,7 +10,7 @@ use Rattle.shx_term.specs.declared.fault_codes.TheConstants.{BAD_IRI, FLOAT_LITE
 use Rattle.shx_term.specs.declared.fault_codes.TheConstants.{TOO_DEEP, TEXT_TRIPLES, TEXT_TERMS}
 use Rattle.shx_term.specs.declared.limits.Limits.{Limits}
 use Rattle.shx_term.specs.declared.term.Scope.{Scope}
-use Rattle.shx_term.specs.declared.term.Term.{Term}
+use Rattle.shx_term.specs.Pool.{Pooled}
 use Rattle.ttl_tokens.specs.declared.token.Token.{Token}
 use Rattle.ttl_tokens.specs.declared.token.TokenKind.TheVariants.{End}
 use Rattle.ttl_tokens.specs.Form.{Times, Takes}
@@ -31,18 +31,21 @@ pub record Setting : Type 0 where
   pub depth : ℕ
   pub bounds : Bounds
 
-abbrev pub setting : List ℕ → Limits → List Term → Setting
-setting text limits held = record {
+-- ... where it is read into this pool
+abbrev pub setting : List ℕ → Limits → Pooled → Setting
+setting text limits pool = record {
   text = text;
   depth = limits.turtle_depth;
-  bounds = record { triples = limits.triples; terms = limits.terms; held = held };
+  bounds = record { triples = limits.triples; terms = pool.limit; held = pool.terms };
 }
 
 -- ---- a statement
 
--- the statement from x to y has a derivation
+-- the statement from x to y has a derivation, in which brackets nest as deep as they do, and none of them is
+-- one too many
 abbrev pub IsDerived : Setting → Place → Place → Type 0
-IsDerived t x y = IsNotTooDeep t.text t.depth x.at × Takes (StepsTo t.text) (statement t.text t.depth) x y
+IsDerived t x y =
+    IsNotTooDeep t.text t.depth x.at × ((n : ℕ) × Takes (StepsTo t.text) (statement t.text n) x y)
 
 -- the statement from x to y has no fault
 pub record IsStatement (t : Setting) (x y : Place) : Type 0 where
@@ -63,7 +66,7 @@ pub data Cause : Type 0 where
 abbrev pub HasCause : Setting → Place → Cause → Type 0
 HasCause t x (TooDeep at) = IsTooDeep t.text t.depth x.at at
 HasCause t x NoStatement =
-    IsNotTooDeep t.text t.depth x.at × Never (StepsTo t.text) (statement t.text t.depth) x
+    IsNotTooDeep t.text t.depth x.at × ((n : ℕ) → Never (StepsTo t.text) (statement t.text n) x)
 HasCause t x (BadTerm fault) = (y : Place) × IsDerived t x y × (y.state.fault ≡ Some fault)
 HasCause t x TooManyTriples =
     (y : Place) × IsDerived t x y × (y.state.fault ≡ None) × (t.bounds.triples < length y.state.triples)
@@ -144,3 +147,11 @@ abbrev pub HasFault : Setting → Scope → List ℕ → ℕ → ℕ → Type 0
 HasFault t scope base code at =
     ((code ≡ NOT_UTF8) × (IsUtf8 t.text → ⊥) × IsValidUpTo t.text at)
     ⊎ (IsUtf8 t.text × HasBadStatement t (start_of t.text scope base) code at)
+
+-- ---- what a pool holds, whether the text is a document or not
+
+-- beside what was held before, the terms of the triples of statements without fault, from the first on
+pub record HoldsRead (t : Setting) (scope : Scope) (base : List ℕ) (pool : Pooled) : Type 0 where
+  pub reached : Place
+  pub statements : Reaches t (start_of t.text scope base) reached
+  pub terms : pool.terms ≡ terms_with t.bounds reached.state.triples

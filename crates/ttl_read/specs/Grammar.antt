@@ -1,7 +1,10 @@
--- The productions of Turtle (Turtle 1.1, section 6.5), over tokens, with what each item does. The form of an
--- object goes so many brackets deep.
+-- The productions of Turtle (Turtle 1.1, section 6.5), over tokens, with what each item does. Objects stand
+-- in brackets inside of objects; so that their productions are well founded, these have a number, how many
+-- brackets nest at most. Of a statement any number will do.
 use Rattle.std.specs.Prelude.{◌≡◌, ℕ, zero, suc, Bool, true, false, ◌&&◌, ◌||◌, nat_eq, List, codes}
 use Rattle.std.specs.Cmp.Lexicographic.{pointwise}
+use denote.Enum.Bare.{sameb}
+use Rattle.ttl_tokens.specs.contracts.token.TokenKind.{the_type}
 use Rattle.ttl_tokens.specs.declared.token.Token.{Token}
 use Rattle.ttl_tokens.specs.declared.token.TokenKind.{TokenKind}
 use Rattle.ttl_tokens.specs.declared.token.TokenKind.TheVariants.{IriRef, PnameNs, PnameLn, BlankLabel}
@@ -67,85 +70,28 @@ is_bare_literal WordTrue = true
 is_bare_literal WordFalse = true
 is_bare_literal kind = false
 
--- one kind alone
-abbrev pub is_iri_ref : TokenKind → Bool
-is_iri_ref IriRef = true
-is_iri_ref kind = false
-
-abbrev pub is_pname_ns : TokenKind → Bool
-is_pname_ns PnameNs = true
-is_pname_ns kind = false
-
-abbrev pub is_blank_label : TokenKind → Bool
-is_blank_label BlankLabel = true
-is_blank_label kind = false
-
-abbrev pub is_anon : TokenKind → Bool
-is_anon Anon = true
-is_anon kind = false
-
-abbrev pub is_lang_tag : TokenKind → Bool
-is_lang_tag LangTag = true
-is_lang_tag kind = false
-
-abbrev pub is_carets : TokenKind → Bool
-is_carets Carets = true
-is_carets kind = false
-
-abbrev pub is_word_a : TokenKind → Bool
-is_word_a WordA = true
-is_word_a kind = false
-
-abbrev pub is_word_prefix : TokenKind → Bool
-is_word_prefix WordPrefix = true
-is_word_prefix kind = false
-
-abbrev pub is_word_base : TokenKind → Bool
-is_word_base WordBase = true
-is_word_base kind = false
-
-abbrev pub is_dot : TokenKind → Bool
-is_dot Dot = true
-is_dot kind = false
-
-abbrev pub is_semicolon : TokenKind → Bool
-is_semicolon Semicolon = true
-is_semicolon kind = false
-
-abbrev pub is_comma : TokenKind → Bool
-is_comma Comma = true
-is_comma kind = false
-
-abbrev pub is_open_square : TokenKind → Bool
-is_open_square OpenSquare = true
-is_open_square kind = false
-
-abbrev pub is_close_square : TokenKind → Bool
-is_close_square CloseSquare = true
-is_close_square kind = false
-
-abbrev pub is_open_round : TokenKind → Bool
-is_open_round OpenRound = true
-is_open_round kind = false
-
-abbrev pub is_close_round : TokenKind → Bool
-is_close_round CloseRound = true
-is_close_round kind = false
+-- whether a token is of this kind, as `==` tells
+abbrev pub is_kind : TokenKind → TokenKind → Bool
+is_kind kind other = sameb the_type other kind
 
 abbrev pub begins_verb : TokenKind → Bool
-begins_verb kind = is_iri kind || is_word_a kind
+begins_verb kind = is_iri kind || is_kind WordA kind
+
+-- a token of a group, and what it does
+abbrev pub one_of : (TokenKind → Bool) → (Token → State → State) → Rule
+one_of group act = Item (One (λ t. group t.kind) act)
 
 -- a token of this kind, and what it does
-abbrev pub token : (TokenKind → Bool) → (Token → State → State) → Rule
-token test act = Item (One (λ t. test t.kind) act)
+abbrev pub token : TokenKind → (Token → State → State) → Rule
+token kind act = one_of (is_kind kind) act
 
 -- a token that does the same whatever it says
-abbrev pub sign : (TokenKind → Bool) → (State → State) → Rule
-sign test act = token test (λ t. act)
+abbrev pub sign : TokenKind → (State → State) → Rule
+sign kind act = token kind (λ t. act)
 
 -- a token that does nothing
-abbrev pub mark : (TokenKind → Bool) → Rule
-mark test = sign test (λ s. s)
+abbrev pub mark : TokenKind → Rule
+mark kind = sign kind (λ s. s)
 
 abbrev pub do_ : (State → State) → Rule
 do_ act = Item (Do act)
@@ -154,15 +100,15 @@ do_ act = Item (Do act)
 
 -- iri
 abbrev pub iri : List ℕ → IriRole → Rule
-iri text role = token is_iri (on_iri text role)
+iri text role = one_of is_iri (on_iri text role)
 
 -- verb
 abbrev pub verb : List ℕ → Rule
-verb text = Or (iri text Verb) (sign is_word_a on_a)
+verb text = Or (iri text Verb) (sign WordA on_a)
 
 -- BlankNode
 abbrev pub blank_node : List ℕ → Rule
-blank_node text = Or (token is_blank_label (on_label text)) (sign is_anon on_anon)
+blank_node text = Or (token BlankLabel (on_label text)) (sign Anon on_anon)
 
 -- iri | BlankNode
 abbrev pub node : List ℕ → Rule
@@ -171,14 +117,14 @@ node text = Or (iri text Node) (blank_node text)
 -- what follows a string: (LANGTAG | '^^' iri)?
 abbrev pub string_end : List ℕ → Rule
 string_end text =
-    Or (token is_lang_tag (on_tag text)) (Or (Then (mark is_carets) (iri text Datatype)) (do_ plain_string))
+    Or (token LangTag (on_tag text)) (Or (Then (mark Carets) (iri text Datatype)) (do_ plain_string))
 
 abbrev pub string_literal : List ℕ → Rule
-string_literal text = Then (token is_string (on_string text)) (string_end text)
+string_literal text = Then (one_of is_string (on_string text)) (string_end text)
 
 -- literal
 abbrev pub literal : List ℕ → Rule
-literal text = Or (string_literal text) (token is_bare_literal (on_literal text))
+literal text = Or (string_literal text) (one_of is_bare_literal (on_literal text))
 
 -- iri | BlankNode | literal
 abbrev pub plain_object : List ℕ → Rule
@@ -188,7 +134,7 @@ plain_object text = Or (node text) (literal text)
 
 -- objectList
 abbrev pub object_list : Rule → Rule
-object_list object = Then object (Many (Then (mark is_comma) object))
+object_list object = Then object (Many (Then (mark Comma) object))
 
 -- verb objectList
 abbrev pub verb_objects : List ℕ → Rule → Rule
@@ -197,13 +143,13 @@ verb_objects text object = Then (verb text) (object_list object)
 -- predicateObjectList
 abbrev pub predicate_object_list : List ℕ → Rule → Rule
 predicate_object_list text object =
-    Then (verb_objects text object) (Many (Then (mark is_semicolon) (Maybe (verb_objects text object))))
+    Then (verb_objects text object) (Many (Then (mark Semicolon) (Maybe (verb_objects text object))))
 
 -- blankNodePropertyList
 abbrev pub property_list : List ℕ → Rule → Rule
 property_list text object =
-    Then (sign is_open_square open_node)
-    (Then (predicate_object_list text object) (sign is_close_square close_node))
+    Then (sign OpenSquare open_node)
+    (Then (predicate_object_list text object) (sign CloseSquare close_node))
 
 -- a member of a collection, and its cell
 abbrev pub member : (State → State) → Rule → Rule
@@ -213,11 +159,11 @@ member cell object = Then (do_ cell) (Then object (do_ behind_member))
 abbrev pub members : Rule → Rule
 members object =
     Then (member first_cell object)
-    (Then (Many (member next_cell object)) (sign is_close_round end_list))
+    (Then (Many (member next_cell object)) (sign CloseRound end_list))
 
 -- collection
 abbrev pub collection : Rule → Rule
-collection object = Then (mark is_open_round) (Or (sign is_close_round empty_list) (members object))
+collection object = Then (mark OpenRound) (Or (sign CloseRound empty_list) (members object))
 
 -- object, so many brackets deep at most
 unfoldable pub object : List ℕ → ℕ → Rule
@@ -251,25 +197,25 @@ triples text (suc depth) = Or (subject_triples text (suc depth)) (node_triples t
 -- a language tag that is this word
 abbrev pub tag_word : List ℕ → List ℕ → Rule
 tag_word text word =
-    Item (One (λ t. is_lang_tag t.kind && pointwise nat_eq (token_text text t) word) (λ t s. s))
+    Item (One (λ t. is_kind LangTag t.kind && pointwise nat_eq (token_text text t) word) (λ t s. s))
 
 -- PNAME_NS IRIREF
 abbrev pub prefix_binding : List ℕ → Rule
 prefix_binding text =
-    Then (token is_pname_ns (hold_prefix text)) (token is_iri_ref (on_namespace text))
+    Then (token PnameNs (hold_prefix text)) (token IriRef (on_namespace text))
 
 -- IRIREF
 abbrev pub base_setting : List ℕ → Rule
-base_setting text = token is_iri_ref (on_base text)
+base_setting text = token IriRef (on_base text)
 
 -- directive
 abbrev pub directive : List ℕ → Rule
 directive text =
-    Or (Then (tag_word text (codes "@prefix")) (Then (prefix_binding text) (mark is_dot)))
-    (Or (Then (tag_word text (codes "@base")) (Then (base_setting text) (mark is_dot)))
-    (Or (Then (mark is_word_prefix) (prefix_binding text)) (Then (mark is_word_base) (base_setting text))))
+    Or (Then (tag_word text (codes "@prefix")) (Then (prefix_binding text) (mark Dot)))
+    (Or (Then (tag_word text (codes "@base")) (Then (base_setting text) (mark Dot)))
+    (Or (Then (mark WordPrefix) (prefix_binding text)) (Then (mark WordBase) (base_setting text))))
 
--- statement
+-- statement, for some number
 abbrev pub statement : List ℕ → ℕ → Rule
 statement text depth =
-    Then (do_ begin_statement) (Or (directive text) (Then (triples text depth) (mark is_dot)))
+    Then (do_ begin_statement) (Or (directive text) (Then (triples text depth) (mark Dot)))

@@ -1,12 +1,13 @@
 -- The term that begins at a token, for whoever knows what the text before it states (Turtle 1.1, sections
 -- 6.5 and 7.2).
-use Rattle.std.specs.Prelude.{◌≡◌, ℕ, ◌⊎◌, List, drop, Result, Ok, Err, true, false}
+use Rattle.std.specs.Prelude.{◌≡◌, ◌≢◌, ℕ, ◌⊎◌, List, drop, Result, Ok, Err, true, false}
 use Rattle.shx_term.specs.declared.fault_codes.TheConstants.{SYNTAX, UNKNOWN_BLANK}
 use Rattle.shx_term.specs.declared.term.BlankName.{BlankName}
 use Rattle.shx_term.specs.declared.term.Term.{Term}
 use Rattle.shx_term.specs.declared.term.Term.TheVariants.{Iri, Blank}
 use Rattle.shx_term.specs.Spelling.{spelling_of, xsd_string}
 use Rattle.ttl_tokens.specs.declared.token.Token.{Token}
+use Rattle.ttl_tokens.specs.declared.token.TokenKind.TheVariants.{BlankLabel, LangTag, Carets}
 use Rattle.ttl_tokens.specs.Tokens.{IsTokenAt}
 use Rattle.ttl_tokens.specs.Unescaped.{token_text}
 use Rattle.ttl_meaning.specs.declared.document.Document.{Document}
@@ -16,7 +17,7 @@ use Rattle.ttl_meaning.specs.Terms.{said, iri_of, judged, typed, tagged, datatyp
 use Rattle.ttl_read.specs.declared.fault.TtlFault.{TtlFault}
 use Rattle.ttl_read.specs.declared.fault.TtlFault.TheVariants.{At, Memory}
 use Rattle.ttl_read.specs.Documents.{code_of_term}
-use Rattle.ttl_read.specs.Grammar.{is_iri, is_string, is_bare_literal, is_blank_label, is_lang_tag, is_carets}
+use Rattle.ttl_read.specs.Grammar.{is_iri, is_string, is_bare_literal}
 
 -- ---- what is found at a token: a term that goes to a byte, or a fault with its code and its byte
 
@@ -49,12 +50,12 @@ found_typed text token iri (Err kind) = No (code_of_term kind) iri.start
 
 -- the tag of a string
 abbrev pub HasTag : List ℕ → Token → Token → Type 0
-HasTag text token tag = IsTokenAt text token.end tag × (is_lang_tag tag.kind ≡ true)
+HasTag text token tag = IsTokenAt text token.end tag × (tag.kind ≡ LangTag)
 
 -- the IRI of its datatype
 abbrev pub HasDatatype : List ℕ → Token → Token → Type 0
 HasDatatype text token iri =
-    (carets : Token) × IsTokenAt text token.end carets × (is_carets carets.kind ≡ true)
+    (carets : Token) × IsTokenAt text token.end carets × (carets.kind ≡ Carets)
     × IsTokenAt text carets.end iri × (is_iri iri.kind ≡ true)
 
 -- a string with what belongs to it, as much as there is
@@ -71,14 +72,14 @@ IsStringFound text token document answer =
 pub data IsFound (text : List ℕ) (token : Token) (document : Document) (answer : Found) : Type 0 where
   AnIri : is_iri token.kind ≡ true → answer ≡ found_iri token (iri_of text token (in_force document))
       → IsFound text token document answer
-  ANode : is_blank_label token.kind ≡ true → IsNodeFound text token document answer
+  ANode : token.kind ≡ BlankLabel → IsNodeFound text token document answer
       → IsFound text token document answer
   ALiteral : is_bare_literal token.kind ≡ true
       → answer ≡ found token.start token.end (judged (typed (token_text text token) (datatype_of token.kind)))
       → IsFound text token document answer
   AString : is_string token.kind ≡ true → IsStringFound text token document answer
       → IsFound text token document answer
-  Other : is_iri token.kind ≡ false → is_blank_label token.kind ≡ false → is_bare_literal token.kind ≡ false
+  Other : is_iri token.kind ≡ false → token.kind ≢ BlankLabel → is_bare_literal token.kind ≡ false
       → is_string token.kind ≡ false → answer ≡ No SYNTAX token.start → IsFound text token document answer
 
 -- a fault that is found; want of memory is none

@@ -7,10 +7,10 @@ use Rattle.ttl_read.specs.Documents.{Setting, IsDerived, IsStatement, Cause, Has
 use Rattle.ttl_read.specs.Documents.{IsDocument, HasFault}
 use Rattle.ttl_read.specs.Grammar.{Place, StepsTo, statement}
 
--- a derivation leads from x to y, and none leads elsewhere
+-- a derivation leads from x to y, and none leads elsewhere, however deep brackets nest in it
 pub record Settled (t : Setting) (x y : Place) : Type 0 where
   pub derived : IsDerived t x y
-  pub only : (z : Place) → Takes (StepsTo t.text) (statement t.text t.depth) x z → y ≡ z
+  pub only : (n : ℕ) (z : Place) → Takes (StepsTo t.text) (statement t.text n) x z → y ≡ z
 
 -- the statement leads from x to y and nowhere else, and has no fault
 pub record One (t : Setting) (x y : Place) : Type 0 where

@@ -1,35 +1,31 @@
-ghost use Rattle.std.specs.Prelude.{◌≡◌, ◌≤◌, ◌<◌, true, ◌||◌, length, MatchOption};
+//! The bracket of a statement that opens one too many. It is looked for where a statement was found to have
+//! no derivation within the limit, to tell whether that is why.
+ghost use Rattle.std.specs.Prelude.{◌≡◌, ◌≤◌, ◌<◌, true, length, MatchOption};
 ghost use Rattle.std.specs.Str.{IsCharBoundary};
-ghost use Rattle.ttl_tokens.specs.Tokens.{IsTokenAt};
 ghost use Rattle.ttl_read.specs.Depth.{IsTooDeep, IsNotTooDeep, is_dot_or_end, is_open, open_behind};
 ghost use Rattle.ttl_read.specs.Depth.{IsOneTooMany, NoneTooMany};
-ghost use Rattle.ttl_read.specs.Grammar.{is_word_base, is_word_prefix};
+ghost use Rattle.ttl_read.specs.inner.Reads.{Stands};
 
-use crate::marks::{
-    is_close_round, is_close_square, is_dot_or_end, is_open_round, is_open_square, is_word_base,
-    is_word_prefix,
-};
-use ttl_tokens::{Lookahead, Token, TokenKind, next_token_after};
+use crate::groups::{is_close, is_dot_or_end, is_open, is_prefix_or_base};
+use crate::reader::Tokens;
+use ttl_tokens::{Lookahead, TokenKind, next_token_after};
 
-/// The first bracket that opens one too many in the statement that begins with this token.
-pub(crate) fn too_deep(text: &str, at: usize, first: Token, limit: u32) -> Option<usize>
-    requires within { at ≤ length text.now }
-    requires boundary { IsCharBoundary text.now at }
-    requires first { IsTokenAt text.now at first }
-    ensures { MatchOption result (IsNotTooDeep text.now limit at) (IsTooDeep text.now limit at) }
+/// The first bracket that opens one too many in the statement that begins here.
+pub(crate) fn too_deep(text: &str, tokens: &Tokens, limit: u32) -> Option<usize>
+    requires stands { Stands text.now tokens.now }
+    ensures { MatchOption result (IsNotTooDeep text.now limit tokens.now.place)
+        (IsTooDeep text.now limit tokens.now.place) }
 {
-    if begins_without_brackets(first.kind) {
-        None
-    } else {
-        one_too_many(text, at, limit)
+    match tokens.next {
+        Ok(first) => {
+            if is_prefix_or_base(first.kind) {
+                None
+            } else {
+                one_too_many(text, tokens.place, limit)
+            }
+        }
+        Err(_) => None,
     }
-}
-
-// Of a statement that begins with `PREFIX` or `BASE` no brackets are counted.
-fn begins_without_brackets(kind: TokenKind) -> bool
-    ensures { result ≡ (is_word_prefix kind || is_word_base kind) }
-{
-    is_word_prefix(kind) || is_word_base(kind)
 }
 
 // The same, whatever the statement begins with.
@@ -54,12 +50,6 @@ fn one_too_many(text: &str, at: usize, limit: u32) -> Option<usize>
     None
 }
 
-fn is_open(kind: TokenKind) -> bool
-    ensures { result ≡ is_open kind }
-{
-    is_open_square(kind) || is_open_round(kind)
-}
-
 // How many brackets are open behind a token.
 fn count_behind(kind: TokenKind, count: u32, limit: u32) -> u32
     requires within { count ≤ limit }
@@ -69,7 +59,7 @@ fn count_behind(kind: TokenKind, count: u32, limit: u32) -> u32
 {
     if is_open(kind) {
         count + 1
-    } else if is_close_square(kind) || is_close_round(kind) {
+    } else if is_close(kind) {
         count.saturating_sub(1)
     } else {
         count

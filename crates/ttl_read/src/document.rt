@@ -3,7 +3,7 @@ ghost use Rattle.std.specs.Str.{IsCharBoundary, IsUtf8};
 ghost use Rattle.iri_resolve.specs.Resolution.{IsAbsolute};
 ghost use Rattle.ttl_meaning.specs.inner.DocumentOf.{IsDocumentOf};
 ghost use Rattle.ttl_meaning.specs.State.{State};
-ghost use Rattle.ttl_read.specs.Documents.{first_byte, setting};
+ghost use Rattle.ttl_read.specs.Documents.{HoldsRead, first_byte, setting};
 ghost use Rattle.ttl_read.specs.inner.Stated.{FaultStands, States};
 
 use crate::fault::TtlFault;
@@ -15,10 +15,15 @@ use std::alloc::Global;
 use std::str;
 use ttl_meaning::{Document, ReaderState};
 
-/// What a text of Turtle states (Turtle 1.1). Its terms are entered into the pool, which after a refusal may
-/// hold more of them. Beside the check of UTF-8 and the undoing of escapes, each token is read twice: it
-/// takes time linear in the text, but for looking up terms by hash and prefixes by name, and memory for what
-/// it gives alone.
+/// What a text of Turtle states (Turtle 1.1). Its terms are entered into the pool, and the limit of terms is
+/// the pool's. After a refusal the pool holds the terms of the statements before the one that was refused,
+/// beside what it held before.
+///
+/// Beside the check of UTF-8 and the undoing of escapes, each token is read once, but for those of a
+/// statement that has no derivation, which are read once more: it takes time linear in the text, but for
+/// looking up terms by hash and prefixes by name, and memory for what it gives alone. A base or a namespace
+/// is written out at each reference or name that uses it, so that a long one costs its length as often as it
+/// is used. Brackets nest as deep as the recursion goes.
 ///
 /// # Errors
 ///
@@ -33,11 +38,12 @@ pub fn read_document(
     pool: &mut Pool,
 ) -> Result<Document, TtlFault>
     requires absolute { IsAbsolute base.now }
-    requires limit { pool.old.limit ≡ limits.now.terms }
+    requires depth { limits.now.turtle_depth ≤ 128 }
     ensures document { IfOk result (λ document.
-        States (setting text.now limits.now pool.old.terms) scope base.now document pool.new) }
-    ensures fault { IfErr result
-        (FaultStands (setting text.now limits.now pool.old.terms) scope base.now) }
+        States (setting text.now limits.now pool.old) scope base.now document pool.new) }
+    ensures fault { IfErr result (FaultStands (setting text.now limits.now pool.old) scope base.now) }
+    ensures pool { HoldsRead (setting text.now limits.now pool.old) scope base.now pool.new }
+    ensures limit { pool.new.limit ≡ pool.old.limit }
 {
     match str::from_utf8(text) {
         Ok(text) => read_text(alloc, text, base, scope, limits, pool),
@@ -58,11 +64,11 @@ fn read_text(
     pool: &mut Pool,
 ) -> Result<Document, TtlFault>
     requires absolute { IsAbsolute base.now }
-    requires limit { pool.old.limit ≡ limits.now.terms }
     ensures document { IfOk result (λ document.
-        States (setting text.now limits.now pool.old.terms) scope base.now document pool.new) }
-    ensures fault { IfErr result
-        (FaultStands (setting text.now limits.now pool.old.terms) scope base.now) }
+        States (setting text.now limits.now pool.old) scope base.now document pool.new) }
+    ensures fault { IfErr result (FaultStands (setting text.now limits.now pool.old) scope base.now) }
+    ensures pool { HoldsRead (setting text.now limits.now pool.old) scope base.now pool.new }
+    ensures limit { pool.new.limit ≡ pool.old.limit }
 {
     // A pool never holds more terms than its limit.
     let _ = pool.len();

@@ -6,14 +6,14 @@
 //! | `document.rt` | `read_document`, and what it gives |
 //! | `term.rt` | `read_term`: the term that begins at a token, behind a document |
 //! | `fault.rt` | `TtlFault`: why a text is no document, or a token no term |
-//! | `statements.rt` | the statements of a text, one after the other, and their faults |
-//! | `depth.rt` | the first pass over a statement: how deep its brackets go |
-//! | `statement.rt`, `directive.rt` | the second pass: one statement |
+//! | `statements.rt` | the statements of a text in turn, their faults, and the pool behind them |
+//! | `depth.rt` | where a statement has no derivation, whether a bracket is one too many |
+//! | `statement.rt`, `directive.rt` | one statement |
 //! | `triples.rt`, `object.rt`, `collection.rt` | its parts, one function a production |
 //! | `literal.rt`, `node.rt` | its terms, likewise |
-//! | `marks.rt` | which tokens are which |
+//! | `groups.rt` | groups of tokens |
 //! | `reader.rt` | `Reader`: the next token, and what was read before it |
-//! | `laws.rt` | that one term is found |
+//! | `laws.rt` | that one term is found, and which statements are derived within a limit |
 //!
 //! It stands on `ttl_tokens` for the tokens and on `ttl_meaning` for what they mean. Start with
 //! `document.rt`; `specs/Documents.antt` says what a document is, `specs/Grammar.antt` what a statement,
@@ -25,9 +25,9 @@ mod depth;
 mod directive;
 mod document;
 mod fault;
+mod groups;
 mod laws;
 mod literal;
-mod marks;
 mod node;
 mod object;
 mod reader;
@@ -38,6 +38,6 @@ mod triples;
 
 pub use document::read_document;
 pub use fault::TtlFault;
-pub use laws::one_term_is_found;
+pub use laws::{a_derived_statement_is_shallow, a_shallow_statement_is_derived, one_term_is_found};
 pub use term::{Reading, read_term};
 pub use ttl_meaning::{Document, Prefix};

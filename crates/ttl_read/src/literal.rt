@@ -1,19 +1,21 @@
 //! Literals.
 ghost use Rattle.std.specs.Prelude.{◌≡◌, ◌≤◌, OnOk, Ok, true};
+ghost use Rattle.ttl_meaning.specs.KeepsTerms.{KeepsTerms};
 ghost use Rattle.ttl_read.specs.Grammar.{is_string, literal, string_end, string_literal};
 ghost use Rattle.ttl_read.specs.inner.Reads.{Advances, Parses, Stands};
 ghost use Rattle.ttl_read.specs.inner.Stops.{goes_on};
 
-use crate::marks::{is_bare_literal, is_carets, is_lang_tag, is_string};
+use crate::groups::{is_bare_literal, is_string};
 use crate::node::iri;
 use crate::reader::{Reader, Refused};
 use shx_term::Pool;
 use ttl_meaning::IriRole;
-use ttl_tokens::Token;
+use ttl_tokens::{Token, TokenKind};
 
 // literal
 pub(crate) fn literal(text: &str, reader: &mut Reader, pool: &mut Pool) -> Result<(), Refused>
     requires stands { Stands text.now reader.old.tokens }
+    ensures keeps { KeepsTerms pool.old pool.new }
     ensures advances { OnOk result (Advances text.now reader.old.tokens reader.new.tokens) }
     ensures parses { Parses text.now (literal text.now) goes_on
         reader.old pool.old reader.new pool.new result }
@@ -42,6 +44,7 @@ fn string_literal(
     requires stands { Stands text.now reader.old.tokens }
     requires next { reader.old.tokens.next ≡ Ok token }
     requires kind { is_string token.kind ≡ true }
+    ensures keeps { KeepsTerms pool.old pool.new }
     ensures advances { OnOk result (Advances text.now reader.old.tokens reader.new.tokens) }
     ensures parses { Parses text.now (string_literal text.now) goes_on
         reader.old pool.old reader.new pool.new result }
@@ -54,6 +57,7 @@ fn string_literal(
 // What follows a string: its tag, its datatype or neither.
 fn string_end(text: &str, reader: &mut Reader, pool: &mut Pool) -> Result<(), Refused>
     requires stands { Stands text.now reader.old.tokens }
+    ensures keeps { KeepsTerms pool.old pool.new }
     ensures stands { OnOk result (Stands text.now reader.new.tokens) }
     ensures further { OnOk result (reader.old.tokens.place ≤ reader.new.tokens.place) }
     ensures parses { Parses text.now (string_end text.now) goes_on
@@ -72,17 +76,18 @@ fn string_end(text: &str, reader: &mut Reader, pool: &mut Pool) -> Result<(), Re
 fn end_at(text: &str, reader: &mut Reader, pool: &mut Pool, token: Token) -> Result<(), Refused>
     requires stands { Stands text.now reader.old.tokens }
     requires next { reader.old.tokens.next ≡ Ok token }
+    ensures keeps { KeepsTerms pool.old pool.new }
     ensures stands { OnOk result (Stands text.now reader.new.tokens) }
     ensures further { OnOk result (reader.old.tokens.place ≤ reader.new.tokens.place) }
     ensures parses { Parses text.now (string_end text.now) goes_on
         reader.old pool.old reader.new pool.new result }
 {
-    if is_lang_tag(token.kind) {
+    if token.kind == TokenKind::LangTag {
         reader.reading.on_tag(pool, text, &token)?;
         reader.tokens.pass(text, token);
         return Ok(());
     }
-    if is_carets(token.kind) {
+    if token.kind == TokenKind::Carets {
         reader.tokens.pass(text, token);
         return iri(text, reader, pool, IriRole::Datatype);
     }

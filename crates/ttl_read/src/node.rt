@@ -1,15 +1,17 @@
 //! IRIs, blank nodes and verbs.
 ghost use Rattle.std.specs.Prelude.{◌≡◌, OnOk, Ok, true};
 ghost use Rattle.shx_term.specs.Pool.{Pooled};
+ghost use Rattle.ttl_tokens.specs.declared.token.TokenKind.TheVariants.{WordA};
 ghost use Rattle.ttl_meaning.specs.Items.{on_a};
-ghost use Rattle.ttl_read.specs.Grammar.{blank_node, iri, is_word_a, node, sign, verb};
+ghost use Rattle.ttl_meaning.specs.KeepsTerms.{KeepsTerms};
+ghost use Rattle.ttl_read.specs.Grammar.{blank_node, iri, is_kind, node, sign, verb};
 ghost use Rattle.ttl_read.specs.inner.Reads.{Advances, ParsesAlone, Stands};
 
-use crate::marks::{is_anon, is_blank_label, is_iri, is_word_a};
+use crate::groups::is_iri;
 use crate::reader::{Reader, Refused};
 use shx_term::Pool;
 use ttl_meaning::IriRole;
-use ttl_tokens::Token;
+use ttl_tokens::{Token, TokenKind};
 
 // iri
 pub(crate) fn iri(
@@ -19,6 +21,7 @@ pub(crate) fn iri(
     role: IriRole,
 ) -> Result<(), Refused>
     requires stands { Stands text.now reader.old.tokens }
+    ensures keeps { KeepsTerms pool.old pool.new }
     ensures advances { OnOk result (Advances text.now reader.old.tokens reader.new.tokens) }
     ensures parses { ParsesAlone text.now (iri text.now role)
         reader.old pool.old reader.new pool.new result }
@@ -37,6 +40,7 @@ pub(crate) fn iri(
 // BlankNode
 fn blank_node(text: &str, reader: &mut Reader, pool: &mut Pool) -> Result<(), Refused>
     requires stands { Stands text.now reader.old.tokens }
+    ensures keeps { KeepsTerms pool.old pool.new }
     ensures advances { OnOk result (Advances text.now reader.old.tokens reader.new.tokens) }
     ensures parses { ParsesAlone text.now (blank_node text.now)
         reader.old pool.old reader.new pool.new result }
@@ -44,12 +48,12 @@ fn blank_node(text: &str, reader: &mut Reader, pool: &mut Pool) -> Result<(), Re
     let Ok(token) = reader.tokens.next else {
         return Err(Refused::Syntax);
     };
-    if is_blank_label(token.kind) {
+    if token.kind == TokenKind::BlankLabel {
         reader.reading.on_label(pool, text, &token)?;
         reader.tokens.pass(text, token);
         return Ok(());
     }
-    if is_anon(token.kind) {
+    if token.kind == TokenKind::Anon {
         reader.reading.on_anon(pool)?;
         reader.tokens.pass(text, token);
         return Ok(());
@@ -60,6 +64,7 @@ fn blank_node(text: &str, reader: &mut Reader, pool: &mut Pool) -> Result<(), Re
 // iri | BlankNode
 pub(crate) fn node(text: &str, reader: &mut Reader, pool: &mut Pool) -> Result<(), Refused>
     requires stands { Stands text.now reader.old.tokens }
+    ensures keeps { KeepsTerms pool.old pool.new }
     ensures advances { OnOk result (Advances text.now reader.old.tokens reader.new.tokens) }
     ensures parses { ParsesAlone text.now (node text.now)
         reader.old pool.old reader.new pool.new result }
@@ -79,13 +84,14 @@ pub(crate) fn node(text: &str, reader: &mut Reader, pool: &mut Pool) -> Result<(
 // verb
 pub(crate) fn verb(text: &str, reader: &mut Reader, pool: &mut Pool) -> Result<(), Refused>
     requires stands { Stands text.now reader.old.tokens }
+    ensures keeps { KeepsTerms pool.old pool.new }
     ensures advances { OnOk result (Advances text.now reader.old.tokens reader.new.tokens) }
     ensures parses { ParsesAlone text.now (verb text.now)
         reader.old pool.old reader.new pool.new result }
 {
     match reader.tokens.next {
         Ok(token) => {
-            if is_word_a(token.kind) {
+            if token.kind == TokenKind::WordA {
                 word_a(text, reader, token)
             } else {
                 iri(text, reader, pool, IriRole::Verb)
@@ -99,9 +105,9 @@ pub(crate) fn verb(text: &str, reader: &mut Reader, pool: &mut Pool) -> Result<(
 fn word_a(text: &str, reader: &mut Reader, token: Token) -> Result<(), Refused>
     requires stands { Stands text.now reader.old.tokens }
     requires next { reader.old.tokens.next ≡ Ok token }
-    requires kind { is_word_a token.kind ≡ true }
+    requires kind { is_kind WordA token.kind ≡ true }
     ensures advances { OnOk result (Advances text.now reader.old.tokens reader.new.tokens) }
-    ensures parses { (pool : Pooled) → ParsesAlone text.now (sign is_word_a on_a)
+    ensures parses { (pool : Pooled) → ParsesAlone text.now (sign WordA on_a)
         reader.old pool reader.new pool result }
 {
     reader.reading.on_a()?;

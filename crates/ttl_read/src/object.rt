@@ -1,16 +1,17 @@
 //! Objects, and lists of them.
 ghost use Rattle.std.specs.Prelude.{◌≡◌, OnOk, Ok};
+ghost use Rattle.ttl_meaning.specs.KeepsTerms.{KeepsTerms};
 ghost use Rattle.ttl_read.specs.Grammar.{object, object_list, plain_object};
 ghost use Rattle.ttl_read.specs.inner.Reads.{Advances, Parses, Stands};
 ghost use Rattle.ttl_read.specs.inner.Stops.{goes_on, list_goes_on};
 
 use crate::collection::{collection, property_list};
+use crate::groups::begins_literal;
 use crate::literal::literal;
-use crate::marks::{begins_literal, is_open_round, is_open_square};
 use crate::node::node;
 use crate::reader::{Reader, Refused};
 use shx_term::Pool;
-use ttl_tokens::Token;
+use ttl_tokens::{Token, TokenKind};
 
 // object, so many brackets deep at most
 #[cycle(objects)]
@@ -21,6 +22,7 @@ pub(crate) fn object(
     depth: u32,
 ) -> Result<(), Refused>
     requires stands { Stands text.now reader.old.tokens }
+    ensures keeps { KeepsTerms pool.old pool.new }
     ensures advances { OnOk result (Advances text.now reader.old.tokens reader.new.tokens) }
     ensures parses { Parses text.now (object text.now depth) goes_on
         reader.old pool.old reader.new pool.new result }
@@ -28,13 +30,13 @@ pub(crate) fn object(
     let Ok(token) = reader.tokens.next else {
         return Err(Refused::Syntax);
     };
-    if is_open_round(token.kind) {
+    if token.kind == TokenKind::OpenRound {
         if depth == 0 {
             return Err(Refused::Syntax);
         }
         return collection(text, reader, pool, token, depth - 1);
     }
-    if is_open_square(token.kind) {
+    if token.kind == TokenKind::OpenSquare {
         if depth == 0 {
             return Err(Refused::Syntax);
         }
@@ -52,6 +54,7 @@ fn plain_object(
 ) -> Result<(), Refused>
     requires stands { Stands text.now reader.old.tokens }
     requires next { reader.old.tokens.next ≡ Ok token }
+    ensures keeps { KeepsTerms pool.old pool.new }
     ensures advances { OnOk result (Advances text.now reader.old.tokens reader.new.tokens) }
     ensures parses { Parses text.now (plain_object text.now) goes_on
         reader.old pool.old reader.new pool.new result }
@@ -72,12 +75,13 @@ pub(crate) fn object_list(
     depth: u32,
 ) -> Result<(), Refused>
     requires stands { Stands text.now reader.old.tokens }
+    ensures keeps { KeepsTerms pool.old pool.new }
     ensures advances { OnOk result (Advances text.now reader.old.tokens reader.new.tokens) }
     ensures parses { Parses text.now (object_list (object text.now depth)) list_goes_on
         reader.old pool.old reader.new pool.new result }
 {
     object(text, reader, pool, depth)?;
-    while let Some(comma) = reader.tokens.comma() {
+    while let Some(comma) = reader.tokens.next_of(TokenKind::Comma) {
         reader.tokens.pass(text, comma);
         object(text, reader, pool, depth)?;
     }

@@ -1,12 +1,12 @@
 ghost use Rattle.std.specs.Prelude.{◌≡◌, ◌≤◌, length, Ok};
 ghost use Rattle.std.specs.Str.{IsCharBoundary};
-ghost use Rattle.ttl_read.specs.Grammar.{begins_verb, is_close_round, is_comma, is_semicolon};
+ghost use Rattle.ttl_read.specs.Grammar.{begins_verb, is_kind};
 ghost use Rattle.ttl_read.specs.inner.Reads.{Stands, next_if, start_of_next};
 
-use crate::marks::{is_close_round, is_comma, is_semicolon, is_verb};
+use crate::groups::begins_verb;
 use std::alloc::AllocError;
 use ttl_meaning::ReaderState;
-use ttl_tokens::{Lookahead, NoToken, Token, next_token_after};
+use ttl_tokens::{Lookahead, NoToken, Token, TokenKind, next_token_after};
 
 /// Why nothing was read.
 #[derive(Clone, Copy, Debug, PartialEq, Eq)]
@@ -67,67 +67,23 @@ impl Tokens {
         }
     }
 
-    // The next token, where it is a comma.
-    pub(crate) fn comma(&self) -> Option<Token>
-        ensures { result ≡ next_if is_comma self.now.next }
+    // The next token, where it is of this kind.
+    pub(crate) fn next_of(&self, kind: TokenKind) -> Option<Token>
+        ensures { result ≡ next_if (is_kind kind) self.now.next }
     {
         match self.next {
-            Ok(token) => {
-                if is_comma(token.kind) {
-                    Some(token)
-                } else {
-                    None
-                }
-            }
-            Err(_) => None,
-        }
-    }
-
-    // The next token, where it is a semicolon.
-    pub(crate) fn semicolon(&self) -> Option<Token>
-        ensures { result ≡ next_if is_semicolon self.now.next }
-    {
-        match self.next {
-            Ok(token) => {
-                if is_semicolon(token.kind) {
-                    Some(token)
-                } else {
-                    None
-                }
-            }
-            Err(_) => None,
-        }
-    }
-
-    // The next token, where it is `)`.
-    pub(crate) fn close_round(&self) -> Option<Token>
-        ensures { result ≡ next_if is_close_round self.now.next }
-    {
-        match self.next {
-            Ok(token) => {
-                if is_close_round(token.kind) {
-                    Some(token)
-                } else {
-                    None
-                }
-            }
-            Err(_) => None,
+            Ok(token) if token.kind == kind => Some(token),
+            _ => None,
         }
     }
 
     // The next token, where it begins a verb.
-    pub(crate) fn verb(&self) -> Option<Token>
+    pub(crate) fn next_verb(&self) -> Option<Token>
         ensures { result ≡ next_if begins_verb self.now.next }
     {
         match self.next {
-            Ok(token) => {
-                if is_verb(token.kind) {
-                    Some(token)
-                } else {
-                    None
-                }
-            }
-            Err(_) => None,
+            Ok(token) if begins_verb(token.kind) => Some(token),
+            _ => None,
         }
     }
 }

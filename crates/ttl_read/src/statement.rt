@@ -1,17 +1,17 @@
 //! One statement.
 ghost use Rattle.std.specs.Prelude.{◌≡◌, codes, OnOk, Ok, true};
 ghost use Rattle.shx_term.specs.Pool.{Pooled};
+ghost use Rattle.ttl_tokens.specs.declared.token.TokenKind.TheVariants.{Dot, LangTag};
 ghost use Rattle.ttl_tokens.specs.Form.{Or, Then};
-ghost use Rattle.ttl_read.specs.Grammar.{base_setting, is_dot, is_lang_tag, mark, prefix_binding};
-ghost use Rattle.ttl_read.specs.Grammar.{statement, tag_word};
+ghost use Rattle.ttl_meaning.specs.KeepsTerms.{KeepsTerms};
+ghost use Rattle.ttl_read.specs.Grammar.{base_setting, is_kind, mark, prefix_binding, statement, tag_word};
 ghost use Rattle.ttl_read.specs.inner.Reads.{Advances, ParsesAlone, Stands};
 
 use crate::directive::{base_setting, dot, prefix_binding};
-use crate::marks::{is_lang_tag, is_word_base, is_word_prefix};
 use crate::reader::{Reader, Refused};
 use crate::triples::triples;
 use shx_term::Pool;
-use ttl_tokens::Token;
+use ttl_tokens::{Token, TokenKind};
 
 // statement
 pub(crate) fn statement(
@@ -21,6 +21,7 @@ pub(crate) fn statement(
     depth: u32,
 ) -> Result<(), Refused>
     requires stands { Stands text.now reader.old.tokens }
+    ensures keeps { KeepsTerms pool.old pool.new }
     ensures advances { OnOk result (Advances text.now reader.old.tokens reader.new.tokens) }
     ensures parses { ParsesAlone text.now (statement text.now depth)
         reader.old pool.old reader.new pool.new result }
@@ -29,14 +30,14 @@ pub(crate) fn statement(
     let Ok(token) = reader.tokens.next else {
         return Err(Refused::Syntax);
     };
-    if is_lang_tag(token.kind) {
+    if token.kind == TokenKind::LangTag {
         return tagged_directive(text, reader, token);
     }
-    if is_word_prefix(token.kind) {
+    if token.kind == TokenKind::WordPrefix {
         reader.tokens.pass(text, token);
         return prefix_binding(text, reader);
     }
-    if is_word_base(token.kind) {
+    if token.kind == TokenKind::WordBase {
         reader.tokens.pass(text, token);
         return base_setting(text, reader);
     }
@@ -48,11 +49,11 @@ pub(crate) fn statement(
 fn tagged_directive(text: &str, reader: &mut Reader, token: Token) -> Result<(), Refused>
     requires stands { Stands text.now reader.old.tokens }
     requires next { reader.old.tokens.next ≡ Ok token }
-    requires kind { is_lang_tag token.kind ≡ true }
+    requires kind { is_kind LangTag token.kind ≡ true }
     ensures advances { OnOk result (Advances text.now reader.old.tokens reader.new.tokens) }
     ensures parses { (pool : Pooled) → ParsesAlone text.now
-        (Or (Then (tag_word text.now (codes "@prefix")) (Then (prefix_binding text.now) (mark is_dot)))
-        (Then (tag_word text.now (codes "@base")) (Then (base_setting text.now) (mark is_dot))))
+        (Or (Then (tag_word text.now (codes "@prefix")) (Then (prefix_binding text.now) (mark Dot)))
+        (Then (tag_word text.now (codes "@base")) (Then (base_setting text.now) (mark Dot))))
         reader.old pool reader.new pool result }
 {
     let word = &text[token.start..token.end];

@@ -1,10 +1,11 @@
 //! The statements of a text, one after the other, and the fault of the first that has one.
-ghost use Rattle.std.specs.Prelude.{◌≡◌, List, MatchOption, OnOk};
-ghost use Rattle.shx_term.specs.declared.term.Term.{Term as term};
-ghost use Rattle.ttl_read.specs.Depth.{IsNotTooDeep, IsTooDeep};
+ghost use Rattle.std.specs.Prelude.{◌≡◌, OnErr, OnOk};
+ghost use Rattle.shx_term.specs.Pool.{Pooled as pooled};
+ghost use Rattle.ttl_meaning.specs.KeepsTerms.{KeepsTerms};
+ghost use Rattle.ttl_meaning.specs.State.{State};
 ghost use Rattle.ttl_read.specs.Documents.{setting};
 ghost use Rattle.ttl_read.specs.inner.Reads.{Advances, Stands};
-ghost use Rattle.ttl_read.specs.inner.Sound.{Concludes, IsJudged, IsSound, is_end_next};
+ghost use Rattle.ttl_read.specs.inner.Sound.{Concludes, Holds, IsJudged, IsSound, is_end_next};
 
 use crate::depth::too_deep;
 use crate::fault::{TtlFault, code_of};
@@ -15,7 +16,8 @@ use shx_term::{Limits, Pool};
 use ttl_meaning::Excess;
 use ttl_tokens::TokenKind;
 
-// All statements up to the end of the text.
+// All statements up to the end of the text. Where one has a fault, or memory is wanted, the pool holds the
+// terms of those before it.
 pub(crate) fn statements(
     text: &str,
     limits: &Limits,
@@ -23,7 +25,10 @@ pub(crate) fn statements(
     pool: &mut Pool,
 ) -> Result<(), TtlFault>
     requires stands { Stands text.now reader.old.tokens }
-    ensures concludes { (held : List term) → Concludes (setting text.now limits.now held)
+    ensures limit { pool.new.limit ≡ pool.old.limit }
+    ensures holds { (before : pooled) (s : State)
+        → Holds (setting text.now limits.now before) reader.old pool.old s pool.new }
+    ensures concludes { (before : pooled) → Concludes (setting text.now limits.now before)
         reader.old pool.old reader.new pool.new result }
 {
     while !is_at_end(reader) {
@@ -42,7 +47,7 @@ fn is_at_end(reader: &Reader) -> bool
     }
 }
 
-// One statement without fault.
+// One statement without fault. Otherwise the pool is as it was.
 fn sound_statement(
     text: &str,
     limits: &Limits,
@@ -50,36 +55,47 @@ fn sound_statement(
     pool: &mut Pool,
 ) -> Result<(), TtlFault>
     requires stands { Stands text.now reader.old.tokens }
+    ensures limit { pool.new.limit ≡ pool.old.limit }
+    ensures refused { OnErr result (pool.new.terms ≡ pool.old.terms) }
     ensures advances { OnOk result (Advances text.now reader.old.tokens reader.new.tokens) }
-    ensures sound { (held : List term) → IsSound (setting text.now limits.now held)
+    ensures sound { (before : pooled) → IsSound (setting text.now limits.now before)
         reader.old pool.old reader.new pool.new result }
 {
-    let start = reader.tokens.start();
-    if let Some(at) = too_deep_here(text, reader, limits.turtle_depth) {
-        return Err(TtlFault::At {
-            code: TOO_DEEP,
-            at: at as u64,
-        });
+    let held = pool.len();
+    let read = judged_statement(text, limits, reader, pool);
+    if read.is_err() {
+        pool.cut(held);
     }
-    match statement(text, reader, pool, limits.turtle_depth) {
-        Ok(()) => judge(reader, pool, start),
-        Err(Refused::Syntax) => Err(TtlFault::At {
-            code: SYNTAX,
-            at: start as u64,
-        }),
-        Err(Refused::Memory) => Err(TtlFault::Memory),
-    }
+    read
 }
 
-// The first bracket that opens one too many in the next statement.
-fn too_deep_here(text: &str, reader: &Reader, limit: u32) -> Option<usize>
-    requires stands { Stands text.now reader.now.tokens }
-    ensures { MatchOption result (IsNotTooDeep text.now limit reader.now.tokens.place)
-        (IsTooDeep text.now limit reader.now.tokens.place) }
+// One statement without fault, or its fault.
+fn judged_statement(
+    text: &str,
+    limits: &Limits,
+    reader: &mut Reader,
+    pool: &mut Pool,
+) -> Result<(), TtlFault>
+    requires stands { Stands text.now reader.old.tokens }
+    ensures keeps { KeepsTerms pool.old pool.new }
+    ensures advances { OnOk result (Advances text.now reader.old.tokens reader.new.tokens) }
+    ensures sound { (before : pooled) → IsSound (setting text.now limits.now before)
+        reader.old pool.old reader.new pool.new result }
 {
-    match reader.tokens.next {
-        Ok(first) => too_deep(text, reader.tokens.place, first, limit),
-        Err(_) => None,
+    let tokens = reader.tokens;
+    match statement(text, reader, pool, limits.turtle_depth) {
+        Ok(()) => judge(reader, pool, tokens.start()),
+        Err(Refused::Syntax) => match too_deep(text, &tokens, limits.turtle_depth) {
+            Some(at) => Err(TtlFault::At {
+                code: TOO_DEEP,
+                at: at as u64,
+            }),
+            None => Err(TtlFault::At {
+                code: SYNTAX,
+                at: tokens.start() as u64,
+            }),
+        },
+        Err(Refused::Memory) => Err(TtlFault::Memory),
     }
 }
 

@@ -10,19 +10,19 @@ ghost use Rattle.ttl_meaning.specs.InForce.{in_force};
 ghost use Rattle.ttl_meaning.specs.inner.Meant.{IsMeant};
 ghost use Rattle.ttl_meaning.specs.Terms.{iri_of};
 ghost use Rattle.ttl_read.specs.Found.{Answers, HasSuffix, IsFaultOf};
-ghost use Rattle.ttl_read.specs.Grammar.{is_blank_label, is_iri, is_string};
+ghost use Rattle.ttl_read.specs.Grammar.{is_iri, is_string};
 ghost use Rattle.ttl_read.specs.ReadTerm.{A, IsFaultFound, IsFound, IsNodeFound, IsStringFound};
 ghost use Rattle.ttl_read.specs.ReadTerm.{found, found_iri, found_typed};
 
 use crate::fault::{TtlFault, code_of};
-use crate::marks::{is_bare_literal, is_blank_label, is_carets, is_iri, is_lang_tag, is_string};
+use crate::groups::{is_bare_literal, is_iri, is_string};
 use shx_term::Term;
 use shx_term::fault_codes::{SYNTAX, UNKNOWN_BLANK};
 use std::alloc::Global;
 use ttl_meaning::{
     Document, NoNode, NoTerm, bare_literal, plain_string, tagged_string, typed_string,
 };
-use ttl_tokens::{Token, next_token};
+use ttl_tokens::{Token, TokenKind, next_token};
 
 /// What is found at a token.
 #[derive(Debug, Drop)]
@@ -67,7 +67,7 @@ fn term_at(
     if is_iri(token.kind) {
         return iri(alloc, text, token, document);
     }
-    if is_blank_label(token.kind) {
+    if token.kind == TokenKind::BlankLabel {
         return node(alloc, text, token, document);
     }
     if is_bare_literal(token.kind) {
@@ -171,15 +171,13 @@ fn behind_string(text: &str, string: &Token) -> Suffix
     let Ok(next) = next_token(text, string.end) else {
         return Suffix::Nothing;
     };
-    if is_lang_tag(next.kind) {
-        return Suffix::Tag(next);
-    }
-    if !is_carets(next.kind) {
-        return Suffix::Nothing;
-    }
-    match next_iri(text, next.end) {
-        Some(iri) => Suffix::Datatype(iri),
-        None => Suffix::Nothing,
+    match next.kind {
+        TokenKind::LangTag => Suffix::Tag(next),
+        TokenKind::Carets => match next_iri(text, next.end) {
+            Some(iri) => Suffix::Datatype(iri),
+            None => Suffix::Nothing,
+        },
+        _ => Suffix::Nothing,
     }
 }
 

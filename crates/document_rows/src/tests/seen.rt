@@ -1,5 +1,5 @@
 //! What is seen of a text, as lines.
-ghost use Rattle.std.specs.Prelude.{◌≡◌};
+ghost use Rattle.std.specs.Prelude.{◌≤◌};
 ghost use Rattle.iri_resolve.specs.Resolution.{IsAbsolute};
 
 use iri_resolve::is_absolute;
@@ -37,8 +37,8 @@ pub(super) fn outcome(
     limits: &Limits,
     text: &[u8],
 ) -> Result<String, Memory> {
-    if !is_absolute(base) || limits.terms < VOCABULARY_LEN {
-        return String::from_str(alloc, "no base, or no room");
+    if !is_absolute(base) || limits.terms < VOCABULARY_LEN || limits.turtle_depth > 128 {
+        return String::from_str(alloc, "no base, or other limits");
     }
     let base = IriText::new(String::from_str(alloc, base)?);
     let mut pool = Pool::with_vocabulary(alloc, limits.terms)?;
@@ -55,7 +55,7 @@ pub(super) fn outcome_in(
     pool: &mut Pool,
 ) -> Result<String, Memory>
     requires absolute { IsAbsolute base.now }
-    requires limit { pool.old.limit ≡ limits.now.terms }
+    requires depth { limits.now.turtle_depth ≤ 128 }
 {
     let held = pool.len();
     match read_document(alloc, text, base, scope, limits, pool) {
@@ -90,7 +90,11 @@ fn shown(
     if !has_terms_of(pool, held, &document.triples) {
         out.extend_from_slice(b"other terms\n")?;
     }
-    match String::from_utf8(out) {
+    text_from(alloc, out)
+}
+
+fn text_from(alloc: Global, bytes: Vec<u8>) -> Result<String, Memory> {
+    match String::from_utf8(bytes) {
         Ok(text) => Ok(text),
         Err(_) => String::from_str(alloc, "no text"),
     }
@@ -128,6 +132,16 @@ fn show_term(pool: &Pool, id: Id, out: &mut Vec<u8>) -> Result<(), Memory> {
     } else {
         Ok(out.extend_from_slice(b"no term")?)
     }
+}
+
+/// The terms of a pool from this number on, each behind a space.
+pub(super) fn terms_from(alloc: Global, pool: &Pool, from: Id) -> Result<String, Memory> {
+    let mut out = Vec::new(alloc);
+    for id in from..pool.len() {
+        out.push(b' ')?;
+        show_term(pool, id, &mut out)?;
+    }
+    text_from(alloc, out)
 }
 
 // Whether a pool has, behind those that it held, exactly the terms of these triples, in the order of their

@@ -1,12 +1,12 @@
 -- In a cycle of calls `c.requires.0.0` is that the text is UTF-8, and `c.requires.1.1` what is required.
-use Rattle.std.proofs.Common.{◌≡◌, true, false, refl, sym, ◌∙◌, arith}
-use Rattle.std.proofs.lemmas.Bool.{or_from, or_right}
+use Rattle.std.proofs.Common.{◌≡◌, true, refl, sym, ◌∙◌, arith}
+use Rattle.std.proofs.lemmas.Bool.{or_right}
 use Rattle.ttl_tokens.specs.Form.{Then}
 use Rattle.ttl_meaning.specs.Items.{behind_member, first_cell, next_cell, end_list, empty_list, open_node}
 use Rattle.ttl_read.specs.declared.reader.Reader.{Reader}
-use Rattle.ttl_read.specs.Depth.{is_open}
-use Rattle.ttl_read.specs.Grammar.{is_close_round, is_comma, is_open_round, is_open_square}
-use Rattle.ttl_read.specs.Grammar.{is_semicolon, begins_verb, mark, object, sign, verb_objects}
+use Rattle.ttl_tokens.specs.declared.token.TokenKind.TheVariants.{Semicolon, Comma, OpenSquare, OpenRound}
+use Rattle.ttl_tokens.specs.declared.token.TokenKind.TheVariants.{CloseRound}
+use Rattle.ttl_read.specs.Grammar.{begins_verb, mark, object, sign, verb_objects, is_kind}
 use Rattle.ttl_read.specs.inner.Reads.{Passes}
 use Rattle.ttl_read.specs.inner.Stops.{goes_on, list_goes_on, stops_nowhere, verbs_go_on}
 use Rattle.ttl_read.proofs.AnswerLemmas.{alone_parses, alone_passed_on, handed_on, leads_alone, passed_on}
@@ -17,7 +17,8 @@ use Rattle.ttl_read.proofs.CollectionLemmas.{square_avoids}
 use Rattle.ttl_read.proofs.HereLemmas.{advances_on, advances_then, found, found_here, here_stops, is_here}
 use Rattle.ttl_read.proofs.HereLemmas.{mark_passes, none_nowhere, not_found, pass_advances, refuses_unless}
 use Rattle.ttl_read.proofs.HereLemmas.{sign_passes}
-use Rattle.ttl_read.proofs.KindLemmas.{IsObject-object, only_open_round, only_open_square}
+use Rattle.ttl_read.proofs.KeepsTermsLemmas.{keeps_then}
+use Rattle.ttl_read.proofs.KindLemmas.{IsObject-object, kind_is}
 use Rattle.ttl_read.proofs.ObjectLemmas.{another_object, collection_object, commas_avoid, no_bracket}
 use Rattle.ttl_read.proofs.ObjectLemmas.{no_comma, no_other_object, other_object, property_list_object}
 use Rattle.ttl_read.proofs.PassLemmas.{behind_nowhere, do_passes, nowhere_refuses, passes_reads, refuses_then}
@@ -35,13 +36,13 @@ pub collection::collection-returns-in_ok-empty_list-in-Some-clause-advances
 collection::collection-returns-in_ok-empty_list-in-Some-clause-advances t c =
     let here = is_here c.args.reader.now c.requires.0.0 c.requires.1.1.0 c.requires.1.1.1.0 in
     let m : Reader = record { tokens = c.pass.new.self; reading = c.args.reader.now.reading } in
-    let close = found_here m is_close_round c.in-Some.close c.requires.0.0 c.pass.ensures.stands
-    (sym c.close_round.ensures ∙ c.in-Some.is) in
+    let close = found_here m (is_kind CloseRound) c.in-Some.close c.requires.0.0 c.pass.ensures.stands
+    (sym c.next_of.ensures ∙ c.in-Some.is) in
     advances_then
-    (pass_advances is_open_round c.pass.new.self here c.requires.1.1.1.1 refl c.pass.ensures.stands
+    (pass_advances (is_kind OpenRound) c.pass.new.self here c.requires.1.1.1.1 refl c.pass.ensures.stands
     c.pass.ensures.place)
-    (pass_advances is_close_round c.pass-in-Some.new.self close.0 close.1 refl c.pass-in-Some.ensures.stands
-    c.pass-in-Some.ensures.place)
+    (pass_advances (is_kind CloseRound) c.pass-in-Some.new.self close.0 close.1 refl
+    c.pass-in-Some.ensures.stands c.pass-in-Some.ensures.place)
 
 pub collection::collection-returns-in_ok-empty_list-in-Some-clause-parses
     : goal.collection::collection-returns-in_ok-empty_list-in-Some-clause-parses
@@ -51,14 +52,14 @@ collection::collection-returns-in_ok-empty_list-in-Some-clause-parses t c =
     let is = IsObject-object text c.args.depth in
     let here = is_here c.args.reader.now c.requires.0.0 c.requires.1.1.0 c.requires.1.1.1.0 in
     let m : Reader = record { tokens = c.pass.new.self; reading = c.args.reader.now.reading } in
-    let close = found_here m is_close_round c.in-Some.close c.requires.0.0 c.pass.ensures.stands
-    (sym c.close_round.ensures ∙ c.in-Some.is) in
-    let first = mark_passes is_open_round m c.args.pool.now here c.requires.1.1.1.1 refl
+    let close = found_here m (is_kind CloseRound) c.in-Some.close c.requires.0.0 c.pass.ensures.stands
+    (sym c.next_of.ensures ∙ c.in-Some.is) in
+    let first = mark_passes OpenRound m c.args.pool.now here c.requires.1.1.1.1 refl
     c.pass.ensures.place in
     let none = no_members o c.args.pool.now stops_nowhere is close.0 close.1 in
     passes_then_reads first
-    (left_reads (passes_reads (sign_passes is_close_round empty_list close.0 close.1
-    c.in_ok-empty_list-in-Some.ensures c.pass-in-Some.ensures.place)) none)
+    (left_reads (passes_reads (sign_passes CloseRound empty_list close.0 close.1
+    c.in_ok-empty_list-in-Some.ensures.does c.pass-in-Some.ensures.place)) none)
 
 pub collection::collection-returns-in-None-clause-parses
     : goal.collection::collection-returns-in-None-clause-parses
@@ -66,11 +67,11 @@ collection::collection-returns-in-None-clause-parses t c =
     let text = c.args.text.now in
     let here = is_here c.args.reader.now c.requires.0.0 c.requires.1.1.0 c.requires.1.1.1.0 in
     let m : Reader = record { tokens = c.pass.new.self; reading = c.args.reader.now.reading } in
-    let first = mark_passes is_open_round m c.args.pool.now here c.requires.1.1.1.1 refl
+    let first = mark_passes OpenRound m c.args.pool.now here c.requires.1.1.1.1 refl
     c.pass.ensures.place in
-    let none = refuses_unless text is_close_round (sign is_close_round empty_list) stops_nowhere m
+    let none = refuses_unless text (is_kind CloseRound) (sign CloseRound empty_list) stops_nowhere m
     c.args.pool.now c.requires.0.0 c.pass.ensures.stands refl (λ t e. e)
-    (sym c.close_round.ensures ∙ c.in-None.is) in
+    (sym c.next_of.ensures ∙ c.in-None.is) in
     passes_then_parses first _ _ _ _ c.members.result
     (right_parses none _ _ _ c.members.result c.members.ensures.parses)
 
@@ -95,7 +96,7 @@ collection::members-returns-in_err-member-clause-parses t c =
     let is = IsObject-object text c.args.depth in
     let m : Reader = record { tokens = c.args.reader.now.tokens; reading = c.first_cell.new.self } in
     let cell = do_passes text first_cell c.args.reader.now c.args.pool.now m c.first_cell.new.pool
-    c.in_ok-first_cell.ensures refl in
+    c.in_ok-first_cell.ensures.does refl in
     passed_on _ _ c.in_err-member.field-0.0 c.from_residual-in_err-member.result
     c.from_residual-in_err-member.ensures.1 c.in_err-member.ensures.parses
     (λ n. no_first_member is (passes_then_refuses cell n))
@@ -107,11 +108,22 @@ collection::members-loop-close-init t c =
     let is = IsObject-object text c.args.depth in
     let m : Reader = record { tokens = c.args.reader.now.tokens; reading = c.first_cell.new.self } in
     let cell = do_passes text first_cell c.args.reader.now c.args.pool.now m c.first_cell.new.pool
-    c.in_ok-first_cell.ensures refl in
+    c.in_ok-first_cell.ensures.does refl in
     record {
+      keeps = keeps_then c.in_ok-first_cell.ensures.keeps c.in_ok-member.ensures.keeps;
       on = c.in_ok-member.ensures.advances;
       goes = goes_first (members_avoid o is) (passes_then_reads cell c.in_ok-member.ensures.parses);
     }
+
+pub collection::members-returns-in_err-end_list-clause-keeps
+    : goal.collection::members-returns-in_err-end_list-clause-keeps
+collection::members-returns-in_err-end_list-clause-keeps t c =
+    keeps_then c.loop-close.invariant.keeps c.in_err-end_list.ensures.keeps
+
+pub collection::members-returns-in-Some-clause-keeps
+    : goal.collection::members-returns-in-Some-clause-keeps
+collection::members-returns-in-Some-clause-keeps t c =
+    keeps_then c.loop-close.invariant.keeps c.in_ok-end_list.ensures.keeps
 
 pub collection::members-returns-in-Some-clause-parses
     : goal.collection::members-returns-in-Some-clause-parses
@@ -120,11 +132,11 @@ collection::members-returns-in-Some-clause-parses t c =
     let o = object text c.args.depth in
     let is = IsObject-object text c.args.depth in
     let m = c.loop-close.reader in
-    let close = found_here m is_close_round c.in-Some.close c.requires.0.0 c.loop-close.invariant.on.stands
-    (sym c.close_round.ensures ∙ c.in-Some.is) in
+    let close = found_here m (is_kind CloseRound) c.in-Some.close c.requires.0.0
+    c.loop-close.invariant.on.stands (sym c.next_of.ensures ∙ c.in-Some.is) in
     members_read is c.loop-close.invariant.goes
     (no_next_member o c.loop-close.pool goes_on is close.0 close.1)
-    (sign_passes is_close_round end_list close.0 close.1 c.in_ok-end_list.ensures c.pass.ensures.place)
+    (sign_passes CloseRound end_list close.0 close.1 c.in_ok-end_list.ensures.does c.pass.ensures.place)
 
 pub collection::members-loop-close-preserved : goal.collection::members-loop-close-preserved
 collection::members-loop-close-preserved t c =
@@ -134,10 +146,12 @@ collection::members-loop-close-preserved t c =
     let m = c.loop-close.reader in
     let next : Reader = record { tokens = m.tokens; reading = c.next_cell.new.self } in
     let stop = no_close text m c.requires.0.0 c.loop-close.invariant.on.stands
-    (sym c.close_round.ensures ∙ c.in_default.is) in
+    (sym c.next_of.ensures ∙ c.in_default.is) in
     let cell = do_passes text next_cell m c.loop-close.pool next c.next_cell.new.pool
-    c.in_ok-next_cell.ensures refl in
+    c.in_ok-next_cell.ensures.does refl in
     record {
+      keeps = keeps_then c.loop-close.invariant.keeps
+          (keeps_then c.in_ok-next_cell.ensures.keeps c.in_ok-member-2.ensures.keeps);
       on = advances_then c.loop-close.invariant.on c.in_ok-member-2.ensures.advances;
       goes = goes_on_with (members_avoid o is) stop c.loop-close.invariant.goes
           (passes_then_reads cell c.in_ok-member-2.ensures.parses);
@@ -151,9 +165,9 @@ collection::members-returns-in_err-member-2-clause-parses t c =
     let m = c.loop-close.reader in
     let next : Reader = record { tokens = m.tokens; reading = c.next_cell.new.self } in
     let stop = no_close text m c.requires.0.0 c.loop-close.invariant.on.stands
-    (sym c.close_round.ensures ∙ c.in_default.is) in
+    (sym c.next_of.ensures ∙ c.in_default.is) in
     let cell = do_passes text next_cell m c.loop-close.pool next c.next_cell.new.pool
-    c.in_ok-next_cell.ensures refl in
+    c.in_ok-next_cell.ensures.does refl in
     passed_on _ _ c.in_err-member-2.field-0.0 c.from_residual-in_err-member-2.result
     c.from_residual-in_err-member-2.ensures.1 c.in_err-member-2.ensures.parses
     (λ n. no_other_member is stop c.loop-close.invariant.goes (passes_then_refuses cell n))
@@ -164,9 +178,9 @@ collection::property_list-returns-in_err-predicate_object_list-clause-parses t c
     let text = c.args.text.now in
     let here = is_here c.args.reader.now c.requires.0.0 c.requires.1.1.0 c.requires.1.1.1.0 in
     let m : Reader = record { tokens = c.pass.new.self; reading = c.open_node.new.self } in
-    let first : Passes text (sign is_open_square open_node) c.args.reader.now c.args.pool.now m
+    let first : Passes text (sign OpenSquare open_node) c.args.reader.now c.args.pool.now m
     c.open_node.new.pool =
-    sign_passes is_open_square open_node here c.requires.1.1.1.1 c.in_ok-open_node.ensures
+    sign_passes OpenSquare open_node here c.requires.1.1.1.1 c.in_ok-open_node.ensures.does
     c.pass.ensures.place in
     passed_on _ _ c.in_err-predicate_object_list.field-0.0
     c.from_residual-in_err-predicate_object_list.result c.from_residual-in_err-predicate_object_list.ensures.1
@@ -178,9 +192,9 @@ collection::property_list-returns-clause-parses t c =
     let text = c.args.text.now in
     let here = is_here c.args.reader.now c.requires.0.0 c.requires.1.1.0 c.requires.1.1.1.0 in
     let m : Reader = record { tokens = c.pass.new.self; reading = c.open_node.new.self } in
-    let first : Passes text (sign is_open_square open_node) c.args.reader.now c.args.pool.now m
+    let first : Passes text (sign OpenSquare open_node) c.args.reader.now c.args.pool.now m
     c.open_node.new.pool =
-    sign_passes is_open_square open_node here c.requires.1.1.1.1 c.in_ok-open_node.ensures
+    sign_passes OpenSquare open_node here c.requires.1.1.1.1 c.in_ok-open_node.ensures.does
     c.pass.ensures.place in
     let result = c.close_square.result in
     alone_parses _ _ _ _ _ _ _ result
@@ -200,15 +214,15 @@ pub object::object-returns-then-depth-eq0-clause-parses
 object::object-returns-then-depth-eq0-clause-parses t c =
     let k = c.in-Ok.token.kind in
     let here = is_here c.args.reader.now c.requires.0.0 c.requires.1.1 c.in-Ok.is in
-    let bracket : is_open_round k ≡ true = sym c.is_open_round.ensures ∙ c.if-is_open_round.true in
-    no_bracket c.args.depth c.args.pool.now here (rw (only_open_round k bracket) refl) c.if-depth-eq0.true
+    let bracket : is_kind OpenRound k ≡ true = sym c.eq.ensures ∙ c.if-eq.true in
+    no_bracket c.args.depth c.args.pool.now here (rw (kind_is OpenRound k bracket) refl) c.if-depth-eq0.true
 
-pub object::object-returns-then-is_open_round-clause-parses
-    : goal.object::object-returns-then-is_open_round-clause-parses
-object::object-returns-then-is_open_round-clause-parses t c =
+pub object::object-returns-then-eq-clause-parses
+    : goal.object::object-returns-then-eq-clause-parses
+object::object-returns-then-eq-clause-parses t c =
     let here = is_here c.args.reader.now c.requires.0.0 c.requires.1.1 c.in-Ok.is in
-    let bracket : is_open_round c.in-Ok.token.kind ≡ true =
-    sym c.is_open_round.ensures ∙ c.if-is_open_round.true in
+    let bracket : is_kind OpenRound c.in-Ok.token.kind ≡ true =
+    sym c.eq.ensures ∙ c.if-eq.true in
     collection_object c.args.depth (omega arith) here bracket _ _ _ c.collection.result
     c.collection.ensures.parses
 
@@ -217,26 +231,24 @@ pub object::object-returns-then-depth-eq0-2-clause-parses
 object::object-returns-then-depth-eq0-2-clause-parses t c =
     let k = c.in-Ok.token.kind in
     let here = is_here c.args.reader.now c.requires.0.0 c.requires.1.1 c.in-Ok.is in
-    let bracket : is_open_square k ≡ true = sym c.is_open_square.ensures ∙ c.if-is_open_square.true in
-    no_bracket c.args.depth c.args.pool.now here (rw (only_open_square k bracket) refl) c.if-depth-eq0-2.true
+    let bracket : is_kind OpenSquare k ≡ true = sym c.eq-2.ensures ∙ c.if-eq-2.true in
+    no_bracket c.args.depth c.args.pool.now here (rw (kind_is OpenSquare k bracket) refl)
+    c.if-depth-eq0-2.true
 
-pub object::object-returns-then-is_open_square-clause-parses
-    : goal.object::object-returns-then-is_open_square-clause-parses
-object::object-returns-then-is_open_square-clause-parses t c =
+pub object::object-returns-then-eq-2-clause-parses
+    : goal.object::object-returns-then-eq-2-clause-parses
+object::object-returns-then-eq-2-clause-parses t c =
     let here = is_here c.args.reader.now c.requires.0.0 c.requires.1.1 c.in-Ok.is in
-    let bracket : is_open_square c.in-Ok.token.kind ≡ true =
-    sym c.is_open_square.ensures ∙ c.if-is_open_square.true in
+    let bracket : is_kind OpenSquare c.in-Ok.token.kind ≡ true =
+    sym c.eq-2.ensures ∙ c.if-eq-2.true in
     property_list_object c.args.depth (omega arith) here bracket _ _ _ c.property_list.result
     c.property_list.ensures.parses
 
 pub object::object-returns-clause-parses : goal.object::object-returns-clause-parses
 object::object-returns-clause-parses t c =
-    let k = c.in-Ok.token.kind in
     let here = is_here c.args.reader.now c.requires.0.0 c.requires.1.1 c.in-Ok.is in
-    let closed : is_open k ≡ false =
-    or_from (is_open_square k) (is_open_round k) (sym c.is_open_square.ensures ∙ c.if-is_open_square.false)
-    (sym c.is_open_round.ensures ∙ c.if-is_open_round.false) in
-    other_object c.args.depth here closed _ _ _ c.plain_object.result c.plain_object.ensures.parses
+    other_object c.args.depth here (sym c.eq.ensures ∙ c.if-eq.false) (sym c.eq-2.ensures ∙ c.if-eq-2.false)
+    _ _ _ c.plain_object.result c.plain_object.ensures.parses
 
 pub object::object_list-returns-in_err-object-clause-parses
     : goal.object::object_list-returns-in_err-object-clause-parses
@@ -251,6 +263,7 @@ object::object_list-loop-comma-init t c =
     let text = c.args.text.now in
     let o = object text c.args.depth in
     record {
+      keeps = c.in_ok-object.ensures.keeps;
       on = c.in_ok-object.ensures.advances;
       goes = goes_first (commas_avoid o) c.in_ok-object.ensures.parses;
     }
@@ -259,23 +272,29 @@ pub object::object_list-loop-comma-preserved : goal.object::object_list-loop-com
 object::object_list-loop-comma-preserved t c =
     let m = c.loop-comma.reader in
     let next : Reader = record { tokens = c.pass.new.self; reading = m.reading } in
-    let comma = found_here m is_comma c.in-Some.comma c.requires.0.0 c.loop-comma.invariant.on.stands
-    (sym c.comma.ensures ∙ c.in-Some.is) in
-    let passed = pass_advances is_comma c.pass.new.self comma.0 comma.1 refl c.pass.ensures.stands
+    let comma = found_here m (is_kind Comma) c.in-Some.comma c.requires.0.0 c.loop-comma.invariant.on.stands
+    (sym c.next_of.ensures ∙ c.in-Some.is) in
+    let passed = pass_advances (is_kind Comma) c.pass.new.self comma.0 comma.1 refl c.pass.ensures.stands
     c.pass.ensures.place in
     record {
+      keeps = keeps_then c.loop-comma.invariant.keeps c.in_ok-object-2.ensures.keeps;
       on = advances_then (advances_then c.loop-comma.invariant.on passed) c.in_ok-object-2.ensures.advances;
       goes = another_object next comma.0 comma.1 refl c.pass.ensures.place c.loop-comma.invariant.goes
           c.in_ok-object-2.ensures.parses;
     }
+
+pub object::object_list-returns-in_err-object-2-clause-keeps
+    : goal.object::object_list-returns-in_err-object-2-clause-keeps
+object::object_list-returns-in_err-object-2-clause-keeps t c =
+    keeps_then c.loop-comma.invariant.keeps c.in_err-object-2.ensures.keeps
 
 pub object::object_list-returns-in_err-object-2-clause-parses
     : goal.object::object_list-returns-in_err-object-2-clause-parses
 object::object_list-returns-in_err-object-2-clause-parses t c =
     let m = c.loop-comma.reader in
     let next : Reader = record { tokens = c.pass.new.self; reading = m.reading } in
-    let comma = found_here m is_comma c.in-Some.comma c.requires.0.0 c.loop-comma.invariant.on.stands
-    (sym c.comma.ensures ∙ c.in-Some.is) in
+    let comma = found_here m (is_kind Comma) c.in-Some.comma c.requires.0.0 c.loop-comma.invariant.on.stands
+    (sym c.next_of.ensures ∙ c.in-Some.is) in
     passed_on _ _ c.in_err-object-2.field-0.0 c.from_residual-in_err-object-2.result
     c.from_residual-in_err-object-2.ensures.1 c.in_err-object-2.ensures.parses
     (λ n. no_other_object next comma.0 comma.1 refl c.pass.ensures.place c.loop-comma.invariant.goes n)
@@ -285,15 +304,16 @@ object::object_list-returns-clause-parses t c =
     let text = c.args.text.now in
     let o = object text c.args.depth in
     goes_to_end (commas_avoid o) c.loop-comma.invariant.goes
-    (refuses_unless text is_comma (Then (mark is_comma) o) goes_on c.loop-comma.reader c.loop-comma.pool
-    c.requires.0.0 c.loop-comma.invariant.on.stands refl (no_comma o) (sym c.comma.ensures ∙ c.in_default.is))
+    (refuses_unless text (is_kind Comma) (Then (mark Comma) o) goes_on c.loop-comma.reader c.loop-comma.pool
+    c.requires.0.0 c.loop-comma.invariant.on.stands refl (no_comma o)
+    (sym c.next_of.ensures ∙ c.in_default.is))
 
 pub triples::more_objects-returns-then-is_some-clause-parses
     : goal.triples::more_objects-returns-then-is_some-clause-parses
 triples::more_objects-returns-then-is_some-clause-parses t c =
-    let token = found c.verb.result (sym c.is_some.ensures ∙ c.if-is_some.true) in
+    let token = found c.next_verb.result (sym c.is_some.ensures ∙ c.if-is_some.true) in
     let verb = found_here c.args.reader.now begins_verb token.0 c.requires.0.0 c.requires.1.1
-    (sym c.verb.ensures ∙ token.1) in
+    (sym c.next_verb.ensures ∙ token.1) in
     let stop = here_stops verbs_go_on verb.0
     (or_right (list_goes_on token.0) (begins_verb token.0.kind) verb.1) in
     handed_on c.verb_objects.result c.verb_objects.ensures.parses
@@ -305,9 +325,9 @@ pub triples::more_objects-returns-else-is_some-clause-parses
 triples::more_objects-returns-else-is_some-clause-parses t c =
     let text = c.args.text.now in
     let o = object text c.args.depth in
-    let none = not_found c.verb.result (sym c.is_some.ensures ∙ c.if-is_some.false) in
+    let none = not_found c.next_verb.result (sym c.is_some.ensures ∙ c.if-is_some.false) in
     maybe_reads_none (refuses_unless text begins_verb (verb_objects text o) verbs_go_on c.args.reader.now
-    c.args.pool.now c.requires.0.0 c.requires.1.1 refl (no_verb text o) (sym c.verb.ensures ∙ none))
+    c.args.pool.now c.requires.0.0 c.requires.1.1 refl (no_verb text o) (sym c.next_verb.ensures ∙ none))
 
 pub triples::predicate_object_list-returns-in_err-verb_objects-clause-parses
     : goal.triples::predicate_object_list-returns-in_err-verb_objects-clause-parses
@@ -324,6 +344,7 @@ triples::predicate_object_list-loop-semicolon-init t c =
     let text = c.args.text.now in
     let o = object text c.args.depth in
     record {
+      keeps = c.in_ok-verb_objects.ensures.keeps;
       on = c.in_ok-verb_objects.ensures.advances;
       goes = goes_first (semicolons_avoid text o)
           (reads_before fewer_verbs c.in_ok-verb_objects.ensures.parses);
@@ -333,10 +354,10 @@ pub triples::predicate_object_list-loop-semicolon-smaller
     : goal.triples::predicate_object_list-loop-semicolon-smaller
 triples::predicate_object_list-loop-semicolon-smaller t c =
     let m = c.loop-semicolon.reader in
-    let semicolon = found_here m is_semicolon c.in-Some.semicolon c.requires.0.0
-    c.loop-semicolon.invariant.on.stands (sym c.semicolon.ensures ∙ c.in-Some.is) in
-    let passed = pass_advances is_semicolon c.pass.new.self semicolon.0 semicolon.1 refl c.pass.ensures.stands
-    c.pass.ensures.place in
+    let semicolon = found_here m (is_kind Semicolon) c.in-Some.semicolon c.requires.0.0
+    c.loop-semicolon.invariant.on.stands (sym c.next_of.ensures ∙ c.in-Some.is) in
+    let passed = pass_advances (is_kind Semicolon) c.pass.new.self semicolon.0 semicolon.1 refl
+    c.pass.ensures.stands c.pass.ensures.place in
     let further = passed.further in
     let on = c.in_ok-more_objects.ensures.further in
     let within = c.in_ok-more_objects.ensures.stands.within in
@@ -346,24 +367,30 @@ pub triples::predicate_object_list-loop-semicolon-preserved
     : goal.triples::predicate_object_list-loop-semicolon-preserved
 triples::predicate_object_list-loop-semicolon-preserved t c =
     let m = c.loop-semicolon.reader in
-    let semicolon = found_here m is_semicolon c.in-Some.semicolon c.requires.0.0
-    c.loop-semicolon.invariant.on.stands (sym c.semicolon.ensures ∙ c.in-Some.is) in
+    let semicolon = found_here m (is_kind Semicolon) c.in-Some.semicolon c.requires.0.0
+    c.loop-semicolon.invariant.on.stands (sym c.next_of.ensures ∙ c.in-Some.is) in
     let next : Reader = record { tokens = c.pass.new.self; reading = m.reading } in
-    let passed = pass_advances is_semicolon c.pass.new.self semicolon.0 semicolon.1 refl c.pass.ensures.stands
-    c.pass.ensures.place in
+    let passed = pass_advances (is_kind Semicolon) c.pass.new.self semicolon.0 semicolon.1 refl
+    c.pass.ensures.stands c.pass.ensures.place in
     record {
+      keeps = keeps_then c.loop-semicolon.invariant.keeps c.in_ok-more_objects.ensures.keeps;
       on = advances_on c.more_objects.new.reader.tokens (advances_then c.loop-semicolon.invariant.on passed)
           c.in_ok-more_objects.ensures.stands c.in_ok-more_objects.ensures.further;
       goes = more_predicates next semicolon.0 semicolon.1 refl c.pass.ensures.place
           c.loop-semicolon.invariant.goes c.in_ok-more_objects.ensures.parses;
     }
 
+pub triples::predicate_object_list-returns-in_err-more_objects-clause-keeps
+    : goal.triples::predicate_object_list-returns-in_err-more_objects-clause-keeps
+triples::predicate_object_list-returns-in_err-more_objects-clause-keeps t c =
+    keeps_then c.loop-semicolon.invariant.keeps c.in_err-more_objects.ensures.keeps
+
 pub triples::predicate_object_list-returns-in_err-more_objects-clause-parses
     : goal.triples::predicate_object_list-returns-in_err-more_objects-clause-parses
 triples::predicate_object_list-returns-in_err-more_objects-clause-parses t c =
     let m = c.loop-semicolon.reader in
-    let semicolon = found_here m is_semicolon c.in-Some.semicolon c.requires.0.0
-    c.loop-semicolon.invariant.on.stands (sym c.semicolon.ensures ∙ c.in-Some.is) in
+    let semicolon = found_here m (is_kind Semicolon) c.in-Some.semicolon c.requires.0.0
+    c.loop-semicolon.invariant.on.stands (sym c.next_of.ensures ∙ c.in-Some.is) in
     let next : Reader = record { tokens = c.pass.new.self; reading = m.reading } in
     passed_on _ _ c.in_err-more_objects.field-0.0 c.from_residual-in_err-more_objects.result
     c.from_residual-in_err-more_objects.ensures.1 c.in_err-more_objects.ensures.parses
@@ -376,10 +403,10 @@ triples::predicate_object_list-returns-clause-parses t c =
     let text = c.args.text.now in
     let o = object text c.args.depth in
     goes_to_end (semicolons_avoid text o) c.loop-semicolon.invariant.goes
-    (refuses_unless text is_semicolon (more_verbs text o) verbs_go_on c.loop-semicolon.reader
+    (refuses_unless text (is_kind Semicolon) (more_verbs text o) verbs_go_on c.loop-semicolon.reader
     c.loop-semicolon.pool
     c.requires.0.0 c.loop-semicolon.invariant.on.stands refl (no_semicolon text o)
-    (sym c.semicolon.ensures ∙ c.in_default.is))
+    (sym c.next_of.ensures ∙ c.in_default.is))
 
 pub triples::verb_objects-returns-in_err-verb-clause-parses
     : goal.triples::verb_objects-returns-in_err-verb-clause-parses

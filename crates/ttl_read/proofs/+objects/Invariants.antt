@@ -1,7 +1,8 @@
 use Rattle.std.proofs.Common.{◌+◌, ◌-◌, ◌*◌, length}
 use Rattle.ttl_tokens.specs.Form.{Maybe, Then}
-use Rattle.ttl_read.specs.Grammar.{is_comma, is_semicolon, mark, object, object_list, predicate_object_list}
-use Rattle.ttl_read.specs.Grammar.{verb_objects}
+use Rattle.ttl_tokens.specs.declared.token.TokenKind.TheVariants.{Semicolon, Comma}
+use Rattle.ttl_meaning.specs.KeepsTerms.{KeepsTerms}
+use Rattle.ttl_read.specs.Grammar.{mark, object, object_list, predicate_object_list, verb_objects}
 use Rattle.ttl_read.specs.inner.Reads.{Advances}
 use Rattle.ttl_read.specs.inner.Stops.{list_goes_on, predicates_go_on}
 use Rattle.ttl_read.proofs.ReadLemmas.{Goes}
@@ -37,6 +38,7 @@ decreases-collection::property_list l = 10 * l.depth + 5
 
 abbrev pub invariant-collection::members-loop-close : goal.invariant-collection::members-loop-close
 invariant-collection::members-loop-close l = record {
+  keeps : KeepsTerms l.fn.pool l.pool;
   on : Advances l.text l.fn.reader.tokens l.reader.tokens;
   goes : Goes l.text (first_members (object l.text l.depth)) (next_member (object l.text l.depth))
       goes_without_close l.fn.reader l.fn.pool l.reader l.pool;
@@ -47,8 +49,9 @@ decreases-collection::members-loop-close l = length l.text - l.reader.tokens.pla
 
 abbrev pub invariant-object::object_list-loop-comma : goal.invariant-object::object_list-loop-comma
 invariant-object::object_list-loop-comma l = record {
+  keeps : KeepsTerms l.fn.pool l.pool;
   on : Advances l.text l.fn.reader.tokens l.reader.tokens;
-  goes : Goes l.text (object_list (object l.text l.depth)) (Then (mark is_comma) (object l.text l.depth))
+  goes : Goes l.text (object_list (object l.text l.depth)) (Then (mark Comma) (object l.text l.depth))
       list_goes_on l.fn.reader l.fn.pool l.reader l.pool;
 }
 
@@ -58,9 +61,10 @@ decreases-object::object_list-loop-comma l = length l.text - l.reader.tokens.pla
 abbrev pub invariant-triples::predicate_object_list-loop-semicolon
     : goal.invariant-triples::predicate_object_list-loop-semicolon
 invariant-triples::predicate_object_list-loop-semicolon l = record {
+  keeps : KeepsTerms l.fn.pool l.pool;
   on : Advances l.text l.fn.reader.tokens l.reader.tokens;
   goes : Goes l.text (predicate_object_list l.text (object l.text l.depth))
-      (Then (mark is_semicolon) (Maybe (verb_objects l.text (object l.text l.depth)))) predicates_go_on
+      (Then (mark Semicolon) (Maybe (verb_objects l.text (object l.text l.depth)))) predicates_go_on
       l.fn.reader l.fn.pool l.reader l.pool;
 }
 

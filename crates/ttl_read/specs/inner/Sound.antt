@@ -1,28 +1,24 @@
 -- What the reader of statements finds: that they have no fault, or which one.
-use Rattle.std.specs.Prelude.{ℕ, Bool, true, false, Result, Ok, Err}
+use Rattle.std.specs.Prelude.{◌≡◌, ℕ, ◌≤◌, Bool, false, length, None, Result, Ok, Err}
 use Rattle.shx_term.specs.Pool.{Pooled}
 use Rattle.ttl_tokens.specs.declared.token.Token.{Token}
-use Rattle.ttl_tokens.specs.declared.token.TokenKind.{TokenKind}
 use Rattle.ttl_tokens.specs.declared.token.TokenKind.TheVariants.{End}
 use Rattle.ttl_tokens.specs.declared.token.NoToken.{NoToken}
 use Rattle.ttl_tokens.specs.Form.{Times}
 use Rattle.ttl_meaning.specs.inner.IsReading.{IsReading}
+use Rattle.ttl_meaning.specs.IsStated.{Bounds, terms_with}
 use Rattle.ttl_meaning.specs.State.{State}
 use Rattle.ttl_read.specs.declared.fault.TtlFault.{TtlFault}
 use Rattle.ttl_read.specs.declared.fault.TtlFault.TheVariants.{At, Memory}
 use Rattle.ttl_read.specs.declared.reader.Reader.{Reader}
-use Rattle.ttl_read.specs.Documents.{Setting, IsAtEnd, BeginsAt}
-use Rattle.ttl_read.specs.Grammar.{Place}
+use Rattle.ttl_read.specs.Documents.{Setting, IsAtEnd, BeginsAt, Reaches}
+use Rattle.ttl_read.specs.Grammar.{Place, is_kind}
 use Rattle.ttl_read.specs.inner.Reads.{place, start_of_next}
 use Rattle.ttl_read.specs.Unique.{Settled, One, HasOneCauseAt}
 
-abbrev pub is_end : TokenKind → Bool
-is_end End = true
-is_end kind = false
-
 -- whether the end comes next
 abbrev pub is_end_next : Result Token NoToken → Bool
-is_end_next (Ok token) = is_end token.kind
+is_end_next (Ok token) = is_kind End token.kind
 is_end_next (Err none) = false
 
 -- behind a statement that has a derivation, by the state that is kept: no fault, or this one
@@ -69,3 +65,17 @@ Concludes t r p r' p' (Ok u) =
 Concludes t r p r' p' (Err (At code at)) =
     (s : State) → IsReading t.bounds s r.reading p → LedWrong t (place r s) code at
 Concludes t r p r' p' (Err Memory) = Unit
+
+-- ---- the pool
+
+-- a state within the limits, without a fault
+pub record IsGood (bounds : Bounds) (s : State) : Type 0 where
+  pub terms : s.fault ≡ None
+  pub triples : length s.triples ≤ bounds.triples
+  pub room : length (terms_with bounds s.triples) ≤ bounds.terms
+
+-- where a good state was kept, statements without fault lead on from it to a place whose terms the pool holds
+abbrev pub Holds : Setting → Reader → Pooled → State → Pooled → Type 0
+Holds t r p s p' =
+    IsGood t.bounds s → IsReading t.bounds s r.reading p
+    → (y : Place) × Reaches t (place r s) y × (p'.terms ≡ terms_with t.bounds y.state.triples)

@@ -1,25 +1,22 @@
-use Rattle.std.proofs.Common.{◌≡◌, true, refl, sym, ◌∙◌}
-use Rattle.ttl_read.specs.Grammar.{is_dot}
-use Rattle.ttl_read.proofs.HereLemmas.{is_here, mark_passes, pass_advances, here_nowhere, none_nowhere}
+use Rattle.std.proofs.Common.{refl, sym, ◌∙◌}
+use Rattle.ttl_tokens.specs.declared.token.TokenKind.TheVariants.{Dot}
+use Rattle.ttl_read.specs.Grammar.{is_kind, mark}
+use Rattle.ttl_read.proofs.HereLemmas.{found_here, mark_passes, pass_advances, nowhere_unless}
 use Rattle.ttl_read.proofs.directive.dot.Goals as goal
 
 pub returns-in_default-clause-parses : goal.returns-in_default-clause-parses
 returns-in_default-clause-parses c =
-    λ pool. none_nowhere _ _ c.in_default.field-0 _ _ c.utf8.text c.requires.stands c.in_default.is refl
-
-pub returns-then-not-is_dot-clause-parses : goal.returns-then-not-is_dot-clause-parses
-returns-then-not-is_dot-clause-parses c =
-    let here = is_here c.args.reader.now c.utf8.text c.requires.stands c.in-Ok.is in
-    λ pool. here_nowhere _ _ here refl (sym c.is_dot.ensures ∙ c.if-not-is_dot.true)
+    λ pool. nowhere_unless _ (is_kind Dot) (mark Dot) _ pool c.utf8.text c.requires.stands refl (λ t e. e)
+    (sym c.next_of.ensures ∙ c.in_default.is)
 
 pub returns-clause-advances : goal.returns-clause-advances
 returns-clause-advances c =
-    let here = is_here c.args.reader.now c.utf8.text c.requires.stands c.in-Ok.is in
-    let holds : is_dot c.in-Ok.token.kind ≡ true = sym c.is_dot.ensures ∙ c.if-not-is_dot.false in
-    pass_advances is_dot _ here holds refl c.pass.ensures.stands c.pass.ensures.place
+    let here = found_here c.args.reader.now (is_kind Dot) c.in-Some.token c.utf8.text c.requires.stands
+    (sym c.next_of.ensures ∙ c.in-Some.is) in
+    pass_advances (is_kind Dot) _ here.0 here.1 refl c.pass.ensures.stands c.pass.ensures.place
 
 pub returns-clause-parses : goal.returns-clause-parses
 returns-clause-parses c =
-    let here = is_here c.args.reader.now c.utf8.text c.requires.stands c.in-Ok.is in
-    let holds : is_dot c.in-Ok.token.kind ≡ true = sym c.is_dot.ensures ∙ c.if-not-is_dot.false in
-    λ pool. mark_passes is_dot _ pool here holds refl c.pass.ensures.place
+    let here = found_here c.args.reader.now (is_kind Dot) c.in-Some.token c.utf8.text c.requires.stands
+    (sym c.next_of.ensures ∙ c.in-Some.is) in
+    λ pool. mark_passes Dot _ pool here.0 here.1 refl c.pass.ensures.place

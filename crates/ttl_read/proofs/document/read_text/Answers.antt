@@ -1,37 +1,59 @@
-use Rattle.std.proofs.Common.{ℕ, ◌≤◌, length, ◌∙◌, subst, arith}
-use Rattle.ttl_meaning.specs.inner.IsReading.{IsReading}
+use Rattle.std.proofs.Common.{refl, ◌∙◌}
 use Rattle.ttl_meaning.specs.State.{first_state}
 use Rattle.ttl_read.specs.declared.reader.Reader.{Reader}
 use Rattle.ttl_read.specs.Documents.{setting}
-use Rattle.ttl_read.proofs.DocumentLemmas.{states_where, fault_where}
+use Rattle.ttl_read.proofs.DocumentLemmas.{states_where, fault_where, holds_read, holds_nothing}
 use Rattle.ttl_read.proofs.document.read_text.Goals as goal
+
+pub returns-in_err-reading-clause-pool : goal.returns-in_err-reading-clause-pool
+returns-in_err-reading-clause-pool c =
+    holds_nothing (setting c.args.text.now c.args.limits.now c.args.pool.now) c.args.scope c.args.base.now
+    c.args.pool.now refl
 
 pub returns-in_err-statements-clause-fault : goal.returns-in_err-statements-clause-fault
 returns-in_err-statements-clause-fault c =
-    let held = c.args.pool.now.terms in
+    let before = c.args.pool.now in
     let reader : Reader = record { tokens = c.at-tokens.result; reading = c.in_ok-reading.reading } in
-    let reads = subst (λ (n : ℕ).
-    IsReading (record { triples = c.args.limits.now.triples; terms = n; held = held })
-    (first_state c.args.scope c.args.base.now) c.in_ok-reading.reading c.args.pool.now)
-    c.requires.limit c.in_ok-reading.ensures in
-    fault_where (setting c.args.text.now c.args.limits.now held) c.args.scope c.args.base.now reader
-    c.args.pool.now c.statements.new.reader c.statements.new.pool c.in_err-statements.field-0.0 _
+    fault_where (setting c.args.text.now c.args.limits.now before) c.args.scope c.args.base.now reader
+    before c.statements.new.reader c.statements.new.pool c.in_err-statements.field-0.0 _
     c.from_residual-in_err-statements.ensures.1 c.utf8.text
-    (c.at-tokens.ensures.place
-    ∙ c.first_byte.ensures.place) reads (c.in_err-statements.ensures.concludes held)
+    (c.at-tokens.ensures.place ∙ c.first_byte.ensures.place) c.in_ok-reading.ensures
+    (c.in_err-statements.ensures.concludes before)
+
+pub returns-in_err-statements-clause-pool : goal.returns-in_err-statements-clause-pool
+returns-in_err-statements-clause-pool c =
+    let before = c.args.pool.now in
+    let reader : Reader = record { tokens = c.at-tokens.result; reading = c.in_ok-reading.reading } in
+    holds_read (setting c.args.text.now c.args.limits.now before) c.args.scope c.args.base.now reader before
+    c.statements.new.pool c.len.ensures.count c.len.ensures.within
+    (c.at-tokens.ensures.place ∙ c.first_byte.ensures.place) c.in_ok-reading.ensures
+    (c.statements.ensures.holds before (first_state c.args.scope c.args.base.now))
+
+pub returns-in_err-finish-clause-pool : goal.returns-in_err-finish-clause-pool
+returns-in_err-finish-clause-pool c =
+    let before = c.args.pool.now in
+    let reader : Reader = record { tokens = c.at-tokens.result; reading = c.in_ok-reading.reading } in
+    holds_read (setting c.args.text.now c.args.limits.now before) c.args.scope c.args.base.now reader before
+    c.statements.new.pool c.len.ensures.count c.len.ensures.within
+    (c.at-tokens.ensures.place ∙ c.first_byte.ensures.place) c.in_ok-reading.ensures
+    (c.statements.ensures.holds before (first_state c.args.scope c.args.base.now))
 
 pub returns-clause-document : goal.returns-clause-document
 returns-clause-document c =
-    let held = c.args.pool.now.terms in
+    let before = c.args.pool.now in
     let reader : Reader = record { tokens = c.at-tokens.result; reading = c.in_ok-reading.reading } in
-    let reads = subst (λ (n : ℕ).
-    IsReading (record { triples = c.args.limits.now.triples; terms = n; held = held })
-    (first_state c.args.scope c.args.base.now) c.in_ok-reading.reading c.args.pool.now)
-    c.requires.limit c.in_ok-reading.ensures in
-    let room : length held ≤ c.args.limits.now.terms =
-    omega (arith, c.len.ensures.within, c.len.ensures.count, c.requires.limit) in
-    states_where (setting c.args.text.now c.args.limits.now held) c.args.scope c.args.base.now reader
-    c.args.pool.now c.statements.new.reader c.statements.new.pool c.in_ok-statements.field-0
-    c.in_ok-finish.field-0 c.utf8.text (c.at-tokens.ensures.place ∙ c.first_byte.ensures.place) reads room
-    (c.in_ok-statements.ensures.concludes held)
+    states_where (setting c.args.text.now c.args.limits.now before) c.args.scope c.args.base.now reader
+    before c.statements.new.reader c.statements.new.pool c.in_ok-statements.field-0
+    c.in_ok-finish.field-0 c.len.ensures.count c.len.ensures.within c.utf8.text
+    (c.at-tokens.ensures.place ∙ c.first_byte.ensures.place) c.in_ok-reading.ensures
+    (c.in_ok-statements.ensures.concludes before)
     (λ s none fits reads. c.in_ok-finish.ensures _ s _ none fits reads)
+
+pub returns-clause-pool : goal.returns-clause-pool
+returns-clause-pool c =
+    let before = c.args.pool.now in
+    let reader : Reader = record { tokens = c.at-tokens.result; reading = c.in_ok-reading.reading } in
+    holds_read (setting c.args.text.now c.args.limits.now before) c.args.scope c.args.base.now reader before
+    c.statements.new.pool c.len.ensures.count c.len.ensures.within
+    (c.at-tokens.ensures.place ∙ c.first_byte.ensures.place) c.in_ok-reading.ensures
+    (c.statements.ensures.holds before (first_state c.args.scope c.args.base.now))

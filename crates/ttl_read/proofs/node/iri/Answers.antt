@@ -1,7 +1,7 @@
 use Rattle.std.proofs.Common.{◌≡◌, true, refl, sym, ◌∙◌, rules}
 use Rattle.ttl_meaning.specs.Items.{on_iri}
 use Rattle.ttl_read.specs.Grammar.{is_iri}
-use Rattle.ttl_read.proofs.HereLemmas.{is_here, token_passes, pass_advances, here_nowhere, none_nowhere}
+use Rattle.ttl_read.proofs.HereLemmas.{is_here, pass_advances, here_nowhere, none_nowhere, group_passes}
 use Rattle.ttl_read.proofs.node.iri.Goals as goal
 
 pub returns-in_default-clause-parses : goal.returns-in_default-clause-parses
@@ -23,4 +23,4 @@ pub returns-clause-parses : goal.returns-clause-parses
 returns-clause-parses c =
     let here = is_here c.args.reader.now c.utf8.text c.requires.stands c.in-Ok.is in
     let holds : is_iri c.in-Ok.token.kind ≡ true = sym c.is_iri.ensures ∙ c.if-not-is_iri.false in
-    token_passes is_iri (on_iri c.args.text.now c.args.role) here holds (search rules) c.pass.ensures.place
+    group_passes is_iri (on_iri c.args.text.now c.args.role) here holds (search rules) c.pass.ensures.place

@@ -9,8 +9,9 @@ use Rattle.ttl_read.proofs.node.node.Goals as goal
 pub returns-then-is_iri-clause-parses : goal.returns-then-is_iri-clause-parses
 returns-then-is_iri-clause-parses c =
     let here = is_here c.args.reader.now c.utf8.text c.requires.stands c.in-Ok.is in
-    let holds : is_iri c.in-Ok.token.kind ≡ true = sym c.is_iri.ensures ∙ c.if-is_iri.true in
-    left_alone (here_nowhere (blank_node c.args.text.now) _ here refl (apart _ _ (iri_or_blank_node _) holds))
+    let k = c.in-Ok.token.kind in
+    let holds : is_iri k ≡ true = sym c.is_iri.ensures ∙ c.if-is_iri.true in
+    left_alone (here_nowhere (blank_node c.args.text.now) _ here refl (apart _ _ (iri_or_blank_node k) holds))
     _ _ _ c.iri.result c.iri.ensures.parses
 
 pub returns-else-is_iri-clause-parses : goal.returns-else-is_iri-clause-parses

@@ -1,4 +1,4 @@
-use Rattle.std.proofs.Common.{sym}
+use Rattle.std.proofs.Common.{◌≡◌, true, true≢false, sym, ◌∙◌}
 use Rattle.ttl_tokens.proofs.OneTokenLemmas.{token_or_none}
 use Rattle.ttl_read.specs.Grammar.{is_iri}
 use Rattle.ttl_read.proofs.FoundLemmas.{other_next}
@@ -6,8 +6,8 @@ use Rattle.ttl_read.proofs.term.next_iri.Goals as goal
 
 pub returns-else-is_iri : goal.returns-else-is_iri
 returns-else-is_iri c =
-    other_next c.args.text.now c.args.at is_iri c.in-Ok.token c.utf8.text c.in-Ok.ensures.found
-    (sym c.if-is_iri.ensures)
+    other_next c.args.text.now c.args.at (λ k. is_iri k ≡ true) c.in-Ok.token c.utf8.text
+    c.in-Ok.ensures.found (λ iri. true≢false (sym iri ∙ sym c.if-is_iri.ensures))
 
 pub returns-in-Err : goal.returns-in-Err
 returns-in-Err c = λ other here iri.

@@ -20,9 +20,9 @@ pub returns-then-is_some-clause-parses : goal.returns-then-is_some-clause-parses
 returns-then-is_some-clause-parses c =
     let text = c.args.text.now in
     let m = c.property_list.new.reader in
-    let token = found c.verb.result (sym c.is_some.ensures ∙ c.if-is_some.true) in
+    let token = found c.next_verb.result (sym c.is_some.ensures ∙ c.if-is_some.true) in
     let verb = found_here m begins_verb token.0 c.utf8.text c.in_ok-property_list.ensures.advances.stands
-    (sym c.verb.ensures ∙ token.1) in
+    (sym c.next_verb.ensures ∙ token.1) in
     let stop = here_stops predicates_go_on verb.0 (verb_goes_on token.0 verb.1) in
     let same : c.args.depth + 1 ≡ suc c.args.depth = omega arith in
     let list = predicate_object_list text (object text (suc c.args.depth)) in
@@ -39,8 +39,8 @@ returns-else-is_some-clause-parses c =
     let m = c.property_list.new.reader in
     let o = object text (suc c.args.depth) in
     let list = predicate_object_list text o in
-    let none = not_found c.verb.result (sym c.is_some.ensures ∙ c.if-is_some.false) in
+    let none = not_found c.next_verb.result (sym c.is_some.ensures ∙ c.if-is_some.false) in
     then_reads (nothing_goes_on (Maybe list)) c.in_ok-property_list.ensures.parses
     (maybe_reads_none (refuses_unless text begins_verb list predicates_go_on m c.property_list.new.pool
-    c.utf8.text
-    c.in_ok-property_list.ensures.advances.stands refl (no_verb_list text o) (sym c.verb.ensures ∙ none)))
+    c.utf8.text c.in_ok-property_list.ensures.advances.stands refl (no_verb_list text o)
+    (sym c.next_verb.ensures ∙ none)))

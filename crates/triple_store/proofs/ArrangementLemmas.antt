@@ -1,12 +1,12 @@
 -- Arrangements: a triple and its entry make each other, and their order is total and exact.
-use Rattle.std.specs.Prelude.{◌≡◌, ℕ}
+use Rattle.std.specs.Prelude.{◌≡◌, ℕ, ◌<◌, ◌^◌}
 use Rattle.std.specs.Cmp.{IsTotalOrder, nat_cmp_total, on_total, then_total}
 use Rattle.std.specs.Ordering.{nat_cmp}
 use Rattle.std.proofs.Common.{refl, sym, ap, ◌∙◌}
 use Rattle.std.proofs.lemmas.Map.Lookups.{CmpEqualImpliesEq, exact_pairs, exact_unsigned}
 use Rattle.shx_term.specs.InOrder.{IsExactOrder}
 use Rattle.shx_term.specs.declared.triple.Triple.{Triple}
-use Rattle.triple_store.specs.inner.Arrangement.{entry_of, triple_at, entry_cmp, arranged_cmp}
+use Rattle.triple_store.specs.inner.Arrangement.{entry_of, triple_at, entry_cmp, arranged_cmp, HasNumbers}
 use Rattle.triple_store.specs.declared.arrangement.Arrangement.{Arrangement}
 use Rattle.triple_store.specs.declared.arrangement.Arrangement.TheVariants.{SubjectPredicateObject}
 use Rattle.triple_store.specs.declared.arrangement.Arrangement.TheVariants.{PredicateObjectSubject}
@@ -22,6 +22,13 @@ pub entry_back : (a : Arrangement) (e : Entry) → entry_of a (triple_at a e) �
 entry_back SubjectPredicateObject e = refl
 entry_back PredicateObjectSubject e = refl
 entry_back PredicateSubjectObject e = refl
+
+-- what a triple's numbers are, those of its entry are
+pub HasNumbers-entry : (a : Arrangement) (t : Triple) → t.s < 2 ^ 32 → t.p < 2 ^ 32 → t.o < 2 ^ 32
+    → HasNumbers (entry_of a t)
+HasNumbers-entry SubjectPredicateObject t s p o = record { first = s; second = p; third = o }
+HasNumbers-entry PredicateObjectSubject t s p o = record { first = p; second = o; third = s }
+HasNumbers-entry PredicateSubjectObject t s p o = record { first = p; second = s; third = o }
 
 pub entry_cmp_total : IsTotalOrder entry_cmp
 entry_cmp_total =

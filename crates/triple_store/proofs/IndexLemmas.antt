@@ -1,6 +1,7 @@
 -- Indexes as lists of triples: what their entries hold, their order, what is added and removed, and ranges.
 use Rattle.std.specs.Prelude.{◌≡◌, ℕ, Bool, true, false, not, ◌&&◌, ◌==◌, List, [], ◌∷◌, map, filter, All}
 use Rattle.std.specs.Prelude.{if◌then◌else◌, Contains, ◌↔◌}
+use Rattle.std.specs.BTreeSet.{BTreeSet, IsFromIterResult}
 use Rattle.std.specs.Cmp.{IsEquivalence, eq_by_cmp_equiv}
 use Rattle.std.specs.List.{list_any, AllByRecursion}
 use Rattle.std.specs.List.Sorted.{IsStrictlySortedBy}
@@ -11,7 +12,8 @@ use Rattle.std.proofs.lemmas.Map.Views.{tells_apart}
 use Rattle.shx_term.specs.declared.triple.Triple.{Triple}
 use Rattle.shx_term.proofs.MemberLemmas.{Contains-head, Contains-tail, Contains-map, Contains-from_map}
 use Rattle.shx_term.proofs.MemberLemmas.{Contains-test, Contains-entered, Contains-remove}
-use Rattle.shx_term.proofs.MemberLemmas.{each_of_All}
+use Rattle.shx_term.proofs.MemberLemmas.{each_of_All, All_of_each}
+use Rattle.shx_term.specs.Members.{SameMembers}
 use Rattle.graph_view.specs.Graph.{HasAlso, IsWithout}
 use Rattle.triple_store.proofs.ArrangementLemmas.{triple_back, entry_back, entry_cmp_total, entry_cmp_exact}
 use Rattle.triple_store.proofs.RangeLemmas.{greatest, is_between, between_first, between_pair}
@@ -119,6 +121,40 @@ module _ (a : Arrangement) where
           λ h. after.1 (there.1 (before.0 h.0, λ same. h.1 (same_triple_at t u (same ∙ made)))),
         );
   }
+
+  -- what is collected of the entries of triples holds these triples
+  module _ (ts : List Triple) (set : BTreeSet Entry)
+      (made : IsFromIterResult entry_cmp (map (entry_of a) ts) set)
+    where
+      entry_collected : (e : Entry) → Contains set.keys e ↔ Contains (map (entry_of a) ts) e
+      entry_collected e =
+          let held = Contains-entry set.keys e in
+          let given = Contains-entry (map (entry_of a) ts) e in (
+            λ c. given.0 (sym (made.0 e) ∙ held.1 c),
+            λ c. held.0 (made.0 e ∙ given.1 c),
+          )
+
+      pub SameMembers-collected : SameMembers ts (map (triple_at a) set.keys)
+      SameMembers-collected = record {
+        each = λ t.
+            let held = held_at set.keys t in
+            let given = entry_collected (entry_of a t) in (
+              λ c. held.1 (given.1 (Contains-map (entry_of a) ts t c)),
+              λ c.
+                  let found = Contains-from_map (entry_of a) ts (entry_of a t) (given.0 (held.0 c)) in
+                  subst (Contains ts) (same_triple_at t found.0 (sym found.2)) found.1,
+            );
+      }
+
+      -- and their numbers
+      pub HasNumbers-collected : All (λ t. HasNumbers (entry_of a t)) ts → All HasNumbers set.keys
+      HasNumbers-collected numbers = All_of_each HasNumbers set.keys each
+        where
+          each : (e : Entry) → Contains set.keys e → HasNumbers e
+          each e c =
+              let found = Contains-from_map (entry_of a) ts e ((entry_collected e).0 c) in
+              subst HasNumbers (sym found.2)
+              (each_of_All (λ t. HasNumbers (entry_of a t)) ts numbers found.0 found.1)
 
   -- triples ascend as their entries do
   compared_at : (d e : Entry) → arranged_cmp a (triple_at a d) (triple_at a e) ≡ entry_cmp d e

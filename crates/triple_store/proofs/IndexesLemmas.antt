@@ -1,14 +1,13 @@
 -- Indexes of some triples: as one is added or removed, taken back, and what they give under a number or two.
-use Rattle.std.specs.Prelude.{◌≡◌, ℕ, true, ◌&&◌, ◌==◌, List, [], ◌∷◌, ◌++◌, map, filter}
-use Rattle.std.specs.Prelude.{take, length, All, Contains, ◌<◌, ◌+◌}
-use Rattle.std.specs.List.{IsDistinct}
+use Rattle.std.specs.Prelude.{◌≡◌, ℕ, true, ◌&&◌, ◌==◌, List, [], ◌∷◌, map, filter}
+use Rattle.std.specs.Prelude.{length, All, Contains, ◌≤◌}
+use Rattle.std.specs.List.{IsDistinct, list_any}
 use Rattle.std.specs.Cmp.{both_ways}
 use Rattle.std.specs.List.Sorted.{IsStrictlySortedBy}
 use Rattle.std.specs.Ordering.{eq_by_cmp}
-use Rattle.std.proofs.Common.{refl, sym, ◌∙◌, subst, inl, inr, get_or}
-use Rattle.std.proofs.lemmas.List.{take_more}
-use Rattle.std.proofs.lemmas.List.Elements.{Contains-push, Contains-push_cases, Contains-append_left}
+use Rattle.std.proofs.Common.{refl, sym, ◌∙◌, subst, inl, inr}
 use Rattle.std.proofs.lemmas.Map.Keys.{IsDistinct-from_sorted}
+use Rattle.std.proofs.lemmas.Map.Made.{length-le_from_is_member}
 use Rattle.std.proofs.lemmas.Map.Views.{tells_apart}
 use Rattle.std.specs.Cmp.{eq_by_cmp_equiv}
 use Rattle.shx_term.specs.InOrder.{Lists}
@@ -22,6 +21,7 @@ use Rattle.shx_term.proofs.MemberLemmas.{Contains-one, each_of_All}
 use Rattle.graph_view.specs.Patched.{without}
 use Rattle.graph_view.proofs.PatchedLemmas.{Contains-left}
 use Rattle.shx_term.proofs.SetLemmas.{SameMembers-sym, SameMembers-filter, SameMembers-map}
+use Rattle.graph_view.proofs.TripleSetLemmas.{triple_held}
 use Rattle.graph_view.proofs.SameGraphLemmas.{SameMembers-also, SameMembers-without}
 use Rattle.triple_store.proofs.ArrangementLemmas.{arranged_order}
 use Rattle.triple_store.specs.inner.Arrangement.{entry_of, arranged_cmp}
@@ -35,7 +35,7 @@ module _ {triples : List Triple} {a : Arrangement} {index : Arranged} where
   IsIndex-holds is = record { each = is.lists.each }
 
   -- whatever holds the same triples and ascends is an index of them
-  IsIndex-from : index.arrangement ≡ a → SameMembers index.triples triples → IsArranged index
+  pub IsIndex-from : index.arrangement ≡ a → SameMembers index.triples triples → IsArranged index
       → IsIndex triples a index
   IsIndex-from arranged same ordered = record {
     arranged = arranged;
@@ -140,22 +140,14 @@ module _ {triples : List Triple} {a : Arrangement} (index : Arranged) (is : IsIn
       is.arranged
       (SameMembers-map (third_of index) (filter p triples) (filter p index.triples) found)
 
--- one triple more of a list that is gone over
-pub SameMembers-take_more : (ts : List Triple) (i : ℕ) (d : Triple) → i < length ts → {old new : List Triple}
-    → SameMembers (take i ts) old → HasAlso old new (get_or ts i d) → SameMembers (take (i + 1) ts) new
-SameMembers-take_more ts i d inside {old} {new} before also =
-    let t = get_or ts i d in
-    let pushed : HasAlso (take i ts) (take i ts ++ t ∷ []) t = record {
-      each = λ u. (
-        λ c. elim (Contains-push_cases (take i ts) t u c) [ inl held ↦ inl held | inr same ↦ inr (sym same) ],
-        λ h. elim h [
-          | inl c ↦ Contains-append_left (take i ts) (t ∷ []) u c
-          | inr same ↦ subst (Contains (take i ts ++ t ∷ [])) (sym same) (Contains-push (take i ts) t)
-        ],
-      );
-    } in
-    subst (λ us. SameMembers us new) (sym (take_more ts i d inside))
-    (SameMembers-also t before pushed also)
+-- distinct triples of a list are at most as many as the list is long
+pub length-collected : (triples held : List Triple) → SameMembers triples held → IsDistinct same_triple held
+    → length held ≤ length triples
+length-collected triples held same distinct =
+    length-le_from_is_member same_triple_equiv held triples distinct (λ t there.
+    let given = triple_held triples t (list_any (same_triple t) triples) refl in
+    let kept = triple_held held t (list_any (same_triple t) held) refl in
+    given.1 ((same.each t).1 (kept.0 there)))
 
 -- new triples that are all taken out again leave the very list
 pub back_in_order : (old added left some : List Triple) → All (λ t. Contains old t → ⊥) some

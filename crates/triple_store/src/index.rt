@@ -2,6 +2,7 @@ ghost use Rattle.std.specs.Prelude.{◌≡◌, ◌↔◌, [], ◌+◌, map, leng
 ghost use Rattle.std.specs.Prelude.{IsTrue, IfOk, OnOk, OnErr};
 ghost use Rattle.std.specs.Bool.{OnFalse};
 ghost use Rattle.graph_view.specs.Graph.{HasAlso, IsWithout};
+ghost use Rattle.shx_term.specs.Members.{SameMembers};
 ghost use Rattle.triple_store.specs.inner.Index.{IsArranged, led_by, led_by_pair, third_of};
 
 use crate::arrangement::{Arrangement, Entry};
@@ -42,6 +43,27 @@ impl Index {
             arrangement,
             entries: BTreeSet::new(alloc),
         }
+    }
+
+    /// The triples of a list, each once. It sorts them, which takes time `O(n log n)` in their number, and
+    /// memory for them once more.
+    pub(crate) fn from_triples(
+        alloc: Global,
+        arrangement: Arrangement,
+        triples: &[Triple],
+    ) -> Result<Index, Memory>
+        ensures arrangement { IfOk result (λ index. index.arrangement ≡ arrangement) }
+        ensures holds { IfOk result (λ index. SameMembers triples.now index.triples) }
+        ensures ordered { IfOk result IsArranged }
+    {
+        let entries: BTreeSet<Entry> = triples
+            .iter()
+            .map(|t| arrangement.entry(*t))
+            .collect(alloc)?;
+        Ok(Index {
+            arrangement,
+            entries,
+        })
     }
 
     /// How many triples there are. It takes no memory, and constant time.

@@ -4,8 +4,8 @@
 //! |---|---|
 //! | `arrangement.rt` | `Arrangement`: which number of a triple an index compares first; `Entry` |
 //! | `index.rt` | `Index`: a set of triples in one arrangement, and what stands under a first number or two |
-//! | `indexes.rt` | `Indexes`: three of them, with the same triples |
-//! | `store.rt` | `Store`: a pool and the indexes; both traits of `graph_view` |
+//! | `indexes.rt` | `Indexes`: three of them, with the same triples, made of a list by a sort for each |
+//! | `store.rt` | `Store`: a pool and the indexes, made of triples at once; both traits of `graph_view` |
 //!
 //! It stands on `shx_term` and `graph_view`. Start with `store.rt`; what it is to its callers is said by the
 //! definitions of `graph_view`. `specs/inner/Arrangement.antt` says how triples are arranged, and

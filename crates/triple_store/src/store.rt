@@ -1,4 +1,5 @@
-ghost use Rattle.std.specs.Prelude.{◌≡◌, IfOk};
+ghost use Rattle.std.specs.Prelude.{◌≡◌, ◌≤◌, length, All, IfOk};
+ghost use Rattle.graph_view.specs.Graph.{IsKnownTriple, graph_of};
 ghost use Rattle.graph_view.specs.ListGraph.{plain_graph};
 ghost use Rattle.graph_view.specs.SameGraph.{SameGraph};
 
@@ -27,8 +28,8 @@ impl Model for Store {
 }
 
 impl Store {
-    /// The store of a plain graph, with its pool and its limit. It takes time `O(n log n)` in the number of
-    /// triples.
+    /// The store of a plain graph, with its pool and its limit. It takes time and memory as `from_triples`
+    /// does.
     pub fn from_list(alloc: Global, graph: ListGraph) -> Result<Store, Memory>
         ensures pool { IfOk result (λ store. store.pool ≡ graph.pool) }
         ensures limit { IfOk result (λ store. store.limit ≡ graph.limit) }
@@ -39,6 +40,31 @@ impl Store {
         let indexes = Indexes::from_triples(alloc, graph.triples())?;
         prove!(indexes.len() as u64 == graph.len());
         let pool = graph.into_pool();
+        Ok(Store {
+            pool,
+            indexes,
+            limit,
+        })
+    }
+
+    /// The graph of these triples, each once, over the terms of a pool. It takes time `O(n log n)` in the
+    /// number of triples, by one sort for each index, and memory for the triples once more while it sorts.
+    pub fn from_triples(
+        alloc: Global,
+        pool: Pool,
+        triples: &[Triple],
+        limit: u64,
+    ) -> Result<Store, Memory>
+        requires known { All (IsKnownTriple pool.terms) triples.now }
+        requires few { length triples.now ≤ limit }
+        ensures pool { IfOk result (λ store. store.pool ≡ pool) }
+        ensures limit { IfOk result (λ store. store.limit ≡ limit) }
+        ensures holds { IfOk result (λ store.
+            SameGraph (graph_of pool.terms triples.now) (plain_graph store)) }
+    {
+        let indexes = Indexes::from_triples(alloc, triples)?;
+        // They are distinct.
+        let _ = indexes.len();
         Ok(Store {
             pool,
             indexes,

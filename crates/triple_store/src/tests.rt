@@ -97,3 +97,13 @@ fn a_store_is_filled_edited_and_looked_up(rt: HostRuntime) -> Result<(), Fail> {
     assert_eq!(rt; store.into_pool().len(), 68);
     Ok(())
 }
+
+#[test]
+fn a_store_is_made_of_triples_at_once(rt: HostRuntime) -> Result<(), Fail> {
+    let pool = plain(&rt, rt.alloc())?.into_pool();
+    assert!(rt; D < pool.len());
+    let triples = [SHORTCUT, TO_THUMB, TO_FINGER, TO_THUMB];
+    let store = Store::from_triples(rt.alloc(), pool, &triples, 4)?;
+    assert_eq!(rt; store.len(), 3);
+    assert_found(&rt, rt.alloc(), &store)
+}

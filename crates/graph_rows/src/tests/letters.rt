@@ -132,12 +132,17 @@ pub(super) fn graph_of(
     Ok(graph)
 }
 
-/// The store of those words.
+/// The store of those words, made of all their triples at once.
 pub(super) fn store_of(
     alloc: Global,
     terms: Id,
     limit: u64,
     words: &str,
 ) -> Result<Store, RowFault> {
-    Ok(Store::from_list(alloc, graph_of(alloc, terms, limit, words)?)?)
+    let graph = graph_of(alloc, terms, limit, words)?;
+    let triples = graph.triples().to_vec(alloc)?;
+    // Its numbers have terms.
+    let _ = graph.pool();
+    let limit = graph.limit();
+    Ok(Store::from_triples(alloc, graph.into_pool(), &triples, limit)?)
 }

@@ -1,6 +1,5 @@
-ghost use Rattle.std.specs.Prelude.{◌≡◌, ℕ, ◌++◌, codes, decimal};
-ghost use Rattle.report_write.specs.Names.{role_name};
-ghost use Rattle.report_write.specs.Answers.{answer_text, code_text, place_text};
+ghost use Rattle.std.specs.Prelude.{◌≡◌, ◌++◌, codes, decimal};
+ghost use Rattle.report_write.specs.Answers.{answer_text, code_of_length, code_text, fault_head};
 ghost use Rattle.report_write.specs.Writes.{Writes};
 
 use crate::names::{code_word, role_name};
@@ -8,6 +7,7 @@ use crate::number::add_number;
 use crate::{WriteFault, Writer};
 use shx_outside::{Role, Sink};
 use shx_term::Pieces;
+use shx_term::fault_codes::{NOT_BUILT, SCRIPT_TOO_LONG, TEXT_TOO_LONG};
 
 /// What is said to a line of a script, or in place of a report.
 #[derive(Clone, Copy, Debug, PartialEq, Eq)]
@@ -18,11 +18,20 @@ pub enum Answer {
         line: u64,
         code: u32,
     },
-    Fault {
+    /// A text has a fault of Turtle.
+    TextFault {
         role: Role,
         code: u32,
         /// The byte of the text at which the fault stands, from 0.
-        at: Option<u64>,
+        at: u64,
+    },
+    /// A text is longer than it may be.
+    TooLong {
+        role: Role,
+    },
+    /// A text asks for more than is built.
+    NotBuilt {
+        role: Role,
     },
     Usage,
 }
@@ -39,7 +48,7 @@ pub fn write_answer<O: Sink>(answer: &Answer, out: &mut O) -> Result<(), WriteFa
     writer.finish()
 }
 
-/// AddsText an answer.
+/// Adds an answer.
 pub fn add_answer<W: Pieces>(answer: &Answer, out: &mut W)
     ensures { W.added out.old out.new (answer_text answer.now) }
 {
@@ -47,7 +56,9 @@ pub fn add_answer<W: Pieces>(answer: &Answer, out: &mut W)
         Answer::Changed => out.add(b"ok changed\n"),
         Answer::Unchanged => out.add(b"ok unchanged\n"),
         Answer::RefusedLine { line, code } => add_refusal(*line, *code, out),
-        Answer::Fault { role, code, at } => add_fault(*role, *code, *at, out),
+        Answer::TextFault { role, code, at } => add_text_fault(*role, *code, *at, out),
+        Answer::TooLong { role } => add_fault(*role, code_of_length(*role), out),
+        Answer::NotBuilt { role } => add_fault(*role, NOT_BUILT, out),
         Answer::Usage => out.add(USAGE),
     }
 }
@@ -63,16 +74,39 @@ fn add_refusal<W: Pieces>(line: u64, code: u32, out: &mut W)
     out.add(b"\n");
 }
 
-fn add_fault<W: Pieces>(role: Role, code: u32, at: Option<u64>, out: &mut W)
-    ensures { W.added out.old out.new
-        (codes "fault " ++ role_name role ++ codes ": " ++ code_text code ++ place_text at ++ codes "\n") }
+fn add_text_fault<W: Pieces>(role: Role, code: u32, at: u64, out: &mut W)
+    ensures { W.added out.old out.new (fault_head role code ++ codes " at " ++ decimal at ++ codes "\n") }
+{
+    add_fault_head(role, code, out);
+    out.add(b" at ");
+    add_number(at, out);
+    out.add(b"\n");
+}
+
+fn add_fault<W: Pieces>(role: Role, code: u32, out: &mut W)
+    ensures { W.added out.old out.new (fault_head role code ++ codes "\n") }
+{
+    add_fault_head(role, code, out);
+    out.add(b"\n");
+}
+
+fn add_fault_head<W: Pieces>(role: Role, code: u32, out: &mut W)
+    ensures { W.added out.old out.new (fault_head role code) }
 {
     out.add(b"fault ");
     out.add(role_name(role).as_bytes());
     out.add(b": ");
     add_code(code, out);
-    add_place(at, out);
-    out.add(b"\n");
+}
+
+// The code of a text that is longer than it may be.
+fn code_of_length(role: Role) -> u32
+    ensures { result ≡ code_of_length role }
+{
+    match role {
+        Role::Shapes | Role::Data => TEXT_TOO_LONG,
+        Role::Script => SCRIPT_TOO_LONG,
+    }
 }
 
 fn add_code<W: Pieces>(code: u32, out: &mut W)
@@ -81,13 +115,4 @@ fn add_code<W: Pieces>(code: u32, out: &mut W)
     add_number(code, out);
     out.add(b" ");
     out.add(code_word(code).as_bytes());
-}
-
-fn add_place<W: Pieces>(at: Option<u64>, out: &mut W)
-    ensures { W.added out.old out.new (place_text at) }
-{
-    if let Some(at) = at {
-        out.add(b" at ");
-        add_number(at, out);
-    }
 }

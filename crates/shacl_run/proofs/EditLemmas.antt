@@ -7,6 +7,7 @@ use Rattle.std.specs.Prelude.{Contains, ◌↔◌, ◌⊎◌, IsTrue, nat_le, na
 use Rattle.std.specs.List.{list_any}
 use Rattle.std.specs.Cmp.{both_ways}
 use Rattle.std.proofs.lemmas.Bool.{or_left, or_right, le-leb}
+use Rattle.std.proofs.lemmas.List.Elements.{Contains-push, Contains-push_cases, Contains-append_left}
 use Rattle.std.proofs.lemmas.List.Folds.{list_any-append, list_any_at}
 use Rattle.std.proofs.lemmas.List.Quantifiers.{position-Some}
 use Rattle.std.proofs.lemmas.List.{get_or_append_left}
@@ -25,10 +26,22 @@ use Rattle.graph_view.specs.Graph.{Graph, IsKnownTriple, AllKnown, HasAlso}
 use Rattle.shx_term.specs.Members.{SameMembers}
 use Rattle.graph_view.specs.SameGraph.{SameGraph}
 use Rattle.shx_term.proofs.SetLemmas.{SameMembers-itself, SameMembers-sym}
+use Rattle.graph_view.proofs.SameGraphLemmas.{SameMembers-also}
 use Rattle.graph_view.proofs.ValidLemmas.{made_of}
 use Rattle.shacl_run.specs.declared.edit.Edited.TheVariants.{Changed, Refused}
 use Rattle.shacl_run.specs.Edits.{edited, graph_after, is_among, is_stated, terms_with}
-use Rattle.shacl_run.proofs.LoadLemmas.{SameMembers-push}
+
+-- a list with one more at its end has one more
+pub HasAlso-push : (triples : List Triple) (t : Triple) → HasAlso triples (triples ++ t ∷ []) t
+HasAlso-push triples t = record {
+  each = λ u. (
+    λ c. elim (Contains-push_cases triples t u c) [ inl d ↦ inl d | inr e ↦ inr (sym e) ],
+    λ c. elim c [
+      | inl d ↦ Contains-append_left triples (t ∷ []) u d
+      | inr e ↦ subst (Contains (triples ++ t ∷ [])) (sym e) (Contains-push triples t)
+    ],
+  );
+}
 
 -- a triple over numbers has those of its terms
 pub numbers_of : (terms : List Term) (t : TermTriple) (u : Triple) → numbered terms t ≡ Some u
@@ -185,7 +198,8 @@ SameGraph-added g h t old u new known absent terms number same also is_new count
     count ∙ (λ i. length (same i) + (if one i then 1 else 0)) in
     let it : numbered (terms_with g t) t ≡ Some u = subst (λ xs. numbered xs t ≡ Some u) terms number in
     let held : SameMembers h.triples (g.triples ++ u ∷ []) =
-    SameMembers-push u (subst (SameMembers old) same (SameMembers-itself old)) also in
+    SameMembers-also u (subst (SameMembers old) same (SameMembers-itself old)) also
+    (HasAlso-push g.triples u) in
     rw it (record {
       terms = sym terms;
       triples = SameMembers-sym held;

@@ -70,7 +70,7 @@ Ends-memory due faults faults' s quiet = record {
 pub answered_apart : (status other : Status) → IsAnswered status → (IsAnswered other → ⊥) → status ≡ other → ⊥
 answered_apart status other answered not_answered is = not_answered (subst IsAnswered is answered)
 
-cut_or_answered : (status : Status) → IsAnswered status → IsCutShort status → ⊥
+pub cut_or_answered : (status : Status) → IsAnswered status → IsCutShort status → ⊥
 cut_or_answered InputFault answered cut = absurd answered
 cut_or_answered WriteFault answered cut = absurd answered
 cut_or_answered no_memory answered cut = absurd answered
@@ -197,7 +197,7 @@ Ends-told (Some output) later status faults faults' s0 s1 told ends =
     subst (λ (due : Option Output). Ends due status faults faults' s0 s1) told ends
 
 -- a part of a run stopped where the part in it did
-pub passed_on : {T : Type 0} (r : Result T Stop) (stop : Stop) → IsErrAnd r (λ e. e ≡ stop) → r ≡ Err stop
+pub passed_on : {T E : Type 0} (r : Result T E) (stop : E) → IsErrAnd r (λ e. e ≡ stop) → r ≡ Err stop
 passed_on (Ok x) stop is = absurd is
 passed_on (Err e) stop is = ap Err is
 

@@ -3,7 +3,6 @@ pub mod EachSomeLemmas
 pub mod EditLemmas
 pub mod EndLemmas
 pub mod EnumerateLemmas
-pub mod LoadLemmas
 pub mod PrepareLemmas
 pub mod ReadingLemmas
 pub mod ReplyLemmas

@@ -1,201 +1,234 @@
 -- What was read decides what the two texts come to.
-use Rattle.std.proofs.Common.{◌≡◌, ℕ, List, Option, None, Some, refl, ap, ◌∙◌, subst}
-use Rattle.std.specs.Prelude.{IfSome}
+use Rattle.std.proofs.Common.{◌≡◌, ℕ, List, Option, None, Some, refl, ap, ◌∙◌, subst, Result, Ok, Err}
+use Rattle.std.specs.Prelude.{IfSome, IfOk, IfErr}
+use Rattle.shx_outside.specs.declared.role.Role.TheVariants.{Shapes as of_shapes, Data as of_data}
 use Rattle.shx_term.specs.declared.limits.Limits.{Limits}
 use Rattle.shx_term.specs.declared.term.Scope.{Scope}
 use Rattle.shx_term.specs.declared.term.Scope.TheVariants.{Shapes, Data}
 use Rattle.shx_term.specs.declared.term.Term.{Term}
 use Rattle.shx_term.specs.Vocabulary.{vocabulary}
-use Rattle.shx_outside.specs.declared.role.Role.TheVariants.{Shapes as shapes_role, Data as data_role}
 use Rattle.text_input.specs.TextRead.{ReadsWhole, IsTooLong}
-use Rattle.shx_term.specs.declared.fault_codes.TheConstants.{TEXT_TOO_LONG}
-use Rattle.shacl_run.specs.declared.refusal.TextFault.{TextFault}
+use Rattle.report_write.specs.declared.answer.Answer.{Answer}
+use Rattle.report_write.specs.declared.answer.Answer.TheVariants.{TooLong}
+use Rattle.shacl_run.specs.declared.declare.Declared.{Declared}
+use Rattle.shacl_run.specs.declared.plan.Shape.{Shape}
+use Rattle.shacl_run.specs.declared.refusal.Refusal.{Refusal}
+use Rattle.shacl_run.specs.declared.refusal.Refusal.TheVariants.{Text, Cut}
+use Rattle.shacl_run.specs.declared.stop.Stop.{Stop}
 use Rattle.shacl_run.specs.declared.validation.Validation.{Validation}
 use Rattle.shacl_run.specs.Declarations.{Declarations}
-use Rattle.shacl_run.specs.inner.Declares.{IsShapesFault}
-use Rattle.shacl_run.specs.inner.Prepared.{Opened}
-use Rattle.shacl_run.specs.Readings.{Readings, TextReading, States, Faulty, IsReadAs, AreRight}
+use Rattle.shacl_run.specs.inner.Declares.{Declares, RefusesShapes, IsShapesRefusal, Opens, RefusesData}
+use Rattle.shacl_run.specs.inner.Declares.{declarations}
+use Rattle.shacl_run.specs.inner.Prepared.{IsPrepared}
+use Rattle.shacl_run.specs.inner.Refusal.{IsRefusalOf}
+use Rattle.shacl_run.specs.Readings.{Readings, TextReading, States, Faulty, Long, IsReadAs, AreRight}
 use Rattle.shacl_run.specs.Readings.{declarations_of}
-use Rattle.shacl_run.specs.Run.{Opening, texts_opening, with_shapes, with_declarations, with_data, faulty}
+use Rattle.shacl_run.specs.Run.{Opening, texts_opening, with_shapes, with_declarations, with_data, refused}
 use Rattle.shacl_run.specs.Run.Opening.{ends, opens}
-use Rattle.shacl_run.specs.inner.Validation.{OpensFor}
 use Rattle.shacl_run.proofs.ReadingLemmas.{read_once}
 
--- the bytes that were read are read as the text is
-module _ (limits : Limits) (scope : Scope) (held : List Term) where
-  read_bytes : (text : List ℕ) (rest : Option (List ℕ)) (bytes : List ℕ) (reading : TextReading)
-      → ReadsWhole (Some text) rest limits.text bytes → IsReadAs limits scope held bytes reading
-      → IsReadAs limits scope held text reading
-  read_bytes text rest bytes reading whole is =
-      subst (λ (bs : List ℕ). IsReadAs limits scope held bs reading) (whole.whole text refl) is
+-- ---- the texts that are told
 
-  -- ... and in no other way
-  read_is : (text : List ℕ) (rest : Option (List ℕ)) (bytes : List ℕ) (right reading : TextReading)
-      → IsReadAs limits scope held text right → ReadsWhole (Some text) rest limits.text bytes
-      → IsReadAs limits scope held bytes reading → right ≡ reading
-  read_is text rest bytes right reading is whole found =
-      read_once limits scope held text right reading is (read_bytes text rest bytes reading whole found)
+-- a text that is told is read so
+abbrev IsToldAs : Limits → List ℕ → Scope → List Term → Option (List ℕ) → TextReading → Type 0
+IsToldAs limits base scope held told reading =
+    IfSome told (λ text. IsReadAs limits base scope held text reading)
 
-  long_is : (text : List ℕ) (right : TextReading) → IsReadAs limits scope held text right
-      → IsTooLong (Some text) limits.text → right ≡ Faulty TEXT_TOO_LONG None
-  long_is text right is long =
-      read_once limits scope held text right (Faulty TEXT_TOO_LONG None) is (long.longer text refl, refl)
+module _ (limits : Limits) (base : List ℕ) (scope : Scope) (held : List Term) where
+  -- it is read as the bytes are that were read of it
+  told_bytes : (told rest : Option (List ℕ)) (bytes : List ℕ) (reading : TextReading)
+      → ReadsWhole told rest limits.text bytes → IsReadAs limits base scope held bytes reading
+      → IsToldAs limits base scope held told reading
+  told_bytes None rest bytes reading whole is = tt
+  told_bytes (Some text) rest bytes reading whole is =
+      subst (λ (bs : List ℕ). IsReadAs limits base scope held bs reading) (whole.whole text refl) is
 
--- ---- the shapes text
+  told_long : (told : Option (List ℕ)) → IsTooLong told limits.text
+      → IsToldAs limits base scope held told Long
+  told_long None long = tt
+  told_long (Some text) long = long.longer text refl
 
-module _ (limits : Limits) (readings : Readings) (data_text : Option (List ℕ)) where
-  pub shapes_long : (shapes : Option (List ℕ)) → AreRight limits readings shapes data_text
-      → IsTooLong shapes limits.text
-      → IfSome (texts_opening readings shapes data_text)
-      (λ opening. opening ≡ ends (faulty shapes_role TEXT_TOO_LONG None))
-  shapes_long None right long = tt
-  shapes_long (Some text) right long =
-      rw (long_is limits Shapes vocabulary text readings.shapes right.shapes_right long) refl
+-- ---- what they come to
 
-  refused_so : (reading : TextReading) (fault : TextFault) → IsShapesFault reading fault
-      → IfSome (with_shapes readings reading data_text)
-      (λ opening. opening ≡ ends (faulty shapes_role fault.code fault.at))
-  refused_so (Faulty code at) fault is = rw (is.0, is.1) refl
-  refused_so (States document) fault is = rw (is.0, is.1, is.2) refl
+module _ (limits : Limits) (base : List ℕ) (readings : Readings) (P : Opening → Type 0) where
+  -- the shapes text is read so
+  by_shapes : (shapes data_text : Option (List ℕ)) (reading : TextReading)
+      → AreRight limits base readings shapes data_text
+      → IsToldAs limits base Shapes vocabulary shapes reading
+      → (readings.shapes ≡ reading → IfSome (with_shapes readings reading data_text) P)
+      → IfSome (texts_opening readings shapes data_text) P
+  by_shapes None data_text reading right told holds = tt
+  by_shapes (Some text) data_text reading right told holds =
+      let same : readings.shapes ≡ reading =
+      read_once limits base Shapes vocabulary text readings.shapes reading right.shapes_right told in
+      rw same (holds same)
 
-  pub shapes_refused : (shapes rest : Option (List ℕ)) (bytes : List ℕ) (reading : TextReading)
-      (fault : TextFault)
-      → AreRight limits readings shapes data_text → ReadsWhole shapes rest limits.text bytes
-      → IsReadAs limits Shapes vocabulary bytes reading → IsShapesFault reading fault
-      → IfSome (texts_opening readings shapes data_text)
-      (λ opening. opening ≡ ends (faulty shapes_role fault.code fault.at))
-  shapes_refused None rest bytes reading fault right whole is refused = tt
-  shapes_refused (Some text) rest bytes reading fault right whole is refused =
-      rw (read_is limits Shapes vocabulary text rest bytes readings.shapes reading right.shapes_right whole
-      is)
-      (refused_so reading fault refused)
+  -- the data text is read so, behind these shapes
+  by_data : (shapes data_text : Option (List ℕ)) (declared : Declarations) (other : TextReading)
+      → AreRight limits base readings shapes data_text
+      → declarations_of readings.shapes ≡ Some declared
+      → IsToldAs limits base Data declared.terms data_text other
+      → P (with_data declared.shapes other)
+      → IfSome (with_declarations readings (Some declared) data_text) P
+  by_data shapes None declared other right known told holds = tt
+  by_data shapes (Some text) declared other right known told holds =
+      let same : readings.data_text ≡ other =
+      read_once limits base Data declared.terms text readings.data_text other
+      (rw known at right.data_right) told in
+      rw same holds
 
-  declared_so : (P : Opening → Type 0) (reading : TextReading) (declared : Declarations)
+  by_declared : (data_text : Option (List ℕ)) (reading : TextReading) (declared : Declarations)
       → declarations_of reading ≡ Some declared
       → IfSome (with_declarations readings (Some declared) data_text) P
       → IfSome (with_shapes readings reading data_text) P
-  declared_so P (Faulty code at) declared is holds = absurd (cc)
-  declared_so P (States document) declared is holds = rw is holds
+  by_declared data_text (States document end) declared is holds = rw is holds
+  by_declared data_text (Faulty code at) declared is holds = absurd (cc)
+  by_declared data_text Long declared is holds = absurd (cc)
 
-  -- the shapes text declares shapes, so the data text decides
-  pub shapes_told : (P : Opening → Type 0) (shapes rest : Option (List ℕ)) (bytes : List ℕ)
-      (reading : TextReading) (declared : Declarations)
-      → AreRight limits readings shapes data_text → ReadsWhole shapes rest limits.text bytes
-      → IsReadAs limits Shapes vocabulary bytes reading → declarations_of reading ≡ Some declared
-      → (declarations_of readings.shapes ≡ Some declared
-      → IfSome (with_declarations readings (Some declared) data_text) P)
-      → IfSome (texts_opening readings shapes data_text) P
-  shapes_told P None rest bytes reading declared right whole is declares holds = tt
-  shapes_told P (Some text) rest bytes reading declared right whole is declares holds =
-      let same : readings.shapes ≡ reading =
-      read_is limits Shapes vocabulary text rest bytes readings.shapes reading right.shapes_right whole is in
-      rw same (declared_so P reading declared declares (holds (ap declarations_of same ∙ declares)))
+-- a shapes text that is refused ends the run with the answer
+shapes_end : (readings : Readings) (data_text : Option (List ℕ)) (reading : TextReading) (answer : Answer)
+    → IsShapesRefusal reading answer
+    → IfSome (with_shapes readings reading data_text) (λ opening. opening ≡ ends (refused answer))
+shapes_end readings data_text (States document end) answer is = rw (is.0, is.1) refl
+shapes_end readings data_text (Faulty code at) answer is = rw is refl
+shapes_end readings data_text Long answer is = rw is refl
 
--- ---- the data text
+data_ends : (shapes : List Shape) (other : TextReading) (answer : Answer) → IsRefusalOf of_data other answer
+    → with_data shapes other ≡ ends (refused answer)
+data_ends shapes (States document end) answer is = absurd is
+data_ends shapes (Faulty code at) answer is = rw is refl
+data_ends shapes Long answer is = rw is refl
 
-module _ (limits : Limits) (readings : Readings) (declared : Declarations)
-    (known : declarations_of readings.shapes ≡ Some declared) where
-  data_right : (shapes : Option (List ℕ)) (text : List ℕ) → AreRight limits readings shapes (Some text)
-      → IsReadAs limits Data declared.terms text readings.data_text
-  data_right shapes text right = rw known at right.data_right
-
-  pub data_long : (shapes data_text : Option (List ℕ)) → AreRight limits readings shapes data_text
-      → IsTooLong data_text limits.text
-      → IfSome (with_declarations readings (Some declared) data_text)
-      (λ opening. opening ≡ ends (faulty data_role TEXT_TOO_LONG None))
-  data_long shapes None right long = tt
-  data_long shapes (Some text) right long =
-      rw (long_is limits Data declared.terms text readings.data_text (data_right shapes text right) long) refl
-
-  -- the data text is read so
-  pub data_told : (shapes data_text rest : Option (List ℕ)) (bytes : List ℕ) (reading : TextReading)
-      → AreRight limits readings shapes data_text → ReadsWhole data_text rest limits.text bytes
-      → IsReadAs limits Data declared.terms bytes reading
-      → IfSome (with_declarations readings (Some declared) data_text)
-      (λ opening. opening ≡ with_data declared.shapes reading)
-  data_told shapes None rest bytes reading right whole is = tt
-  data_told shapes (Some text) rest bytes reading right whole is =
-      rw (read_is limits Data declared.terms text rest bytes readings.data_text reading
-      (data_right shapes text right) whole is) refl
+declares_none : (reading : TextReading) (answer : Answer) → IsShapesRefusal reading answer
+    → declarations_of reading ≡ None
+declares_none (States document end) answer is = is.0
+declares_none (Faulty code at) answer is = refl
+declares_none Long answer is = refl
 
 -- ---- that there is a reading
 
--- of the shapes text alone, where it declares nothing
-pub right_alone : (limits : Limits) (shapes data_text : Option (List ℕ)) (reading : TextReading)
-    → IfSome shapes (λ text. IsReadAs limits Shapes vocabulary text reading) → declarations_of reading ≡ None
-    → (readings : Readings) × AreRight limits readings shapes data_text
-right_alone limits shapes data_text reading is none = (
-  record { shapes = reading; data_text = reading },
-  record {
-    shapes_right = is;
-    data_right = whatever data_text;
-  },
-)
-  where
-    whatever : (data_text : Option (List ℕ)) → IfSome data_text (λ text. IfSome (declarations_of reading)
-        (λ declared. IsReadAs limits Data declared.terms text reading))
-    whatever None = tt
-    whatever (Some text) = rw none tt
+module _ (limits : Limits) (base : List ℕ) (shapes : Option (List ℕ)) (reading : TextReading)
+    (told : IsToldAs limits base Shapes vocabulary shapes reading) where
+  -- of the shapes text alone, where it declares nothing
+  right_alone : (data_text : Option (List ℕ)) → declarations_of reading ≡ None
+      → AreRight limits base (record { shapes = reading; data_text = reading }) shapes data_text
+  right_alone data_text none = record { shapes_right = told; data_right = whatever data_text }
+    where
+      whatever : (data_text : Option (List ℕ)) → IfSome data_text (λ text.
+          IfSome (declarations_of reading) (λ declared.
+          IsReadAs limits base Data declared.terms text reading))
+      whatever None = tt
+      whatever (Some text) = rw none tt
 
-pub right_both : (limits : Limits) (shapes data_text : Option (List ℕ)) (reading other : TextReading)
-    (declared : Declarations)
-    → IfSome shapes (λ text. IsReadAs limits Shapes vocabulary text reading)
-    → declarations_of reading ≡ Some declared
-    → IfSome data_text (λ text. IsReadAs limits Data declared.terms text other)
-    → (readings : Readings) × AreRight limits readings shapes data_text
-right_both limits shapes data_text reading other declared is declares is' = (
-  record { shapes = reading; data_text = other },
-  record {
-    shapes_right = is;
-    data_right = each data_text is';
-  },
-)
-  where
-    each : (data_text : Option (List ℕ))
-        → IfSome data_text (λ text. IsReadAs limits Data declared.terms text other)
-        → IfSome data_text (λ text. IfSome (declarations_of reading)
-        (λ declared. IsReadAs limits Data declared.terms text other))
-    each None right = tt
-    each (Some text) right = rw declares right
+  right_both : (data_text : Option (List ℕ)) (declared : Declarations) (other : TextReading)
+      → declarations_of reading ≡ Some declared
+      → IsToldAs limits base Data declared.terms data_text other
+      → AreRight limits base (record { shapes = reading; data_text = other }) shapes data_text
+  right_both data_text declared other declares told' =
+      record { shapes_right = told; data_right = each data_text told' }
+    where
+      each : (data_text : Option (List ℕ)) → IsToldAs limits base Data declared.terms data_text other
+          → IfSome data_text (λ text. IfSome (declarations_of reading) (λ declared.
+          IsReadAs limits base Data declared.terms text other))
+      each None is = tt
+      each (Some text) is = rw declares is
 
--- what was read, or is too long, where it is told
-pub told_bytes : (limits : Limits) (scope : Scope) (held : List Term) (told rest : Option (List ℕ))
-    (bytes : List ℕ) (reading : TextReading)
-    → ReadsWhole told rest limits.text bytes → IsReadAs limits scope held bytes reading
-    → IfSome told (λ text. IsReadAs limits scope held text reading)
-told_bytes limits scope held None rest bytes reading whole is = tt
-told_bytes limits scope held (Some text) rest bytes reading whole is =
-    read_bytes limits scope held text rest bytes reading whole is
+-- ---- what was prepared
 
-pub told_long : (limits : Limits) (scope : Scope) (held : List Term) (told : Option (List ℕ))
-    → IsTooLong told limits.text
-    → IfSome told (λ text. IsReadAs limits scope held text (Faulty TEXT_TOO_LONG None))
-told_long limits scope held None long = tt
-told_long limits scope held (Some text) long = (long.longer text refl, refl)
+module _ (limits : Limits) (base : List ℕ) (shapes data_text : Option (List ℕ)) where
+  pub prepared_cut : (stop : Stop) → IsPrepared limits base shapes data_text (Err (Cut stop))
+  prepared_cut stop = record { due = λ readings right. tt; read = tt }
 
-pub fault_declares_none : (reading : TextReading) (fault : TextFault) → IsShapesFault reading fault
-    → declarations_of reading ≡ None
-fault_declares_none (Faulty code at) fault is = refl
-fault_declares_none (States document) fault is = is.0
+  -- the shapes text is refused
+  shapes_refused : (reading : TextReading) (answer : Answer)
+      → IsToldAs limits base Shapes vocabulary shapes reading → IsShapesRefusal reading answer
+      → IsPrepared limits base shapes data_text (Err (Text answer))
+  shapes_refused reading answer told is = record {
+    due = λ readings right.
+        by_shapes limits base readings (λ opening. opening ≡ ends (refused answer)) shapes data_text reading
+        right told
+        (λ same. shapes_end readings data_text reading answer is);
+    read = (_, right_alone limits base shapes reading told data_text (declares_none reading answer is));
+  }
 
--- the validation is what the two texts open
-pub opened_read : (limits : Limits) (readings : Readings) (shapes rest data_text rest' : Option (List ℕ))
-    (bytes bytes' : List ℕ) (reading other : TextReading) (declared : Declarations) (validation : Validation)
-    → AreRight limits readings shapes data_text
-    → ReadsWhole shapes rest limits.text bytes → IsReadAs limits Shapes vocabulary bytes reading
-    → declarations_of reading ≡ Some declared
-    → ReadsWhole data_text rest' limits.text bytes' → IsReadAs limits Data declared.terms bytes' other
-    → OpensFor limits declared.shapes other validation
-    → Opened limits readings shapes data_text validation
-opened_read limits readings shapes rest data_text rest' bytes bytes' reading other declared validation
-    right whole
-    is declares whole' is' found = record {
-      state = _;
-      stored = found.stored;
-      due = shapes_told limits readings data_text (λ opening. opening ≡ opens _) shapes rest bytes reading
-          declared
-          right whole is declares (λ known.
-          subst (λ (r : TextReading). IfSome (with_declarations readings (Some declared) data_text)
-          (λ opening. opening ≡ with_data declared.shapes r)) found.is
-          (data_told limits readings declared known shapes data_text rest' bytes' other right whole' is'));
-    }
+  -- ... since it is too long
+  pub prepared_long : (refusal : Refusal)
+      → ((answer : Answer) → refusal ≡ Text answer
+      → (answer ≡ TooLong of_shapes) × IsTooLong shapes limits.text)
+      → IsPrepared limits base shapes data_text (Err refusal)
+  prepared_long (Text answer) long =
+      let (is, longer) = long answer refl in
+      shapes_refused Long answer (told_long limits base Shapes vocabulary shapes longer) is
+  prepared_long (Cut stop) long = prepared_cut stop
+
+  module _ (rest : Option (List ℕ)) (bytes : List ℕ) (whole : ReadsWhole shapes rest limits.text bytes) where
+    -- ... or declares nothing
+    pub prepared_undeclared : (refusal : Refusal) → RefusesShapes limits base bytes refusal
+        → IsPrepared limits base shapes data_text (Err refusal)
+    prepared_undeclared (Text answer) (reading, is, refuses) =
+        shapes_refused reading answer
+        (told_bytes limits base Shapes vocabulary shapes rest bytes reading whole is) refuses
+    prepared_undeclared (Cut stop) refuses = prepared_cut stop
+
+    -- it declares shapes, so the data text decides
+    module _ (declared : Declared) (declares : Declares limits base bytes declared) where
+      shapes_told : IsToldAs limits base Shapes vocabulary shapes declares.0
+      shapes_told = told_bytes limits base Shapes vocabulary shapes rest bytes declares.0 whole declares.1
+
+      both_read : (other : TextReading)
+          → IsToldAs limits base Data declared.pool.terms data_text other
+          → (readings : Readings) × AreRight limits base readings shapes data_text
+      both_read other told = (
+        _,
+        right_both limits base shapes declares.0 shapes_told data_text (declarations declared) other
+            declares.2 told,
+      )
+
+      both_decide : (other : TextReading) → IsToldAs limits base Data declared.pool.terms data_text other
+          → (P : Opening → Type 0) → P (with_data declared.shapes.items other)
+          → (readings : Readings) → AreRight limits base readings shapes data_text
+          → IfSome (texts_opening readings shapes data_text) P
+      both_decide other told P holds readings right =
+          by_shapes limits base readings P shapes data_text declares.0 right shapes_told (λ same.
+          by_declared limits base readings P data_text declares.0 (declarations declared) declares.2
+          (by_data limits base readings P shapes data_text (declarations declared) other right
+          (ap declarations_of same ∙ declares.2) told holds))
+
+      data_refused : (other : TextReading) (answer : Answer)
+          → IsToldAs limits base Data declared.pool.terms data_text other → IsRefusalOf of_data other answer
+          → IsPrepared limits base shapes data_text (Err (Text answer))
+      data_refused other answer told is = record {
+        due = both_decide other told (λ opening. opening ≡ ends (refused answer))
+            (data_ends declared.shapes.items other answer is);
+        read = both_read other told;
+      }
+
+      pub prepared_data_long : (refusal : Refusal)
+          → ((answer : Answer) → refusal ≡ Text answer
+          → (answer ≡ TooLong of_data) × IsTooLong data_text limits.text)
+          → IsPrepared limits base shapes data_text (Err refusal)
+      prepared_data_long (Text answer) long =
+          let (is, longer) = long answer refl in
+          data_refused Long answer (told_long limits base Data declared.pool.terms data_text longer) is
+      prepared_data_long (Cut stop) long = prepared_cut stop
+
+      pub prepared_opened : (rest' : Option (List ℕ)) (bytes' : List ℕ) (prepared : Result Validation Refusal)
+          → ReadsWhole data_text rest' limits.text bytes'
+          → IfOk prepared (Opens limits base declared.pool.terms declared.shapes.items bytes')
+          → IfErr prepared (RefusesData limits base declared.pool.terms bytes')
+          → IsPrepared limits base shapes data_text prepared
+      prepared_opened rest' bytes' (Ok validation) whole' (other, is, found) refuses =
+          let told = told_bytes limits base Data declared.pool.terms data_text rest' bytes' other whole' is in
+          record {
+            due = λ readings right. record {
+              state = _;
+              stored = found.stored;
+              due = both_decide other told (λ opening. opening ≡ opens _)
+                  (ap (with_data declared.shapes.items) found.is) readings right;
+            };
+            read = both_read other told;
+          }
+      prepared_opened rest' bytes' (Err (Text answer)) whole' found (other, is, refuses) =
+          data_refused other answer
+          (told_bytes limits base Data declared.pool.terms data_text rest' bytes' other whole' is) refuses
+      prepared_opened rest' bytes' (Err (Cut stop)) whole' found refuses = prepared_cut stop

@@ -3,6 +3,7 @@ use Rattle.std.proofs.Common.{◌≡◌, ℕ, zero, suc, ◌≤◌, List, [], �
 use Rattle.std.proofs.Common.{◌∙◌, subst, arith}
 use Rattle.std.specs.Prelude.{All}
 use Rattle.std.proofs.lemmas.List.Elements.{All-cons, All-nil}
+use Rattle.shx_outside.specs.declared.role.Role.{Role}
 use Rattle.shx_term.specs.declared.limits.Limits.{Limits}
 use Rattle.shx_term.specs.declared.term.Scope.{Scope}
 use Rattle.shx_term.specs.declared.term.Term.{Term}
@@ -16,36 +17,32 @@ use Rattle.ttl_meaning.specs.declared.document.Document.{Document}
 use Rattle.ttl_meaning.specs.State.{State}
 use Rattle.ttl_read.specs.Documents.{Setting, setting, IsStatement, start_of}
 use Rattle.ttl_read.specs.Grammar.{Place}
-use Rattle.ttl_read.specs.inner.Stated.{States}
-use Rattle.shacl_run.specs.Readings.{TextReading, Faulty, IsReadAs, IsKnownDocument, numbered_from, text_base}
-use Rattle.shacl_run.specs.Readings.{States as read_document}
+use Rattle.ttl_read.specs.Unique.{IsOneFault}
+use Rattle.ttl_read.specs.inner.Stated.{States as states_document}
+use Rattle.report_write.specs.declared.answer.Answer.TheVariants.{TextFault}
+use Rattle.shacl_run.specs.declared.refusal.Refusal.TheVariants.{Text}
+use Rattle.shacl_run.specs.Readings.{TextReading, States, Faulty, Long, IsReadAs, IsKnownDocument}
+use Rattle.shacl_run.specs.Readings.{numbered_from, setting_of}
+use Rattle.shacl_run.specs.inner.Refusal.{RefusesAs}
 use Rattle.shacl_run.proofs.EditLemmas.{numbered_known}
 
-same_fault : (c d : ℕ) (a b : ℕ) → c ≡ d → a ≡ b → Faulty c (Some a) ≡ Faulty d (Some b)
-same_fault c d a b e f = ap (λ (n : ℕ). Faulty n (Some a)) e ∙ ap (λ (n : ℕ). Faulty d (Some n)) f
-
-pub read_once : (limits : Limits) (scope : Scope) (held : List Term) (text : List ℕ) (a b : TextReading)
-    → IsReadAs limits scope held text a → IsReadAs limits scope held text b → a ≡ b
-read_once limits scope held text (read_document d) (read_document e) is is' =
-    let same : is.1.0 ≡ is'.1.0 = is.1.1.only is'.1.0 is'.1.1.is in
-    ap read_document (is.1.2 ∙ ap (λ (s : State). numbered_from held s.triples) same ∙ sym is'.1.2)
-read_once limits scope held text (read_document d) (Faulty code None) is is' =
-    absurd (omega (arith, is.0, is'.0))
-read_once limits scope held text (read_document d) (Faulty code (Some at)) is is' =
-    absurd (is.1.1.sound code at is'.1.is)
-read_once limits scope held text (Faulty code None) (read_document e) is is' =
-    absurd (omega (arith, is.0, is'.0))
-read_once limits scope held text (Faulty code None) (Faulty other None) is is' =
-    ap (λ (n : ℕ). Faulty n None) (is.1 ∙ sym is'.1)
-read_once limits scope held text (Faulty code None) (Faulty other (Some at)) is is' =
-    absurd (omega (arith, is.0, is'.0))
-read_once limits scope held text (Faulty code (Some at)) (read_document e) is is' =
-    absurd (is.1.none is'.1.0 is'.1.1.is)
-read_once limits scope held text (Faulty code (Some at)) (Faulty other None) is is' =
-    absurd (omega (arith, is.0, is'.0))
-read_once limits scope held text (Faulty code (Some at)) (Faulty other (Some place)) is is' =
-    let same = is.1.only other place is'.1.is in
-    same_fault code other at place same.0 same.1
+module _ (limits : Limits) (base : List ℕ) (scope : Scope) (held : List Term) (text : List ℕ) where
+  pub read_once : (a b : TextReading) → IsReadAs limits base scope held text a
+      → IsReadAs limits base scope held text b → a ≡ b
+  read_once (States document end) (States document' end') is is' =
+      let ends : end ≡ end' = is.1.only end' is'.1.is in
+      let documents : document ≡ document' =
+      is.2 ∙ ap (λ (s : State). numbered_from held s.triples) ends ∙ sym is'.2 in
+      λ i. States (documents i) (ends i)
+  read_once (States document end) (Faulty code at) is is' = absurd (is.1.sound code at is'.1.is)
+  read_once (States document end) Long is is' = absurd (omega (arith, is.0, is'))
+  read_once (Faulty code at) (States document end) is is' = absurd (is.1.none end is'.1.is)
+  read_once (Faulty code at) (Faulty code' at') is is' =
+      let same = is.1.only code' at' is'.1.is in λ i. Faulty (same.0 i) (same.1 i)
+  read_once (Faulty code at) Long is is' = absurd (omega (arith, is.0, is'))
+  read_once Long (States document end) is is' = absurd (omega (arith, is, is'.0))
+  read_once Long (Faulty code at) is is' = absurd (omega (arith, is, is'.0))
+  read_once Long Long is is' = refl
 
 -- ---- what a document states
 
@@ -75,19 +72,32 @@ few_behind : (t : Setting) (n : ℕ) (x y : Place) → Times (IsStatement t) n x
 few_behind t zero x y e few = subst (λ (z : Place). length z.state.triples ≤ t.bounds.triples) e few
 few_behind t (suc n) x y s few = few_behind t n s.0 y s.2 s.1.triples
 
-abbrev graph : List Term → List Triple → Graph
+abbrev pub graph : List Term → List Triple → Graph
 graph terms triples = record { terms = terms; triples = triples }
 
-pub states_known : (limits : Limits) (scope : Scope) (held : List Term) (text : List ℕ) (document : Document)
-    (pool : Pooled) → States (setting text limits held) scope text_base document pool
-    → IsKnownDocument limits.triples (record { terms = pool.terms; triples = document.triples.items })
-states_known limits scope held text document pool states =
-    let t = setting text limits held in
-    let reached = states.1.is.1 in
-    let few : length states.0.triples ≤ limits.triples =
-    subst (λ (s : State). length s.triples ≤ limits.triples) reached.3
-    (few_behind t reached.1.0 (start_of text scope text_base) reached.0 reached.1.1 (omega arith)) in
-    let all = all_known pool.terms states.0.triples in
-    subst (λ (ts : List Triple). IsKnownDocument limits.triples (record { terms = pool.terms; triples = ts }))
-    (sym states.2.triples)
-    (record { known = all.known; few = omega (arith, all.few, few) })
+-- what a reader of a text answers, in terms of what the text is read as
+module _ (limits : Limits) (base : List ℕ) (scope : Scope) (text : List ℕ) (pool : Pooled)
+    (limit : pool.limit ≡ limits.terms) where
+  same_setting : setting text limits pool ≡ setting_of limits pool.terms text
+  same_setting = λ i. setting text limits (record { terms = pool.terms; limit = limit i })
+
+  pub fault_read : (role : Role) (code at : ℕ) → length text ≤ limits.text
+      → IsOneFault (setting text limits pool) scope base code at
+      → RefusesAs role (IsReadAs limits base scope pool.terms text) (Text (TextFault role code at))
+  fault_read role code at within one =
+      let one' = subst (λ (t : Setting). IsOneFault t scope base code at) same_setting one in
+      (Faulty code at, (within, one'), refl)
+
+  pub document_known : (document : Document) (pool' : Pooled)
+      → states_document (setting text limits pool) scope base document pool'
+      → IsKnownDocument limits.triples (graph pool'.terms document.triples.items)
+  document_known document pool' states =
+      let t = setting text limits pool in
+      let reached = states.1.is.1 in
+      let few : length states.0.triples ≤ limits.triples =
+      subst (λ (s : State). length s.triples ≤ limits.triples) reached.3
+      (few_behind t reached.1.0 (start_of text scope base) reached.0 reached.1.1 (omega arith)) in
+      let all = all_known pool'.terms states.0.triples in
+      subst (λ (ts : List Triple). IsKnownDocument limits.triples (graph pool'.terms ts))
+      (sym states.2.triples)
+      (record { known = all.known; few = omega (arith, all.few, few) })

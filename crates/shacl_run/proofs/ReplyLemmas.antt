@@ -26,53 +26,35 @@ module _ (limits : Limits) (s : ScriptState) (validation : Validation)
       → SameGraph (graph_after outcome (plain_graph validation.graph) t) (plain_graph graph)
       → graph.limit ≡ validation.graph.limit → graph.pool.limit ≡ validation.graph.pool.limit
       → IsValidation limits
-      (record {
-        graph = graph_after outcome s.graph t;
-        shapes = s.shapes;
-        line = s.line;
-        refused = s.refused;
-      })
-      (record {
-        graph = graph;
-        shapes = validation.shapes;
-        line = validation.line;
-        refused = validation.refused;
-      })
+      (record s { graph = graph_after outcome s.graph t }) (record validation { graph = graph })
   IsValidation-edited outcome t graph after triple_limit term_limit = record {
     stores = stores-validation limits s validation is outcome t (plain_graph graph) after;
+    names_are = is.names_are;
     shapes_are = is.shapes_are;
     line_is = is.line_is;
     refused_is = is.refused_is;
-    triple_limit = triple_limit ∙ is.triple_limit;
-    term_limit = term_limit ∙ is.term_limit;
+    limits_are = record {
+      triples = triple_limit ∙ is.limits_are.triples;
+      terms = term_limit ∙ is.limits_are.terms;
+    };
   }
 
   -- the validation counts a line that was answered
   pub IsValidation-answered : (said : Said) → IsValidation limits (answered s said s.graph).state
-      (record {
-        graph = validation.graph;
-        shapes = validation.shapes;
-        line = validation.line + 1;
-        refused = validation.refused;
-      })
+      (record validation { line = validation.line + 1 })
   IsValidation-answered said = record {
     stores = is.stores;
+    names_are = is.names_are;
     shapes_are = is.shapes_are;
     line_is = ap (λ line. line + 1) is.line_is;
     refused_is = is.refused_is;
-    triple_limit = is.triple_limit;
-    term_limit = is.term_limit;
+    limits_are = record { triples = is.limits_are.triples; terms = is.limits_are.terms };
   }
 
   -- an answer is said to a line
   pub Replies-answers : (answer : Answer)
       → Replies limits (answered s (answers answer) s.graph) (Answers answer)
-      (record {
-        graph = validation.graph;
-        shapes = validation.shapes;
-        line = validation.line + 1;
-        refused = validation.refused;
-      })
+      (record validation { line = validation.line + 1 })
   Replies-answers answer = record {
     text = append-nil (said_text s (answers answer));
     stored = IsValidation-answered (answers answer);

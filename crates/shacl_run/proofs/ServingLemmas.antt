@@ -6,16 +6,17 @@ use Rattle.std.proofs.Common.{arith}
 use Rattle.std.proofs.lemmas.Bool.Decides.{nat_tests}
 use Rattle.std.specs.Prelude.{IfSome, if◌then◌else◌}
 use Rattle.std.proofs.lemmas.Option.{IfSome_then}
-use Rattle.shx_outside.specs.Outside.{SinkState}
+use Rattle.shx_outside.specs.declared.role.Role.TheVariants.{Script}
+use Rattle.shx_outside.specs.Outside.{InputState, SinkState}
 use Rattle.shx_outside.specs.Told.{Grew, IsAtEnd}
 use Rattle.shx_outside.proofs.ToldLemmas.{Grew-none, Grew-then}
 use Rattle.shx_term.specs.declared.limits.Limits.{Limits}
 use Rattle.shx_term.specs.declared.fault_codes.TheConstants.{NOT_BUILT}
 use Rattle.text_input.specs.Lines.{script_lines}
 use Rattle.text_input.specs.ScriptReader.{ReaderState, new_reader, left_of, TookLine, TookEnd}
-use Rattle.text_input.specs.ScriptReader.{StopsInLine, IsCounted, KeepsCount}
+use Rattle.text_input.specs.ScriptReader.{StopsInLine, GoesOn}
 use Rattle.text_input.specs.TextRead.{TakesWithin}
-use Rattle.text_input.proofs.CountLemmas.{IsCounted-within}
+use Rattle.text_input.proofs.CountLemmas.{IsCounted-start, IsCounted-within, GoesOn-then}
 use Rattle.text_input.proofs.LineLemmas.{fed_lines-first, fed_lines-none}
 use Rattle.report_write.specs.Writes.{Put, FellShort}
 use Rattle.report_write.specs.inner.AddedLaws.{Put-none}
@@ -28,7 +29,7 @@ use Rattle.shacl_run.specs.declared.stop.Stop.{Stop}
 use Rattle.shacl_run.specs.declared.stop.Stop.TheVariants.{Input, Write, Memory}
 use Rattle.shacl_run.specs.inner.Ends.{Ends}
 use Rattle.shacl_run.specs.Evaluation.{report}
-use Rattle.shacl_run.specs.inner.Prepared.{StopCause}
+use Rattle.shacl_run.specs.inner.Stops.{StopCause}
 use Rattle.shacl_run.specs.inner.Reply.{Replies, reply_text}
 use Rattle.shacl_run.specs.inner.Stops.{stop_status, end_status}
 use Rattle.shacl_run.specs.Run.{Output, behind, ending, output_from, fed_text, status_of_rows}
@@ -291,11 +292,13 @@ pub not_ended : (ended : Bool) (stop : Stop) → (ended ≡ true → stop ≢ In
 not_ended true stop going is = absurd (going refl is)
 not_ended false stop going is = refl
 
--- a script that was read on is read within its limit
-pub TakesWithin-kept : (told rest rest' : Option (List ℕ)) (limit : ℕ) (reader reader' : ReaderState)
-    → ((script : List ℕ) → told ≡ Some script → IsCounted script limit reader rest)
-    → KeepsCount reader rest reader' rest' → TakesWithin told rest' limit
-TakesWithin-kept told rest rest' limit reader reader' counted kept = record {
+-- a script that was read on to here is read within its limit
+pub TakesWithin-read : {reader reader' : ReaderState} {inputs0 inputs inputs' : InputState} (limit : ℕ)
+    → GoesOn (new_reader limit) inputs0 reader inputs → GoesOn reader inputs reader' inputs'
+    → TakesWithin (inputs0.rest Script) (inputs'.rest Script) limit
+TakesWithin-read {inputs0 = inputs0} limit before last = record {
   front = λ text is.
-      (IsCounted-within text limit reader' rest' (kept.each text limit (counted text is))).front text refl;
+      let counted = (GoesOn-then before last).kept.each text limit
+      (IsCounted-start text limit (inputs0.rest Script) is) in
+      (IsCounted-within text limit _ _ counted).front text refl;
 }

@@ -32,7 +32,7 @@ use Rattle.shacl_run.specs.Evaluation.{report}
 use Rattle.shacl_run.specs.Report.{report_text}
 use Rattle.shacl_run.specs.ScriptState.{ScriptState}
 use Rattle.shacl_run.specs.inner.Validation.{IsValidation}
-use Rattle.shacl_run.proofs.LoadLemmas.{HasAlso-push}
+use Rattle.shacl_run.proofs.EditLemmas.{HasAlso-push}
 use Rattle.shacl_run.proofs.SameReportLemmas.{report_same}
 
 -- a test for a triple finds it in both lists or in neither
@@ -115,7 +115,7 @@ module _ (limits : Limits) (s : ScriptState) (validation : Validation)
       → outcome ≡ edited limits.triples limits.terms s.graph t
   edited-validation outcome t comes =
       comes
-      ∙ (λ i. edited (is.triple_limit i) (is.term_limit i) (plain_graph validation.graph) t)
+      ∙ (λ i. edited (is.limits_are.triples i) (is.limits_are.terms i) (plain_graph validation.graph) t)
       ∙ edited-same s.graph (plain_graph validation.graph) t is.stores limits.triples limits.terms
 
   -- and what is then stored is the graph of the state after it

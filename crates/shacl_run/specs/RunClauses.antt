@@ -1,4 +1,4 @@
--- What a run promises, in terms of the outputs that are due.
+-- What a run promises, in terms of the output that is due.
 use Rattle.std.specs.Prelude.{◌≡◌, ◌≢◌, ℕ, Bool, true, false, List, [], ◌++◌, Option, Some, None, length}
 use Rattle.std.specs.Prelude.{IsSome, IfSome}
 use Rattle.shx_outside.specs.declared.role.Role.{Role}
@@ -14,41 +14,22 @@ use Rattle.shacl_run.specs.declared.status.Status.TheVariants.{InputFault, Write
 use Rattle.shacl_run.specs.Outside.{Outside}
 use Rattle.shacl_run.specs.Run.{Output, run_output, opening, opening_fed, words_script}
 use Rattle.shacl_run.specs.Readings.{Readings, AreRight}
-use Rattle.shacl_run.specs.Words.{Files, command_words}
+use Rattle.shacl_run.specs.Status.{IsAnswered, IsReported, IsCutShort}
+use Rattle.shacl_run.specs.Words.{Files, Asked, command_words}
 
--- what a run was given, what the two texts are read as, what it left behind, and how it ended
-pub record Ran : Type 0 where
-  pub limits : Limits
-  pub readings : Readings
-  pub words : List (List ℕ)
-  pub before : Outside
-  pub after : Outside
-  pub status : Status
-
-abbrev pub ran : Limits → Readings → List (List ℕ) → Outside → Outside → Status → Ran
-ran limits readings words before after status = record {
-  limits = limits;
-  readings = readings;
-  words = words;
-  before = before;
-  after = after;
-  status = status;
-}
+-- ---- what the texts are read as
 
 -- the texts that the words name are read so, where they are told
-abbrev pub AreRightOf : Limits → Readings → Option Files → (List ℕ → Option (List ℕ)) → Type 0
+abbrev pub AreRightOf : Limits → Readings → Option Asked → (List ℕ → Option (List ℕ)) → Type 0
 AreRightOf limits readings None texts = Unit {0}
-AreRightOf limits readings (Some files) texts =
-    AreRight limits readings (texts files.shapes_file) (texts files.data_file)
+AreRightOf limits readings (Some words) texts =
+    AreRight limits words.base readings (texts words.files.shapes_file) (texts words.files.data_file)
 
 -- the texts have a reading
 abbrev pub IsRead : Limits → List (List ℕ) → (List ℕ → Option (List ℕ)) → Type 0
 IsRead limits words texts = (readings : Readings) × AreRightOf limits readings (command_words words) texts
 
--- ... and so it is, as which texts are read
-abbrev pub WhereRead : Limits → List (List ℕ) → (List ℕ → Option (List ℕ)) → (Readings → Type 0) → Type 0
-WhereRead limits words texts P =
-    (readings : Readings) → AreRightOf limits readings (command_words words) texts → P readings
+-- ---- what is written
 
 -- the outputs that are due of words and texts: so far the defined one alone
 pub data IsDue (limits : Limits) (readings : Readings) (words : List (List ℕ)) (texts : List ℕ
@@ -56,75 +37,24 @@ pub data IsDue (limits : Limits) (readings : Readings) (words : List (List ℕ))
     (output : Output) : Type 0 where
   defined : run_output limits readings words texts ≡ Some output → IsDue limits readings words texts output
 
--- the output is due, where the texts are told that it depends on
-abbrev pub IsDueOf : Ran → Output → Type 0
-IsDueOf r output =
-    IsSome (run_output r.limits r.readings r.words r.before.inputs.text)
-    → IsDue r.limits r.readings r.words r.before.inputs.text output
+-- the bytes written and the status are those of the output
+pub record WritesWhole (output : Output) (before after : SinkState) (status : Status) : Type 0 where
+  pub status_is : status ≡ output.status
+  pub put : Put before after output.text
 
--- the bytes written and the status are those of an output that is due
-pub record WritesWhole (r : Ran) : Type 0 where
-  pub output : Output
-  pub due : IsDueOf r output
-  pub status : r.status ≡ output.status
-  pub put : Put r.before.sink r.after.sink output.text
-
--- the bytes written are a front of the text of an output that is due: a proper one where the sink failed
-pub record WritesFront (r : Ran) : Type 0 where
-  pub output : Output
-  pub due : IsDueOf r output
+-- the bytes written are a front of its text: a proper one where the sink failed
+pub record WritesFront (output : Output) (before after : SinkState) (status : Status) : Type 0 where
   pub front : List ℕ
   pub rest : List ℕ
   pub whole : output.text ≡ front ++ rest
-  pub proper : r.status ≡ WriteFault → rest ≢ []
-  pub grew : Grew r.before.sink.held r.after.sink.held front
-  pub fell : Fell r.before.sink.room r.after.sink.room (length front)
+  pub proper : status ≡ WriteFault → rest ≢ []
+  pub grew : Grew before.held after.held front
+  pub fell : Fell before.room after.room (length front)
 
 -- a count rose, or it did not
 abbrev pub RoseWhere : Bool → ℕ → ℕ → Type 0
 RoseWhere true before now = Rose before now
 RoseWhere false before now = now ≡ before
-
--- a failure comes only where its count rose, and otherwise no count rose; that of the pattern host rose
--- where a pattern was refused with an output that is due. No evaluation is counted so far.
-pub record HasCauses (r : Ran) : Type 0 where
-  pub output : Output
-  pub due : IsDueOf r output
-  pub input_fault : r.status ≡ InputFault → Rose r.before.inputs.faults r.after.inputs.faults
-  pub write_fault : r.status ≡ WriteFault → Rose r.before.sink.faults r.after.sink.faults
-  pub used_up : r.status ≡ WriteFault → (room : ℕ) → r.before.sink.room ≡ Some room
-      → r.after.sink.room ≡ Some 0
-  pub quiet_inputs : r.status ≢ InputFault → r.after.inputs.faults ≡ r.before.inputs.faults
-  pub quiet_sink : r.status ≢ WriteFault → r.after.sink.faults ≡ r.before.sink.faults
-  pub patterns : RoseWhere output.pattern_refused r.before.patterns.faults r.after.patterns.faults
-  pub pattern_refused : output.pattern_refused ≡ true → output.status ≡ Refused
-  pub nested_still : r.after.nested ≡ r.before.nested
-  pub steps_still : r.after.steps ≡ r.before.steps
-
--- the script was read to its end, where the words name one
-abbrev pub ScriptAtEnd : Option (List ℕ) → Option (List ℕ) → Type 0
-ScriptAtEnd None rest = Unit {0}
-ScriptAtEnd (Some name) rest = IsAtEnd rest
-
--- every text that the words name was read to its end
-pub record ReadsToEnd (inputs : InputState) (files : Files) : Type 0 where
-  pub shapes_text : IsAtEnd (inputs.rest Shapes)
-  pub data_text : IsAtEnd (inputs.rest Data)
-  pub script : ScriptAtEnd files.script_file (inputs.rest Script)
-
--- a role that was not opened before and is opened now
-pub record IsOpenedBy (before after : InputState) (role : Role) : Type 0 where
-  pub closed_before : before.opened role ≡ false
-  pub opened_after : after.opened role ≡ true
-
--- no more than one byte past its limit was taken of any text that was opened
-pub record StaysWithin (limits : Limits) (before after : InputState) (files : Files) : Type 0 where
-  pub shapes_text : IsOpenedBy before after Shapes
-      → TakesWithin (before.text files.shapes_file) (after.rest Shapes) limits.text
-  pub data_text : IsOpenedBy before after Data
-      → TakesWithin (before.text files.data_file) (after.rest Data) limits.text
-  pub script : IsOpenedBy before after Script
-      → IfSome files.script_file (λ name. TakesWithin (before.text name) (after.rest Script) limits.script)
 
 -- what was put is what is written up to and with the answers to the lines whose line feed was taken
 pub record StopsFed (fed : List ℕ → List ℕ) (script left : Option (List ℕ)) (before after : SinkState)
@@ -141,3 +71,81 @@ ScriptStops limits readings words inputs inputs' before after =
     IfSome (opening readings words inputs.text) (λ opening.
     StopsFed (opening_fed limits opening) (words_script inputs.text (command_words words))
     (inputs'.rest Script) before after)
+
+-- a role that was not opened before and is opened now
+pub record IsOpenedBy (before after : InputState) (role : Role) : Type 0 where
+  pub closed_before : before.opened role ≡ false
+  pub opened_after : after.opened role ≡ true
+
+-- of one output, which is due where the texts are told that it depends on: where memory and the outside serve
+-- it is written whole, and after a failure a front of it; where the script could not be read on, up to the
+-- last line that was taken; and the pattern host's count rose where a pattern was refused with it
+pub record WritesDue (limits : Limits) (readings : Readings) (words : List (List ℕ))
+    (before after : Outside) (status : Status) : Type 0 where
+  pub output : Output
+  pub due : IsSome (run_output limits readings words before.inputs.text)
+      → IsDue limits readings words before.inputs.text output
+  pub exact : IsAnswered status → WritesWhole output before.sink after.sink status
+  pub prefix : IsCutShort status → WritesFront output before.sink after.sink status
+  pub script_stops : status ≡ InputFault → IsOpenedBy before.inputs after.inputs Script
+      → ScriptStops limits readings words before.inputs after.inputs before.sink after.sink
+  pub patterns : RoseWhere output.pattern_refused before.patterns.faults after.patterns.faults
+  pub pattern_refused : output.pattern_refused ≡ true → output.status ≡ Refused
+
+-- ---- what failed
+
+-- whatever the texts are read as: bytes were put behind what the sink held; a failure comes only where its
+-- count rose, and otherwise no count rose; no evaluation is counted so far
+pub record HasCauses (before after : Outside) (status : Status) : Type 0 where
+  pub bytes : List ℕ
+  pub grew : Grew before.sink.held after.sink.held bytes
+  pub fell : Fell before.sink.room after.sink.room (length bytes)
+  pub input_fault : status ≡ InputFault → Rose before.inputs.faults after.inputs.faults
+  pub write_fault : status ≡ WriteFault → Rose before.sink.faults after.sink.faults
+  pub used_up : status ≡ WriteFault → (room : ℕ) → before.sink.room ≡ Some room → after.sink.room ≡ Some 0
+  pub quiet_inputs : status ≢ InputFault → after.inputs.faults ≡ before.inputs.faults
+  pub quiet_sink : status ≢ WriteFault → after.sink.faults ≡ before.sink.faults
+  pub quiet_patterns : IsAnswered status → status ≢ Refused → after.patterns.faults ≡ before.patterns.faults
+  pub nested_still : after.nested ≡ before.nested
+  pub steps_still : after.steps ≡ before.steps
+
+-- ---- what was read
+
+-- the script was read to its end, where the words name one
+abbrev pub ScriptAtEnd : Option (List ℕ) → Option (List ℕ) → Type 0
+ScriptAtEnd None rest = Unit {0}
+ScriptAtEnd (Some name) rest = IsAtEnd rest
+
+-- every text that the words name was read to its end
+pub record ReadsToEnd (inputs : InputState) (files : Files) : Type 0 where
+  pub shapes_text : IsAtEnd (inputs.rest Shapes)
+  pub data_text : IsAtEnd (inputs.rest Data)
+  pub script : ScriptAtEnd files.script_file (inputs.rest Script)
+
+-- no more than one byte past its limit was taken of any text that was opened
+pub record StaysWithin (limits : Limits) (before after : InputState) (files : Files) : Type 0 where
+  pub shapes_text : IsOpenedBy before after Shapes
+      → TakesWithin (before.text files.shapes_file) (after.rest Shapes) limits.text
+  pub data_text : IsOpenedBy before after Data
+      → TakesWithin (before.text files.data_file) (after.rest Data) limits.text
+  pub script : IsOpenedBy before after Script
+      → IfSome files.script_file (λ name. TakesWithin (before.text name) (after.rest Script) limits.script)
+
+-- ---- the whole
+
+-- what a run promises that was given these words, of the outside before it and after it, and of its status
+pub record IsRun (limits : Limits) (words : List (List ℕ)) (before after : Outside) (status : Status) : Type 0
+  where
+    -- what is written, as whatever the texts are read; and where it is written whole, they are read
+    pub writes : (readings : Readings)
+        → AreRightOf limits readings (command_words words) before.inputs.text
+        → WritesDue limits readings words before after status
+    pub read : IsAnswered status → IsRead limits words before.inputs.text
+    -- each text was read to its end, where a report was given to its end
+    pub read_to_end : IsReported status
+        → IfSome (command_words words) (λ asked. ReadsToEnd after.inputs asked.files)
+    -- a failure has its cause
+    pub causes : HasCauses before after status
+    -- no more is taken of a text than is needed to know that it is too long
+    pub within : IfSome (command_words words)
+        (λ asked. StaysWithin limits before.inputs after.inputs asked.files)

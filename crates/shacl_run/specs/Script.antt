@@ -41,14 +41,14 @@ step_text step = flat_map (said_text step.state) step.said
 abbrev pub answered : ScriptState → Said → Graph → Step
 answered s said g = record {
   said = said ∷ [];
-  state = record { graph = g; shapes = s.shapes; line = s.line + 1; refused = s.refused };
+  state = record s { graph = g; line = s.line + 1 };
 }
 
 -- a line was refused, and the graph stays
 abbrev pub refusal : ScriptState → ℕ → Step
 refusal s code = record {
   said = answers (RefusedLine (s.line + 1) code) ∷ [];
-  state = record { graph = s.graph; shapes = s.shapes; line = s.line + 1; refused = true };
+  state = record s { line = s.line + 1; refused = true };
 }
 
 abbrev pub edit_step : ScriptState → TermTriple → Edited → Step

@@ -1,6 +1,7 @@
--- The words of the command line: the names of the shapes text, of the data text and perhaps of a script.
+-- The words of the command line: the names of the shapes text, of the data text and perhaps of a script, and
+-- the base over which references are resolved.
 use Rattle.std.specs.Prelude.{ℕ, Bool, false, not, ◌&&◌, ◌==◌, List, [], ◌∷◌, Option, Some, None}
-use Rattle.std.specs.Prelude.{if◌then◌else◌}
+use Rattle.std.specs.Prelude.{if◌then◌else◌, codes}
 use Rattle.shx_outside.specs.declared.role.Role.{Role}
 use Rattle.shx_outside.specs.declared.role.Role.TheVariants.{Shapes, Data, Script}
 
@@ -28,16 +29,28 @@ three_files shapes_file data_file script_file = record {
   script_file = Some script_file;
 }
 
--- the files that the words name, where they can be read
-abbrev pub command_words : List (List ℕ) → Option Files
+-- what the words ask for: the files, and the base of both texts
+pub record Asked : Type 0 where
+  pub files : Files
+  pub base : List ℕ
+
+-- the base where the words name none
+abbrev pub default_base : List ℕ
+default_base = codes "file:///"
+
+abbrev pub asked : Files → Asked
+asked files = record { files = files; base = default_base }
+
+-- what the words ask for, where they can be read
+abbrev pub command_words : List (List ℕ) → Option Asked
 command_words [] = None
 command_words (word ∷ []) = None
 command_words (shapes_file ∷ (data_file ∷ [])) =
     if is_file_word shapes_file && is_file_word data_file
-    then Some (two_files shapes_file data_file) else None
+    then Some (asked (two_files shapes_file data_file)) else None
 command_words (shapes_file ∷ (data_file ∷ (script_file ∷ []))) =
     if is_file_word shapes_file && (is_file_word data_file && is_file_word script_file)
-    then Some (three_files shapes_file data_file script_file) else None
+    then Some (asked (three_files shapes_file data_file script_file)) else None
 command_words (shapes_file ∷ (data_file ∷ (script_file ∷ (other ∷ words)))) = None
 
 abbrev pub AdmitsScript : (Role → List ℕ → Type 0) → Option (List ℕ) → Type 0
@@ -45,7 +58,8 @@ AdmitsScript admits None = Unit {0}
 AdmitsScript admits (Some script) = admits Script script
 
 -- the inputs admit the files for what they are read for
-abbrev pub AdmitsFiles : (Role → List ℕ → Type 0) → Option Files → Type 0
+abbrev pub AdmitsFiles : (Role → List ℕ → Type 0) → Option Asked → Type 0
 AdmitsFiles admits None = Unit {0}
-AdmitsFiles admits (Some files) =
-    admits Shapes files.shapes_file × admits Data files.data_file × AdmitsScript admits files.script_file
+AdmitsFiles admits (Some words) =
+    admits Shapes words.files.shapes_file × admits Data words.files.data_file
+    × AdmitsScript admits words.files.script_file

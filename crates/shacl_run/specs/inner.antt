@@ -7,4 +7,5 @@ pub mod Refusal
 pub mod Reply
 pub mod Serving
 pub mod Stops
+pub mod Turtle
 pub mod Validation

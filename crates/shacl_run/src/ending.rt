@@ -1,27 +1,24 @@
 //! How a run ends.
 ghost use Rattle.std.specs.Prelude.{◌≡◌, ℕ, Some};
 ghost use Rattle.shacl_run.specs.inner.Ends.{Ends};
-ghost use Rattle.shacl_run.specs.Run.{faulty, status_of_rows};
+ghost use Rattle.shacl_run.specs.Run.{refused, status_of_rows};
 ghost use Rattle.shacl_run.specs.Status.{IsReported};
 ghost use Rattle.shacl_run.specs.inner.Stops.{end_status};
 
-use crate::refusal::TextFault;
 use crate::result_row::ResultRow;
 use crate::status::Status;
 use crate::stop::Stop;
 use report_write::{Answer, write_answer};
-use shx_outside::{Role, Sink};
+use shx_outside::Sink;
 
-/// Writes the fault of a text, with which the run ends.
-pub fn refuse<O: Sink>(role: Role, fault: TextFault, out: &mut O) -> Result<Status, Stop>
-    ensures ends { (faults : ℕ)
-        → Ends (Some (faulty role fault.code fault.at)) (end_status result) faults faults
+/// Writes the answer by which a text is refused, with which the run ends.
+pub fn refuse<O: Sink>(answer: Answer, out: &mut O) -> Result<Status, Stop>
+    ensures ends { (faults : ℕ) → Ends (Some (refused answer)) (end_status result) faults faults
         (O.state out.old) (O.state out.new) }
     ensures unreported { IsReported (end_status result) → ⊥ }
     ensures output { end_status result ≡ Status.InputFault → ⊥ }
 {
-    let TextFault { code, at } = fault;
-    write_answer(&Answer::Fault { role, code, at }, out)?;
+    write_answer(&answer, out)?;
     Ok(Status::Refused)
 }
 

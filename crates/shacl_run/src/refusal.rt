@@ -1,40 +1,24 @@
-ghost use Rattle.std.specs.Prelude.{◌≡◌, None};
-ghost use Rattle.shx_term.specs.declared.fault_codes.TheConstants.{NOT_BUILT};
-
-use shx_term::fault_codes::NOT_BUILT;
+use crate::stop::Stop;
+use report_write::Answer;
 use std::alloc::AllocError;
 
-/// The fault of a text: its code, and the byte at which it stands, if it has a place.
-#[derive(Clone, Copy, Debug, PartialEq, Eq)]
-pub struct TextFault {
-    pub code: u32,
-    pub at: Option<u64>,
-}
-
-/// The fault of a text that this version does not read.
-pub fn not_built() -> TextFault
-    ensures { result ≡ record { code = NOT_BUILT; at = None } }
-{
-    TextFault {
-        code: NOT_BUILT,
-        at: None,
-    }
-}
-
-/// Why nothing was made of a text.
+/// Why no validation was opened.
 #[derive(Clone, Copy, Debug, PartialEq, Eq)]
 pub enum Refusal {
-    Fault(TextFault),
-    Memory,
+    /// A text is refused, by this answer.
+    Text(Answer),
+    /// The run was cut short.
+    Cut(Stop),
 }
 
 impl From<AllocError> for Refusal {
     ghost use Rattle.std.specs.Prelude.{◌≡◌};
     ghost use Rattle.shacl_run.specs.declared.refusal.Refusal.{Refusal};
+    ghost use Rattle.shacl_run.specs.declared.stop.Stop.TheVariants.{Memory};
 
-    ghost from_gives = { λ _ refusal. refusal ≡ Refusal.Memory };
+    ghost from_gives = { λ _ refusal. refusal ≡ Refusal.Cut Memory };
 
     fn from(_: AllocError) -> Self {
-        Refusal::Memory
+        Refusal::Cut(Stop::Memory)
     }
 }

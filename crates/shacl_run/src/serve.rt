@@ -16,12 +16,12 @@ ghost use Rattle.shacl_run.specs.inner.Stops.{end_status};
 
 use crate::ending::{refuse, status_of_rows};
 use crate::evaluation::evaluate;
-use crate::refusal::not_built;
 use crate::reply::write_reply;
 use crate::status::Status;
 use crate::stop::Stop;
 use crate::take_line::{Taken, take_line};
 use crate::validation::Validation;
+use report_write::Answer;
 use shx_outside::{Inputs, Role, Sink};
 use shx_term::Limits;
 use std::alloc::Global;
@@ -55,7 +55,7 @@ pub fn serve<I: Inputs, O: Sink>(
         match &taken {
             Taken::Replied(reply) => write_reply(reply, validation, out)?,
             Taken::End => return last_status(alloc, validation),
-            Taken::PastLimit => return refuse(Role::Script, not_built(), out),
+            Taken::PastLimit => return refuse(Answer::NotBuilt { role: Role::Script }, out),
         }
     }
 }

@@ -1,8 +1,8 @@
 ghost use Rattle.std.specs.Prelude.{◌≡◌, ◌≢◌, ◌+◌, ◌<◌, ◌^◌, true, IfOk, IfErr};
 ghost use Rattle.shx_outside.specs.declared.role.Role.TheVariants.{Script};
-ghost use Rattle.shx_outside.specs.Told.{IsAtEnd, OthersStay};
-ghost use Rattle.text_input.specs.ScriptReader.{left_of, MetEnd, ReadsLine, KeepsCount, StopsInLine};
-ghost use Rattle.shacl_run.specs.inner.Prepared.{StopCause};
+ghost use Rattle.shx_outside.specs.Told.{IsAtEnd};
+ghost use Rattle.text_input.specs.ScriptReader.{left_of, GoesOn, MetEnd, ReadsLine, StopsInLine};
+ghost use Rattle.shacl_run.specs.inner.Stops.{StopCause};
 ghost use Rattle.shacl_run.specs.ScriptState.{ScriptState};
 ghost use Rattle.shacl_run.specs.inner.Serving.{TakesLine, TakesBytes};
 ghost use Rattle.shacl_run.specs.inner.Validation.{IsValidation};
@@ -55,12 +55,8 @@ pub fn take_line<I: Inputs>(
         → StopsInLine (left_of reader.old ((I.state host.old).rest Script)) reader.new
         ((I.state host.new).rest Script)) }
     ensures going { reader.old.ended ≡ true → IfErr result (λ stop. stop ≢ Stop.Input) }
-    ensures kept { KeepsCount reader.old ((I.state host.old).rest Script)
-        reader.new ((I.state host.new).rest Script) }
+    ensures goes_on { GoesOn reader.old (I.state host.old) reader.new (I.state host.new) }
     ensures cause { StopCause (I.state host.old).faults (I.state host.new).faults result }
-    ensures opened { (I.state host.new).opened Script ≡ true }
-    ensures met { MetEnd reader.new.ended ((I.state host.new).rest Script) }
-    ensures others { OthersStay Script (I.state host.old) (I.state host.new) }
 {
     let line = next_line(alloc, reader, host, limits)?;
     match &line {
@@ -89,13 +85,8 @@ fn next_line<I: Inputs>(
         → StopsInLine (left_of reader.old ((I.state host.old).rest Script)) reader.new
         ((I.state host.new).rest Script)) }
     ensures going { reader.old.ended ≡ true → IfErr result (λ stop. stop ≢ Stop.Input) }
-    ensures stays_ended { reader.old.ended ≡ true → reader.new.ended ≡ true }
-    ensures kept { KeepsCount reader.old ((I.state host.old).rest Script)
-        reader.new ((I.state host.new).rest Script) }
+    ensures goes_on { GoesOn reader.old (I.state host.old) reader.new (I.state host.new) }
     ensures cause { StopCause (I.state host.old).faults (I.state host.new).faults result }
-    ensures opened { (I.state host.new).opened Script ≡ true }
-    ensures met { MetEnd reader.new.ended ((I.state host.new).rest Script) }
-    ensures others { OthersStay Script (I.state host.old) (I.state host.new) }
 {
     match reader.next_line(alloc, host, limits.line) {
         Ok(line) => Ok(line),

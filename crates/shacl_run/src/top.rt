@@ -1,26 +1,27 @@
-ghost use Rattle.std.specs.Prelude.{◌≡◌, ℕ, Some, IfSome};
+ghost use Rattle.std.specs.Prelude.{◌≡◌, ℕ, None, Some, IfSome};
+ghost use Rattle.iri_resolve.specs.Resolution.{IsAbsolute};
 ghost use Rattle.shx_outside.specs.declared.role.Role.TheVariants.{Script};
 ghost use Rattle.shx_term.specs.Limits.{AreUsable};
-ghost use Rattle.shacl_run.specs.declared.status.Status.TheVariants.{BadWords, InputFault};
-ghost use Rattle.shacl_run.specs.inner.Ends.{Ends};
-ghost use Rattle.shacl_run.specs.Outside.{outside};
 ghost use Rattle.report_write.specs.declared.answer.Answer.TheVariants.{Usage};
-ghost use Rattle.shacl_run.specs.inner.Files.{files_of, files_output, FilesStop};
-ghost use Rattle.shacl_run.specs.Run.{answer_output, run_output};
-ghost use Rattle.shacl_run.specs.RunClauses.{ran, AreRightOf, IsRead, WhereRead, WritesWhole, WritesFront};
-ghost use Rattle.shacl_run.specs.RunClauses.{HasCauses};
+ghost use Rattle.shacl_run.specs.declared.status.Status.TheVariants.{BadWords, InputFault};
+ghost use Rattle.shacl_run.specs.Outside.{outside};
 ghost use Rattle.shacl_run.specs.Readings.{Readings};
-ghost use Rattle.shacl_run.specs.RunClauses.{ReadsToEnd, StaysWithin, ScriptStops, IsOpenedBy};
-ghost use Rattle.shacl_run.specs.inner.Stops.{end_status};
-ghost use Rattle.shacl_run.specs.Status.{IsAnswered, IsReported, IsCutShort};
+ghost use Rattle.shacl_run.specs.Run.{answer_output, run_output};
+ghost use Rattle.shacl_run.specs.RunClauses.{AreRightOf, IsOpenedBy, IsRead, IsRun, ReadsToEnd, ScriptStops};
+ghost use Rattle.shacl_run.specs.RunClauses.{StaysWithin};
+ghost use Rattle.shacl_run.specs.Status.{IsAnswered, IsReported};
 ghost use Rattle.shacl_run.specs.Words.{command_words, AdmitsFiles};
+ghost use Rattle.shacl_run.specs.inner.Ends.{Ends};
+ghost use Rattle.shacl_run.specs.inner.Files.{asked_of, files_output, FilesStop};
+ghost use Rattle.shacl_run.specs.inner.Stops.{end_status};
 
 use crate::ending::refuse;
-use crate::prepare::{Prepared, prepare};
+use crate::prepare::prepare;
+use crate::refusal::Refusal;
 use crate::run_validation::run_validation;
 use crate::status::Status;
 use crate::stop::Stop;
-use crate::words::{Files, read_words};
+use crate::words::{Asked, read_words};
 use report_write::{Answer, write_answer};
 use shx_outside::{Inputs, PatternHost, Sink};
 use shx_term::{Limits, Steps, Text};
@@ -45,36 +46,9 @@ pub fn run<H: Inputs, O: Sink, P: PatternHost, L: Ledger, M: Ledger>(
 ) -> Status
     requires limits { AreUsable limits.now }
     requires admitted { AdmitsFiles (H.admits host.old) (command_words words.now) }
-
-    // The bytes written and the status are those of an output that is due, and each text was read to its end.
-    // The texts have a reading, of which it is due.
-    ensures exact { IsAnswered result → WhereRead limits.now words.now (H.state host.old).text (λ readings.
-        WritesWhole (ran limits.now readings words.now
+    ensures { IsRun limits.now words.now
         (outside (H.state host.old) (O.state out.old) (P.state patterns.old) nested.old steps.old)
-        (outside (H.state host.new) (O.state out.new) (P.state patterns.new) nested.new steps.new) result)) }
-    ensures read { IsAnswered result → IsRead limits.now words.now (H.state host.old).text }
-    ensures read_to_end { IsReported result
-        → IfSome (command_words words.now) (ReadsToEnd (H.state host.new)) }
-
-    // After a failure they are a front of it; where the script could not be read on, up to the last line
-    // that was taken.
-    ensures prefix { IsCutShort result → WhereRead limits.now words.now (H.state host.old).text (λ readings.
-        WritesFront (ran limits.now readings words.now
-        (outside (H.state host.old) (O.state out.old) (P.state patterns.old) nested.old steps.old)
-        (outside (H.state host.new) (O.state out.new) (P.state patterns.new) nested.new steps.new) result)) }
-    ensures script_stops { result ≡ InputFault
-        → IsOpenedBy (H.state host.old) (H.state host.new) Script
-        → WhereRead limits.now words.now (H.state host.old).text (λ readings.
-        ScriptStops limits.now readings words.now (H.state host.old) (H.state host.new)
-        (O.state out.old) (O.state out.new)) }
-
-    // A failure has its cause, and no more is taken of a text than is needed to know that it is too long.
-    ensures causes { WhereRead limits.now words.now (H.state host.old).text (λ readings.
-        HasCauses (ran limits.now readings words.now
-        (outside (H.state host.old) (O.state out.old) (P.state patterns.old) nested.old steps.old)
-        (outside (H.state host.new) (O.state out.new) (P.state patterns.new) nested.new steps.new) result)) }
-    ensures within { IfSome (command_words words.now)
-        (StaysWithin limits.now (H.state host.old) (H.state host.new)) }
+        (outside (H.state host.new) (O.state out.new) (P.state patterns.new) nested.new steps.new) result }
 {
     match run_words(alloc, words, host, out, limits) {
         Ok(status) => status,
@@ -91,22 +65,25 @@ fn run_words<H: Inputs, O: Sink>(
 ) -> Result<Status, Stop>
     requires limits { AreUsable limits.now }
     requires admitted { AdmitsFiles (H.admits host.old) (command_words words.now) }
-    ensures ends { WhereRead limits.now words.now (H.state host.old).text (λ readings.
-        Ends (run_output limits.now readings words.now (H.state host.old).text) (end_status result)
-        (H.state host.old).faults (H.state host.new).faults (O.state out.old) (O.state out.new)) }
+    ensures ends { (readings : Readings)
+        → AreRightOf limits.now readings (command_words words.now) (H.state host.old).text
+        → Ends (run_output limits.now readings words.now (H.state host.old).text) (end_status result)
+        (H.state host.old).faults (H.state host.new).faults (O.state out.old) (O.state out.new) }
+    ensures causes { Ends None (end_status result) (H.state host.old).faults (H.state host.new).faults
+        (O.state out.old) (O.state out.new) }
     ensures read { IsAnswered (end_status result) → IsRead limits.now words.now (H.state host.old).text }
     ensures read_to_end { IsReported (end_status result)
-        → IfSome (command_words words.now) (ReadsToEnd (H.state host.new)) }
+        → IfSome (command_words words.now) (λ asked. ReadsToEnd (H.state host.new) asked.files) }
     ensures script_stops { end_status result ≡ InputFault
-        → IsOpenedBy (H.state host.old) (H.state host.new) Script
-        → WhereRead limits.now words.now (H.state host.old).text (λ readings.
-        ScriptStops limits.now readings words.now (H.state host.old) (H.state host.new)
-        (O.state out.old) (O.state out.new)) }
+        → IsOpenedBy (H.state host.old) (H.state host.new) Script → (readings : Readings)
+        → AreRightOf limits.now readings (command_words words.now) (H.state host.old).text
+        → ScriptStops limits.now readings words.now (H.state host.old) (H.state host.new)
+        (O.state out.old) (O.state out.new) }
     ensures within { IfSome (command_words words.now)
-        (StaysWithin limits.now (H.state host.old) (H.state host.new)) }
+        (λ asked. StaysWithin limits.now (H.state host.old) (H.state host.new) asked.files) }
 {
     match read_words(words) {
-        Some(files) => run_files(alloc, &files, host, out, limits),
+        Some(asked) => run_files(alloc, &asked, host, out, limits),
         None => refuse_words(out),
     }
 }
@@ -124,40 +101,38 @@ fn refuse_words<O: Sink>(out: &mut O) -> Result<Status, Stop>
 
 fn run_files<H: Inputs, O: Sink>(
     alloc: Global,
-    files: &Files<'_>,
+    asked: &Asked<'_>,
     host: &mut H,
     out: &mut O,
     limits: &Limits,
 ) -> Result<Status, Stop>
     requires limits { AreUsable limits.now }
-    requires admitted { AdmitsFiles (H.admits host.old) (Some (files_of files.now)) }
+    requires absolute { IsAbsolute asked.now.base.now }
+    requires admitted { AdmitsFiles (H.admits host.old) (Some (asked_of asked.now)) }
     ensures ends { (readings : Readings)
-        → AreRightOf limits.now readings (Some (files_of files.now)) (H.state host.old).text
-        → Ends (files_output limits.now readings (files_of files.now) (H.state host.old).text)
+        → AreRightOf limits.now readings (Some (asked_of asked.now)) (H.state host.old).text
+        → Ends (files_output limits.now readings (asked_of asked.now).files (H.state host.old).text)
         (end_status result) (H.state host.old).faults (H.state host.new).faults
         (O.state out.old) (O.state out.new) }
+    ensures causes { Ends None (end_status result) (H.state host.old).faults (H.state host.new).faults
+        (O.state out.old) (O.state out.new) }
     ensures read { IsAnswered (end_status result) → (readings : Readings)
-        × AreRightOf limits.now readings (Some (files_of files.now)) (H.state host.old).text }
+        × AreRightOf limits.now readings (Some (asked_of asked.now)) (H.state host.old).text }
     ensures read_to_end { IsReported (end_status result)
-        → ReadsToEnd (H.state host.new) (files_of files.now) }
+        → ReadsToEnd (H.state host.new) (asked_of asked.now).files }
     ensures script_stops { end_status result ≡ InputFault
         → IsOpenedBy (H.state host.old) (H.state host.new) Script
         → (readings : Readings)
-        → AreRightOf limits.now readings (Some (files_of files.now)) (H.state host.old).text
-        → FilesStop limits.now readings (files_of files.now) (H.state host.old) (H.state host.new)
+        → AreRightOf limits.now readings (Some (asked_of asked.now)) (H.state host.old).text
+        → FilesStop limits.now readings (asked_of asked.now).files (H.state host.old) (H.state host.new)
         (O.state out.old) (O.state out.new) }
-    ensures within { StaysWithin limits.now (H.state host.old) (H.state host.new) (files_of files.now) }
+    ensures within { StaysWithin limits.now (H.state host.old) (H.state host.new) (asked_of asked.now).files }
 {
-    let mut prepared = prepare(alloc, files.shapes_file, files.data_file, host, limits)?;
-    match &mut prepared {
-        Prepared::Refused(role, fault) => refuse(*role, *fault, out),
-        Prepared::Open(validation) => run_validation(
-            alloc,
-            validation,
-            files.script_file,
-            host,
-            out,
-            limits,
-        ),
+    match prepare(alloc, asked, host, limits) {
+        Ok(mut validation) => {
+            run_validation(alloc, &mut validation, asked.script_file, host, out, limits)
+        }
+        Err(Refusal::Text(answer)) => refuse(answer, out),
+        Err(Refusal::Cut(stop)) => Err(stop),
     }
 }

@@ -1,12 +1,15 @@
 -- How many bytes of a script were taken: no more than one past its limit.
-use Rattle.std.proofs.Common.{◌≡◌, ℕ, ◌+◌, ◌≤◌, List, [], ◌++◌, Option, Some, length, refl, sym, ap, ◌∙◌}
+use Rattle.std.proofs.Common.{◌≡◌, ℕ, ◌+◌, List, [], ◌++◌, Option, Some, length, refl, sym, ap}
+use Rattle.std.proofs.Common.{◌∙◌}
 use Rattle.std.proofs.Common.{arith, append_assoc, length-append}
 use Rattle.std.proofs.lemmas.Option.{same_Some}
-use Rattle.shx_outside.specs.Told.{Took}
+use Rattle.shx_outside.specs.declared.role.Role.TheVariants.{Script}
+use Rattle.shx_outside.specs.Outside.{InputState}
+use Rattle.shx_outside.proofs.ToldLemmas.{OthersStay-same, OthersStay-then}
 use Rattle.text_input.specs.inner.LineParts.{TookPart}
-use Rattle.text_input.specs.ScriptReader.{ReaderState, new_reader, left_of, IsCounted, KeepsCount}
+use Rattle.text_input.specs.ScriptReader.{ReaderState, new_reader, IsCounted, KeepsCount}
+use Rattle.text_input.specs.ScriptReader.{GoesOn}
 use Rattle.text_input.specs.TextRead.{TakesWithin}
-use Rattle.text_input.proofs.LinePartLemmas.{Pending-front}
 
 -- a new reader, over a script of which nothing was taken
 pub IsCounted-start : (script : List ℕ) (limit : ℕ) (rest : Option (List ℕ))
@@ -36,33 +39,13 @@ IsCounted-within script limit reader rest counted = record {
   };
 }
 
-pub KeepsCount-then : {r0 r1 r2 : ReaderState} {left0 left1 left2 : Option (List ℕ)}
+KeepsCount-then : {r0 r1 r2 : ReaderState} {left0 left1 left2 : Option (List ℕ)}
     → KeepsCount r0 left0 r1 left1 → KeepsCount r1 left1 r2 left2 → KeepsCount r0 left0 r2 left2
 KeepsCount-then first next =
     record { each = λ script limit counted. next.each script limit (first.each script limit counted) }
 
--- bytes were read ahead
-pub KeepsCount-ahead : (before after : ReaderState) (rest rest' : Option (List ℕ))
-    → Took (left_of before rest) (left_of after rest') [] → after.budget ≡ before.budget
-    → (length before.pending ≤ before.budget + 1 → length after.pending ≤ after.budget + 1)
-    → KeepsCount before rest after rest'
-KeepsCount-ahead before after rest rest' took budget ahead = record {
-  each = λ script limit counted.
-      let told : left_of before rest ≡ Some (before.pending ++ counted.left) = rw counted.rest_is refl in
-      let front = took.told (before.pending ++ counted.left) told in
-      let behind = Pending-front after rest' front.0 front.1 in
-      record {
-        done = counted.done;
-        left = behind.0;
-        rest_is = behind.2;
-        whole = counted.whole ∙ ap (λ xs. counted.done ++ xs) (front.2 ∙ behind.1);
-        spent = rw budget counted.spent;
-        ahead = ahead counted.ahead;
-      };
-}
-
 -- pending bytes became a part of a line
-pub KeepsCount-part : (before after : ReaderState) (rest : Option (List ℕ))
+KeepsCount-part : (before after : ReaderState) (rest : Option (List ℕ))
     (behind kept kept' : List ℕ) (most : ℕ) → TookPart before after behind kept kept' most
     → KeepsCount before rest after rest
 KeepsCount-part before after rest behind kept kept' most t = record {
@@ -93,3 +76,31 @@ KeepsCount-part before after rest behind kept kept' most t = record {
         ahead = omega (arith, sizes, counted.ahead, t.budget);
       };
 }
+
+-- ---- a reader that goes on
+
+pub GoesOn-then : {r0 r1 r2 : ReaderState} {s0 s1 s2 : InputState}
+    → GoesOn r0 s0 r1 s1 → GoesOn r1 s1 r2 s2 → GoesOn r0 s0 r2 s2
+GoesOn-then first next = record {
+  opened = next.opened;
+  met = next.met;
+  stays_ended = λ ended. next.stays_ended (first.stays_ended ended);
+  kept = KeepsCount-then first.kept next.kept;
+  others = OthersStay-then first.others next.others;
+  texts = record { each = λ name. next.texts.each name ∙ first.texts.each name };
+}
+
+-- pending bytes became a part of a line
+pub GoesOn-part : {r0 before : ReaderState} {s0 inputs : InputState} (after : ReaderState)
+    (behind kept kept' : List ℕ) (most : ℕ)
+    → GoesOn r0 s0 before inputs → after.ended ≡ before.ended
+    → TookPart before after behind kept kept' most → GoesOn r0 s0 after inputs
+GoesOn-part {before = before} {inputs = inputs} after behind kept kept' most goes ended part =
+    GoesOn-then goes (record {
+      opened = goes.opened;
+      met = record { told = λ is. goes.met.told (sym ended ∙ is) };
+      stays_ended = λ is. ended ∙ is;
+      kept = KeepsCount-part before after (inputs.rest Script) behind kept kept' most part;
+      others = OthersStay-same Script inputs;
+      texts = record { each = λ name. refl };
+    })

@@ -2,7 +2,9 @@
 use Rattle.std.specs.Prelude.{◌≡◌, ℕ, ◌+◌, ◌<◌, ◌≤◌, ◌⊎◌, Bool, true, false, nat_lt, Option, Some}
 use Rattle.std.specs.Prelude.{List, [], ◌∷◌, ◌++◌, length}
 use Rattle.std.specs.Option.{option_map}
-use Rattle.shx_outside.specs.Told.{IsAtEnd}
+use Rattle.shx_outside.specs.declared.role.Role.TheVariants.{Script}
+use Rattle.shx_outside.specs.Outside.{InputState}
+use Rattle.shx_outside.specs.Told.{IsAtEnd, OthersStay, SameTexts}
 use Rattle.text_input.specs.declared.script_reader.Line.{Line}
 use Rattle.text_input.specs.declared.script_reader.Line.TheVariants.{Is, TooLong, End, PastLimit}
 use Rattle.text_input.specs.Lines.{HasNoFeed, script_lines}
@@ -97,3 +99,14 @@ pub record KeepsCount (before : ReaderState) (rest : Option (List ℕ)) (after :
     (rest' : Option (List ℕ)) : Type 0 where
   pub each : (script : List ℕ) (limit : ℕ)
       → IsCounted script limit before rest → IsCounted script limit after rest'
+
+-- a reader goes on in a script: the script stays opened, what was met and counted stays so, and of the inputs
+-- nothing else changes
+pub record GoesOn (before : ReaderState) (inputs : InputState) (after : ReaderState) (inputs' : InputState)
+    : Type 0 where
+  pub opened : inputs'.opened Script ≡ true
+  pub met : MetEnd after.ended (inputs'.rest Script)
+  pub stays_ended : before.ended ≡ true → after.ended ≡ true
+  pub kept : KeepsCount before (inputs.rest Script) after (inputs'.rest Script)
+  pub others : OthersStay Script inputs inputs'
+  pub texts : SameTexts inputs inputs'

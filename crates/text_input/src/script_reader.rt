@@ -7,7 +7,7 @@ ghost use Rattle.shx_outside.specs.Told.{Took, StaysAdmitted, SameTexts, OthersS
 ghost use Rattle.text_input.specs.Lines.{is_line_feed};
 ghost use Rattle.text_input.specs.inner.LineParts.{TakesPart, IsKept};
 ghost use Rattle.text_input.specs.ScriptReader.{new_reader, left_of, MetEnd, ReadsLine};
-ghost use Rattle.text_input.specs.ScriptReader.{StopsInLine, KeepsCount};
+ghost use Rattle.text_input.specs.ScriptReader.{StopsInLine, GoesOn};
 ghost use Rattle.text_input.specs.TextRead.{HasInputCause};
 
 use crate::ReadFault;
@@ -108,17 +108,11 @@ impl ScriptReader {
         ensures stopped { IfErr result (λ fault. fault ≡ ReadFault.Input
             → StopsInLine (left_of self.old ((I.state host.old).rest Script))
             self.new ((I.state host.new).rest Script)) }
-        ensures kept { KeepsCount self.old ((I.state host.old).rest Script)
-            self.new ((I.state host.new).rest Script) }
+        ensures goes_on { GoesOn self.old (I.state host.old) self.new (I.state host.new) }
         ensures not_too_long { IfErr result (λ fault. fault ≢ ReadFault.TooLong) }
         ensures ended { self.old.ended ≡ true → IfErr result (λ fault. fault ≢ ReadFault.Input) }
-        ensures stays_ended { self.old.ended ≡ true → self.new.ended ≡ true }
         ensures cause { HasInputCause (I.state host.old).faults (I.state host.new).faults result }
-        ensures opened { (I.state host.new).opened Script ≡ true }
-        ensures met { MetEnd self.new.ended ((I.state host.new).rest Script) }
-        ensures others { OthersStay Script (I.state host.old) (I.state host.new) }
         ensures admitted { StaysAdmitted (I.admits host.old) (I.admits host.new) }
-        ensures texts { SameTexts (I.state host.old) (I.state host.new) }
     {
         let mut line = Vec::new(alloc);
         loop {
@@ -143,18 +137,13 @@ impl ScriptReader {
         ensures some { IfOk result (λ some. some ≡ true → 0 < length self.new.pending) }
         ensures end { IfOk result (λ some. some ≡ false → (self.new.pending ≡ []) × (self.new.ended ≡ true)) }
         ensures failed { OnErr result (self.new.pending ≡ []) }
-        ensures ended { self.old.ended ≡ true → IsOk result × (self.new.ended ≡ true) }
-        ensures ahead { length self.old.pending ≤ self.old.budget + 1
-            → length self.new.pending ≤ self.new.budget + 1 }
+        ensures ended { self.old.ended ≡ true → IsOk result }
         ensures budget { self.new.budget ≡ self.old.budget }
         ensures took { Took (left_of self.old ((I.state host.old).rest Script))
             (left_of self.new ((I.state host.new).rest Script)) [] }
         ensures cause { HasCause (I.state host.old).faults (I.state host.new).faults result }
-        ensures opened { (I.state host.new).opened Script ≡ true }
-        ensures met { MetEnd self.new.ended ((I.state host.new).rest Script) }
-        ensures others { OthersStay Script (I.state host.old) (I.state host.new) }
+        ensures goes_on { GoesOn self.old (I.state host.old) self.new (I.state host.new) }
         ensures admitted { StaysAdmitted (I.admits host.old) (I.admits host.new) }
-        ensures texts { SameTexts (I.state host.old) (I.state host.new) }
     {
         if self.pending_len() > 0 {
             return Ok(true);

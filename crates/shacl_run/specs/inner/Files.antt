@@ -4,18 +4,21 @@ use Rattle.std.specs.Option.{option_map, option_and_then}
 use Rattle.shx_outside.specs.declared.role.Role.TheVariants.{Script}
 use Rattle.shx_outside.specs.Outside.{InputState, SinkState}
 use Rattle.shx_term.specs.declared.limits.Limits.{Limits}
-use Rattle.shacl_run.specs.declared.words.Files.{Files as named_files}
+use Rattle.shacl_run.specs.declared.words.Asked.{Asked as asked_words}
 use Rattle.shacl_run.specs.Run.{Output, texts_opening, opening_output, opening_fed, script_text}
 use Rattle.shacl_run.specs.Readings.{Readings}
 use Rattle.shacl_run.specs.RunClauses.{StopsFed}
-use Rattle.shacl_run.specs.Words.{Files}
+use Rattle.shacl_run.specs.Words.{Files, Asked}
 
--- the names that words gave
-abbrev pub files_of : named_files → Files
-files_of files = record {
-  shapes_file = files.shapes_file.now;
-  data_file = files.data_file.now;
-  script_file = option_map (λ name. name.now) files.script_file;
+-- what words asked for
+abbrev pub asked_of : asked_words → Asked
+asked_of words = record {
+  files = record {
+    shapes_file = words.shapes_file.now;
+    data_file = words.data_file.now;
+    script_file = option_map (λ name. name.now) words.script_file;
+  };
+  base = words.base.now;
 }
 
 abbrev pub files_output : Limits → Readings → Files → (List ℕ → Option (List ℕ)) → Option Output

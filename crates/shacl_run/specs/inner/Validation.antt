@@ -1,29 +1,49 @@
 -- A validation: shapes and the data graph as they are stored, and how far the script has come.
-use Rattle.std.specs.Prelude.{◌≡◌, false, List}
+use Rattle.std.specs.Prelude.{◌≡◌, ◌-◌, false, List, Contains}
+use Rattle.std.specs.Cmp.Lexicographic.{slice_cmp}
+use Rattle.std.specs.Ordering.{nat_cmp}
+use Rattle.shx_term.specs.InOrder.{Lists}
 use Rattle.shx_term.specs.declared.limits.Limits.{Limits}
 use Rattle.graph_view.specs.Graph.{Graph, graph_of}
 use Rattle.graph_view.specs.ListGraph.{plain_graph}
 use Rattle.graph_view.specs.SameGraph.{SameGraph}
+use Rattle.ttl_meaning.specs.declared.document.Document.{Document}
+use Rattle.ttl_meaning.specs.State.{State}
+use Rattle.ttl_meaning.specs.inner.DocumentOf.{IsPrefixTable}
 use Rattle.shacl_run.specs.declared.plan.Shape.{Shape}
 use Rattle.shacl_run.specs.declared.validation.Validation.{Validation}
 use Rattle.shacl_run.specs.Readings.{TextReading, States}
 use Rattle.shacl_run.specs.ScriptState.{ScriptState, start_state}
 
+-- the document has the base, the prefixes and the blank nodes of a state
+pub record HasNamesOf (end : State) (document : Document) : Type 0 where
+  pub prefixes : IsPrefixTable end document.prefixes.items
+  pub base : document.base ≡ end.base
+  pub labels : Lists (slice_cmp nat_cmp) (Contains end.labels) document.labels.items
+  pub anonymous : document.anonymous ≡ end.next - 1
+
+-- the limits of the graph are those of the run
+pub record HasLimits (limits : Limits) (validation : Validation) : Type 0 where
+  pub triples : validation.graph.limit ≡ limits.triples
+  pub terms : validation.graph.pool.limit ≡ limits.terms
+
 -- the validation stores the state, with the limits of the run
 pub record IsValidation (limits : Limits) (s : ScriptState) (validation : Validation) : Type 0 where
   pub stores : SameGraph s.graph (plain_graph validation.graph)
+  pub names_are : HasNamesOf s.data_end validation.document
   pub shapes_are : validation.shapes.items ≡ s.shapes
   pub line_is : validation.line ≡ s.line
   pub refused_is : validation.refused ≡ s.refused
-  pub triple_limit : validation.graph.limit ≡ limits.triples
-  pub term_limit : validation.graph.pool.limit ≡ limits.terms
+  pub limits_are : HasLimits limits validation
 
 -- the text is read as a document, and the validation stores its graph, before the first line
 pub record OpensFor (limits : Limits) (shapes : List Shape) (reading : TextReading) (validation : Validation)
     : Type 0 where
   pub document : Graph
-  pub is : reading ≡ States document
-  pub stored : IsValidation limits (start_state (graph_of document.terms document.triples) shapes) validation
+  pub end : State
+  pub is : reading ≡ States document end
+  pub stored : IsValidation limits (start_state (graph_of document.terms document.triples) end shapes)
+      validation
 
 -- no line was answered yet
 abbrev pub IsNew : Validation → Type 0

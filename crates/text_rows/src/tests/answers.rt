@@ -16,9 +16,12 @@ changed=ok changed=
 unchanged=ok unchanged=
 refused=refused line 18446744073709551615: 59 NotBuilt=
 unknown=refused line 18446744073709551615: 11 =
-shapes=fault shapes: 59 NotBuilt=
-data=fault data: 10 TextTooLong at 0=
-script=fault script: 4294967295  at 18446744073709551615=
+fault=fault data: 10 TextTooLong at 0=
+last=fault script: 4294967295  at 18446744073709551615=
+long shapes=fault shapes: 10 TextTooLong=
+long data=fault data: 10 TextTooLong=
+long script=fault script: 58 ScriptTooLong=
+not built=fault shapes: 59 NotBuilt=
 usage=usage: shacl_keep [--format lines|turtle] [--base IRI] SHAPES DATA [SCRIPT]=
 ";
 
@@ -28,9 +31,12 @@ fn answer_of(word: &str) -> Result<Answer, RowFault> {
         "unchanged" => Ok(Answer::Unchanged),
         "refused" => Ok(refusal(NOT_BUILT)),
         "unknown" => Ok(refusal(11)),
-        "shapes" => Ok(fault(Role::Shapes, NOT_BUILT, None)),
-        "data" => Ok(fault(Role::Data, TEXT_TOO_LONG, Some(0))),
-        "script" => Ok(fault(Role::Script, u32::MAX, Some(u64::MAX))),
+        "fault" => Ok(fault(Role::Data, TEXT_TOO_LONG, 0)),
+        "last" => Ok(fault(Role::Script, u32::MAX, u64::MAX)),
+        "long shapes" => Ok(Answer::TooLong { role: Role::Shapes }),
+        "long data" => Ok(Answer::TooLong { role: Role::Data }),
+        "long script" => Ok(Answer::TooLong { role: Role::Script }),
+        "not built" => Ok(Answer::NotBuilt { role: Role::Shapes }),
         "usage" => Ok(Answer::Usage),
         _ => Err(RowFault::Unread),
     }
@@ -43,8 +49,8 @@ fn refusal(code: u32) -> Answer {
     }
 }
 
-fn fault(role: Role, code: u32, at: Option<u64>) -> Answer {
-    Answer::Fault { role, code, at }
+fn fault(role: Role, code: u32, at: u64) -> Answer {
+    Answer::TextFault { role, code, at }
 }
 
 // Whether an answer is put as this text, in pieces of this size.
@@ -89,26 +95,12 @@ const NAMES: &str = "\
 59 NotBuilt
 ";
 
-// Whether a fault of the data with this code and place is put with the row's text and this end.
-fn puts_fault(
-    alloc: Global,
-    code: u32,
-    at: Option<u64>,
-    row: &str,
-    end: &str,
-) -> Result<bool, Memory> {
-    let text = format!(in alloc; "fault data: {row}{end}\n")?;
-    Ok(puts_text(alloc, &fault(Role::Data, code, at), &text, 4096))
-}
-
-// Whether a fault with the code of a row is put with its name, without a place and with one.
+// Whether a fault of the data with the code of a row is put with its name.
 fn puts_name(alloc: Global, row: &str) -> Result<bool, RowFault> {
     let (code, _) = cut(row, " ")?;
-    let code = number(code)?;
-    Ok(
-        puts_fault(alloc, code, None, row, "")?
-            && puts_fault(alloc, code, Some(120), row, " at 120")?,
-    )
+    let text = format!(in alloc; "fault data: {row} at 120\n")?;
+    let fault = fault(Role::Data, number(code)?, 120);
+    Ok(puts_text(alloc, &fault, &text, 4096))
 }
 
 #[test]

@@ -1,10 +1,4 @@
-use Rattle.shx_term.proofs.PieceLemmas.{three_in_turn, four_in_turn}
 use Rattle.report_write.proofs.answer.add_fault.Goals as goal
 
 pub returns : goal.returns
-returns g c =
-    let in_turn = g.met.W.Pieces.added_in_turn in
-    let name = rw (c.as_bytes.ensures.value, c.role_name.ensures) at c.add-2.ensures in
-    three_in_turn in_turn
-    (four_in_turn in_turn c.add.ensures name c.add-3.ensures c.add_code.ensures)
-    c.add_place.ensures c.add-4.ensures
+returns g c = g.met.W.Pieces.added_in_turn _ _ _ _ _ c.add_fault_head.ensures c.add.ensures

@@ -1,29 +1,26 @@
-use Rattle.std.proofs.Common.{Some, ◌∙◌, sym, ap, subst, arith}
+use Rattle.std.proofs.Common.{rules, Some, ◌∙◌, sym, ap, subst, arith}
 use Rattle.std.proofs.lemmas.Option.{IfSome_then}
 use Rattle.shx_outside.specs.declared.role.Role.TheVariants.{Script}
-use Rattle.shx_outside.proofs.ToldLemmas.{OthersStay-same, OthersStay-then}
 use Rattle.text_input.specs.ScriptReader.{left_of}
-use Rattle.text_input.proofs.CountLemmas.{IsCounted-start}
+use Rattle.report_write.specs.declared.answer.Answer.TheVariants.{NotBuilt}
+use Rattle.text_input.proofs.CountLemmas.{GoesOn-then}
 use Rattle.shacl_run.specs.declared.stop.Stop.TheVariants.{Write}
 use Rattle.shacl_run.specs.declared.take_line.Taken.{Taken}
 use Rattle.shacl_run.specs.inner.Ends.{Ends}
-use Rattle.shacl_run.specs.Run.{not_built}
+use Rattle.shacl_run.specs.Run.{refused}
 use Rattle.shacl_run.specs.inner.Serving.{due_at}
 use Rattle.shacl_run.specs.inner.Stops.{end_status, stop_status}
 use Rattle.shacl_run.proofs.EndLemmas.{Ends-told, passed_on, input_stop}
 use Rattle.shacl_run.proofs.ServingLemmas.{Reached-start, Reached-step, Reached-short, stops_here, not_ended}
-use Rattle.shacl_run.proofs.ServingLemmas.{Ends-stopped, Ends-finished, last_quiet, TakesWithin-kept}
+use Rattle.shacl_run.proofs.ServingLemmas.{Ends-stopped, Ends-finished, last_quiet, TakesWithin-read}
 use Rattle.shacl_run.proofs.serve.serve.Goals as goal
 
 pub loop-taken-init : goal.loop-taken-init
 loop-taken-init g c =
     let inputs = g.I.Inputs.state c.args.host.now in
     rw c.new-reader.ensures (record {
-      opened = c.requires.opened;
-      met = record { told = λ is. cc };
+      goes_on = search rules;
       few = omega (arith, c.requires.fresh.0);
-      others = OthersStay-same Script inputs;
-      counted = λ script is. IsCounted-start script c.args.limits.now.script (inputs.rest Script) is;
       reached = λ s is. Reached-start c.args.limits.now s (inputs.rest Script) inputs.faults
           (g.O.Sink.state c.args.out.now) c.args.validation.now is;
     })
@@ -58,8 +55,7 @@ returns-in_err-taken-clause-fed g c = λ s is failed.
 
 pub returns-in_err-taken-clause-within : goal.returns-in_err-taken-clause-within
 returns-in_err-taken-clause-within g c =
-    TakesWithin-kept ((g.I.Inputs.state c.args.host.now).rest Script) _ _ c.args.limits.now.script _ _
-    c.loop-taken.invariant.counted c.take_line.ensures.kept
+    TakesWithin-read c.args.limits.now.script c.loop-taken.invariant.goes_on c.take_line.ensures.goes_on
 
 pub returns-in_err-write_reply-in-Replied-clause-ends :
     goal.returns-in_err-write_reply-in-Replied-clause-ends
@@ -83,8 +79,7 @@ returns-in_err-write_reply-in-Replied-clause-ends g c = λ s is.
 pub returns-in_err-write_reply-in-Replied-clause-within :
     goal.returns-in_err-write_reply-in-Replied-clause-within
 returns-in_err-write_reply-in-Replied-clause-within g c =
-    TakesWithin-kept ((g.I.Inputs.state c.args.host.now).rest Script) _ _ c.args.limits.now.script _ _
-    c.loop-taken.invariant.counted c.take_line.ensures.kept
+    TakesWithin-read c.args.limits.now.script c.loop-taken.invariant.goes_on c.take_line.ensures.goes_on
 
 pub returns-in-End-clause-ends : goal.returns-in-End-clause-ends
 returns-in-End-clause-ends g c = λ s is.
@@ -109,8 +104,7 @@ returns-in-End-clause-fed g c = λ s is failed.
 
 pub returns-in-End-clause-within : goal.returns-in-End-clause-within
 returns-in-End-clause-within g c =
-    TakesWithin-kept ((g.I.Inputs.state c.args.host.now).rest Script) _ _ c.args.limits.now.script _ _
-    c.loop-taken.invariant.counted c.take_line.ensures.kept
+    TakesWithin-read c.args.limits.now.script c.loop-taken.invariant.goes_on c.take_line.ensures.goes_on
 
 pub returns-in-PastLimit-clause-ends : goal.returns-in-PastLimit-clause-ends
 returns-in-PastLimit-clause-ends g c = λ s is.
@@ -123,18 +117,17 @@ returns-in-PastLimit-clause-ends g c = λ s is.
     let reached = at.invariant.reached s is in
     let due = due_at c.args.limits.now reached.state at.reader.budget
     (left_of at.reader (inputs.rest Script)) in
-    let last = Some (not_built Script) in
-    let refused = rw c.not_built.ensures at c.refuse.ensures.ends inputs.faults in
+    let last = Some (refused (NotBuilt Script)) in
     let taken = (rw c.in-PastLimit.is at c.in_ok-taken.ensures.taken) reached.state reached.stored in
     reached.onward status after.faults sink'
     (Ends-told due last status inputs.faults after.faults sink sink'
     (IfSome_then due taken.due (λ told same. ap Some (sym same)))
-    (subst (λ n. Ends last status inputs.faults n sink sink') (sym c.in_ok-taken.ensures.cause) refused))
+    (subst (λ n. Ends last status inputs.faults n sink sink') (sym c.in_ok-taken.ensures.cause)
+    (c.refuse.ensures.ends inputs.faults)))
 
 pub returns-in-PastLimit-clause-within : goal.returns-in-PastLimit-clause-within
 returns-in-PastLimit-clause-within g c =
-    TakesWithin-kept ((g.I.Inputs.state c.args.host.now).rest Script) _ _ c.args.limits.now.script _ _
-    c.loop-taken.invariant.counted c.take_line.ensures.kept
+    TakesWithin-read c.args.limits.now.script c.loop-taken.invariant.goes_on c.take_line.ensures.goes_on
 
 pub loop-taken-preserved : goal.loop-taken-preserved
 loop-taken-preserved g c =
@@ -144,12 +137,8 @@ loop-taken-preserved g c =
     let after = g.I.Inputs.state c.take_line.new.host in
     let bytes = rw c.in-Replied.is at c.in_ok-taken.ensures.bytes in
     record {
-      opened = c.take_line.ensures.opened;
-      met = c.take_line.ensures.met;
+      goes_on = GoesOn-then at.invariant.goes_on c.take_line.ensures.goes_on;
       few = omega (arith, at.invariant.few, bytes.0, bytes.1);
-      others = OthersStay-then at.invariant.others c.take_line.ensures.others;
-      counted = λ script is.
-          c.take_line.ensures.kept.each script c.args.limits.now.script (at.invariant.counted script is);
       reached = λ s is.
           let reached = at.invariant.reached s is in
           let (step, replies, takes) =

@@ -1,7 +1,6 @@
-use Rattle.std.proofs.Common.{◌≡◌, ◌+◌, ◌<◌, ◌^◌, true, List, Some, ℕ}
+use Rattle.std.proofs.Common.{◌+◌, ◌<◌, ◌^◌}
 use Rattle.shx_outside.specs.declared.role.Role.TheVariants.{Script}
-use Rattle.shx_outside.specs.Told.{OthersStay}
-use Rattle.text_input.specs.ScriptReader.{MetEnd, IsCounted}
+use Rattle.text_input.specs.ScriptReader.{new_reader, GoesOn}
 use Rattle.shacl_run.specs.ScriptState.{ScriptState}
 use Rattle.shacl_run.specs.inner.Validation.{IsValidation}
 use Rattle.shacl_run.proofs.ServingLemmas.{Reached}
@@ -12,12 +11,8 @@ invariant-loop-taken g l =
     let inputs0 = g.I.Inputs.state l.fn.host in
     let inputs = g.I.Inputs.state l.host in
     record {
-      opened : inputs.opened Script ≡ true;
-      met : MetEnd l.reader.ended (inputs.rest Script);
+      goes_on : GoesOn (new_reader l.limits.script) inputs0 l.reader inputs;
       few : l.validation.line + l.reader.budget < 2 ^ 64;
-      others : OthersStay Script inputs0 inputs;
-      counted : (script : List ℕ) → inputs0.rest Script ≡ Some script
-          → IsCounted script l.limits.script l.reader (inputs.rest Script);
       reached : (s : ScriptState) → IsValidation l.limits s l.fn.validation
           → Reached l.limits s (inputs0.rest Script) inputs0.faults (g.O.Sink.state l.fn.out)
           l.validation l.reader (inputs.rest Script) inputs.faults (g.O.Sink.state l.out);

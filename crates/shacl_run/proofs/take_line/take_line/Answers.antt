@@ -27,7 +27,7 @@ returns-in-Is-clause-taken g c = λ s is.
           (left_of c.args.reader.now ((g.I.Inputs.state c.args.host.now).rest Script))
           (left_of c.next_line.new.reader ((g.I.Inputs.state c.next_line.new.host).rest Script))
           (λ first. first ≡ c.in-Is.bytes.items) step (λ line same. ap (script_step limits s) same) read.0
-          c.next_line.ensures.stays_ended,
+          c.next_line.ensures.goes_on.stays_ended,
     )
 
 pub returns-in-TooLong-clause-taken : goal.returns-in-TooLong-clause-taken
@@ -40,7 +40,7 @@ returns-in-TooLong-clause-taken g c = λ s is.
           (left_of c.args.reader.now ((g.I.Inputs.state c.args.host.now).rest Script))
           (left_of c.next_line.new.reader ((g.I.Inputs.state c.next_line.new.host).rest Script))
           (λ first. limits.line < length first) (refusal s NOT_BUILT) (step-too_long limits s) read.0
-          c.next_line.ensures.stays_ended,
+          c.next_line.ensures.goes_on.stays_ended,
     )
 
 pub returns-in-End-clause-end : goal.returns-in-End-clause-end

@@ -1,24 +1,28 @@
 use Rattle.std.proofs.Common.{refl}
-use Rattle.shacl_run.proofs.RunLemmas.{WritesWhole-ends, WritesFront-ends, HasCauses-ends}
+use Rattle.shacl_run.specs.Outside.{outside}
+use Rattle.shacl_run.specs.inner.Stops.{stop_status}
+use Rattle.shacl_run.proofs.RunLemmas.{IsRun-ended}
 use Rattle.shacl_run.proofs.top.run.Goals as goal
 
-pub returns-in-Ok-clause-exact : goal.returns-in-Ok-clause-exact
-returns-in-Ok-clause-exact g c = λ answered readings right.
-    WritesWhole-ends _ (c.in-Ok.ensures.ends readings right) answered
+pub returns-in-Ok : goal.returns-in-Ok
+returns-in-Ok g c =
+    let run = c.in-Ok.ensures in
+    let patterns = g.P.PatternHost.state c.args.patterns.now in
+    let before = outside (g.H.Inputs.state c.args.host.now) (g.O.Sink.state c.args.out.now) patterns
+    c.args.nested.now c.args.steps.now in
+    let after = outside (g.H.Inputs.state c.run_words.new.host) (g.O.Sink.state c.run_words.new.out) patterns
+    c.args.nested.now c.args.steps.now in
+    IsRun-ended c.args.limits.now c.args.words.now before after c.in-Ok.status refl refl refl
+    run.ends run.causes run.read run.read_to_end run.script_stops run.within
 
-pub returns-in-Ok-clause-prefix : goal.returns-in-Ok-clause-prefix
-returns-in-Ok-clause-prefix g c = λ cut readings right.
-    WritesFront-ends _ (c.in-Ok.ensures.ends readings right) cut
-
-pub returns-in-Ok-clause-causes : goal.returns-in-Ok-clause-causes
-returns-in-Ok-clause-causes g c = λ readings right.
-    HasCauses-ends _ (c.in-Ok.ensures.ends readings right) refl refl refl
-
-pub returns-in-Err-clause-prefix : goal.returns-in-Err-clause-prefix
-returns-in-Err-clause-prefix g c =
-    rw c.status.ensures (λ cut readings right. WritesFront-ends _ (c.in-Err.ensures.ends readings right) cut)
-
-pub returns-in-Err-clause-causes : goal.returns-in-Err-clause-causes
-returns-in-Err-clause-causes g c =
-    rw c.status.ensures (λ readings right.
-    HasCauses-ends _ (c.in-Err.ensures.ends readings right) refl refl refl)
+pub returns-in-Err : goal.returns-in-Err
+returns-in-Err g c =
+    let run = c.in-Err.ensures in
+    let patterns = g.P.PatternHost.state c.args.patterns.now in
+    let before = outside (g.H.Inputs.state c.args.host.now) (g.O.Sink.state c.args.out.now) patterns
+    c.args.nested.now c.args.steps.now in
+    let after = outside (g.H.Inputs.state c.run_words.new.host) (g.O.Sink.state c.run_words.new.out) patterns
+    c.args.nested.now c.args.steps.now in
+    rw c.status.ensures
+    (IsRun-ended c.args.limits.now c.args.words.now before after (stop_status c.in-Err.stop) refl refl refl
+    run.ends run.causes run.read run.read_to_end run.script_stops run.within)

@@ -1,0 +1,11 @@
+use Rattle.std.proofs.Common.{◌≡◌, ◌++◌, map, string_bytes}
+use Rattle.std.specs.Vec.Iter.{into_iter_items, into_iter_len}
+use Rattle.shacl_keep.proofs.command_line.words_of.Given as goal
+
+abbrev pub invariant-loop-word : goal.invariant-loop-word
+invariant-loop-word l =
+    l.words.items ++ map string_bytes (into_iter_items l.args)
+    ≡ map string_bytes (into_iter_items l.initial.args)
+
+abbrev pub decreases-loop-word : goal.decreases-loop-word
+decreases-loop-word l = into_iter_len l.args

@@ -5,8 +5,8 @@ repository; it takes the better of three runs, so that work beside it matters le
 
     bench/components.py [COUNT ..]    checks at so many value nodes (10000 and 100000 where no count is given)
 
-An allocation is a call of `malloc`, `realloc` and the like, as `valgrind` counts them: those of a run with two
-checks, less those of a run with one.
+An allocation is a call of `malloc`, `realloc` and the like, as `valgrind` counts them: those of a run with
+two checks, less those of a run with one.
 """
 import os
 import re

@@ -6,7 +6,7 @@ machine.
     bench/load.py [COUNT ..]    texts of so many triples (10000, 100000, 1000000 and 4000000 where no count
                                 is given)
     bench/load.py hostile       texts of 100 million bytes that are hard to pass
-    bench/load.py shared        texts whose triples share a long part, and terms that differ in their tag alone
+    bench/load.py shared        texts whose triples share a long part; terms that differ in their tag alone
     bench/load.py script        a script of 20000 insertions behind 1000000 triples, less the load
 """
 import os
@@ -77,13 +77,14 @@ def hostile(folder, empty, out):
 def shared(folder, empty, out):
     print("| text | MB | processor s | peak MB |")
     print("|---|---|---|---|")
-    kinds = [("shared", name, str(size), str(size)) for name in ("subject", "verb") for size in (65536, 131072)]
-    kinds += [("shared", name, str(size), "65536") for name in ("namespace", "base") for size in (1024, 4096)]
+    kinds = [("shared", name, size, size) for name in ("subject", "verb") for size in ("65536", "131072")]
+    kinds += [("shared", name, size, "65536") for name in ("namespace", "base") for size in ("1024", "4096")]
     kinds += [("tags", str(count)) for count in (100000, 1000000)]
     for words in kinds:
         path = text(folder, *words)
         cpu, _, peak, line = run([PROGRAM, empty, path], out)
-        print(f"| {' '.join(words)} | {os.path.getsize(path) / 1e6:.1f} | {cpu:.2f} | {peak:.0f} |", flush=True)
+        size = os.path.getsize(path) / 1e6
+        print(f"| {' '.join(words)} | {size:.1f} | {cpu:.2f} | {peak:.0f} |", flush=True)
         if not line.startswith("report"):
             print(f"  {line}")
         os.remove(path)

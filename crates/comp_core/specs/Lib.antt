@@ -1,5 +1,6 @@
 pub mod Asking
 pub mod Laws
+pub mod Pairs
 pub mod Results
 pub mod Rows
 pub mod Table

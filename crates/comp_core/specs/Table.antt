@@ -1,11 +1,9 @@
 -- Answers that are given beforehand.
-use Rattle.std.specs.Prelude.{Bool, false, ◌&&◌, ◌||◌, ◌==◌, List, [], ◌∷◌, Option, Some, None, if◌then◌else◌}
+use Rattle.std.specs.Prelude.{Bool, false, ◌||◌, List, [], ◌∷◌, Option, Some, None, if◌then◌else◌}
 use Rattle.comp_core.specs.declared.pair.Pair.{Pair}
 use Rattle.comp_core.specs.declared.row.ResultRow.{ResultRow}
+use Rattle.comp_core.specs.Pairs.{same_pair}
 use Rattle.comp_core.specs.declared.table.Answered.{Answered}
-
-abbrev pub same_pair : Pair → Pair → Bool
-same_pair a b = (a.shape == b.shape) && (a.node == b.node)
 
 abbrev pub has_pair : List Answered → Pair → Bool
 has_pair [] p = false

@@ -1,5 +1,5 @@
 -- What a path says (SHACL, section 2.3.1), without the places in memory at which its parts stand.
-use Rattle.std.specs.Prelude.{ℕ, List, [], ◌∷◌}
+use Rattle.std.specs.Prelude.{ℕ, suc, max, List, [], ◌∷◌, ◌++◌}
 use Rattle.path_eval.specs.declared.path.Path.{Path, Row_of-Path, end_of-Path, more_of-Path}
 use Rattle.path_eval.specs.declared.path.Path.{Pred, Seq', Alt', Inverse', ZeroOrMore', OneOrMore'}
 use Rattle.path_eval.specs.declared.path.Path.{ZeroOrOne'}
@@ -43,3 +43,28 @@ abbrev mutual
   pub among : {m : _} → Row_of-Path m → Route
   among end_of-Path = none
   among (more_of-Path p members) = one_or_other (route_of p) (among members)
+
+-- how deep a path nests: a predicate is one level, and what stands inside a path is one level deeper than it;
+-- the parts of a sequence, and the members of an alternative, stand at one level
+abbrev pub nesting : Route → ℕ
+nesting (along p) = 1
+nesting here = 1
+nesting (first_then r s) = max (suc (nesting r)) (nesting s)
+nesting none = 1
+nesting (one_or_other r s) = max (suc (nesting r)) (nesting s)
+nesting (turned r) = suc (nesting r)
+nesting (any_times r) = suc (nesting r)
+nesting (some_times r) = suc (nesting r)
+nesting (perhaps r) = suc (nesting r)
+
+-- the predicates that stand in a path
+abbrev pub predicates_in : Route → List ℕ
+predicates_in (along p) = p ∷ []
+predicates_in here = []
+predicates_in (first_then r s) = predicates_in r ++ predicates_in s
+predicates_in none = []
+predicates_in (one_or_other r s) = predicates_in r ++ predicates_in s
+predicates_in (turned r) = predicates_in r
+predicates_in (any_times r) = predicates_in r
+predicates_in (some_times r) = predicates_in r
+predicates_in (perhaps r) = predicates_in r

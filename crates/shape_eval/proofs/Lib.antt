@@ -1,0 +1,9 @@
+pub mod AnswerLemmas
+pub mod AskLemmas
+pub mod ConstraintLemmas
+pub mod EditLemmas
+pub mod ItemLemmas
+pub mod LevelLemmas
+pub mod PlaceLemmas
+pub mod ShapeLemmas
+pub mod TargetLemmas

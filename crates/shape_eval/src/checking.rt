@@ -1,0 +1,80 @@
+//! One shape, checked at a node.
+ghost use Rattle.std.specs.Prelude.{◌≡◌, ◌<◌, All, flat_map, length, IfOk, OnOk};
+ghost use Rattle.shx_term.specs.Members.{Adds};
+ghost use Rattle.graph_view.specs.Graph.{HasTerms};
+ghost use Rattle.graph_view.specs.Valid.{IsValidView};
+ghost use Rattle.shape_eval.specs.Constraint.{constraint_numbers};
+ghost use Rattle.shape_eval.specs.Results.{hits_of_each, reads_of_each, value_nodes, value_reads};
+ghost use Rattle.shape_eval.specs.inner.Answers.{asked_pairs};
+
+use crate::Constraint;
+use comp_core::{At, Component, Conform, Pair, ResultRow};
+use graph_view::{GraphView, Reads};
+use path_eval::{Path, values};
+use shx_term::{Id, Memory};
+use std::alloc::Global;
+
+/// The value nodes at a node (SHACL, section 3.4): of a property shape those to which its path leads, of a
+/// node shape the node itself.
+pub(crate) fn find_values<V: GraphView>(
+    alloc: Global,
+    view: &V,
+    path: &Option<Path>,
+    node: Id,
+    reads: &mut Reads,
+) -> Result<Vec<Id>, Memory>
+    requires { node < length (V.graph view.now).terms }
+    ensures values { IfOk result (λ found. found.items ≡ value_nodes (V.graph view.now) path.now node) }
+    ensures known { IfOk result (λ found. HasTerms (V.graph view.now) found.items) }
+    ensures reads { OnOk result (Adds reads.old reads.new (value_reads (V.graph view.now) path.now node)) }
+{
+    match path {
+        None => {
+            let mut found = Vec::new(alloc);
+            found.push(node)?;
+            Ok(found)
+        }
+        Some(path) => values(alloc, view, path, node, reads),
+    }
+}
+
+/// The pairs that constraints ask, constraint by constraint.
+pub(crate) fn asked_by(
+    alloc: Global,
+    constraints: &[Constraint],
+    values: &[Id],
+) -> Result<Vec<Pair>, Memory>
+    ensures { IfOk result (λ asked. asked.items ≡ asked_pairs constraints.now values.now) }
+{
+    let mut asked = Vec::new(alloc);
+    for constraint in constraints {
+        constraint.asks(values, &mut asked)?;
+    }
+    Ok(asked)
+}
+
+/// The results of constraints, constraint by constraint, over answers for all that they ask.
+pub(crate) fn check_each<V: GraphView, C: Conform>(
+    alloc: Global,
+    view: &V,
+    conform: &C,
+    constraints: &[Constraint],
+    at: At,
+    values: &[Id],
+    reads: &mut Reads,
+) -> Result<Vec<ResultRow>, Memory>
+    requires valid { IsValidView (V.graph view.now) }
+    requires numbers { HasTerms (V.graph view.now) (flat_map constraint_numbers constraints.now) }
+    requires values { HasTerms (V.graph view.now) values.now }
+    requires held { All (C.holds conform.now) (asked_pairs constraints.now values.now) }
+    ensures rows { IfOk result (λ rows. rows.items
+        ≡ hits_of_each (V.graph view.now) (C.rows_of conform.now) constraints.now at values.now) }
+    ensures reads { OnOk result (Adds reads.old reads.new
+        (reads_of_each (V.graph view.now) (C.reads_of conform.now) constraints.now at values.now)) }
+{
+    let mut rows = Vec::new(alloc);
+    for constraint in constraints {
+        constraint.check(alloc, view, conform, at, values, reads, &mut rows)?;
+    }
+    Ok(rows)
+}

@@ -1,0 +1,58 @@
+//! What is true of results and target nodes over any graph, as contracts of functions that do nothing.
+ghost use Rattle.std.specs.Prelude.{◌≡◌, ◌<◌, ℕ, List, length, Contains};
+ghost use Rattle.shx_term.specs.declared.triple.Triple.{Triple};
+ghost use Rattle.graph_view.specs.declared.key.Key.{Key};
+ghost use Rattle.graph_view.specs.Graph.{Graph, AllKnown, HasAlso, IsWithout};
+ghost use Rattle.graph_view.specs.Key.{Touches};
+ghost use Rattle.comp_core.specs.declared.pair.Pair.{Pair};
+ghost use Rattle.shape_eval.specs.declared.shape.PlanShape.{PlanShape};
+ghost use Rattle.shape_eval.specs.Laws.{IsSamePair, LevelsDoNotMatter, ResultsDependOnReads};
+ghost use Rattle.shape_eval.specs.Laws.{TargetsDependOnReads};
+ghost use Rattle.shape_eval.specs.Plan.{IsKnownPlan, RefersLower};
+ghost use Rattle.shape_eval.specs.Results.{pair_reads};
+
+use crate::Constraint;
+use comp_core::Component;
+use graph_view::{look_ups_agree, look_ups_give_what_is_held};
+use path_eval::paths_depend_on_their_reads;
+
+/// Nothing but its reads matters to a pair: in graphs that agree on what is read in the first, it has the
+/// same results and the same reads, through negation, counts, siblings and closures.
+pub fn results_depend_on_reads()
+    ensures { ResultsDependOnReads }
+{
+    Constraint::laws();
+    paths_depend_on_their_reads();
+}
+
+/// Nothing but its reads matters to the target nodes of a shape.
+pub fn targets_depend_on_reads()
+    ensures { TargetsDependOnReads }
+{
+    paths_depend_on_their_reads();
+    look_ups_agree();
+    look_ups_give_what_is_held();
+}
+
+/// Results are the same however many levels they are defined by, as long as these are more than the number
+/// of the shape.
+pub fn levels_do_not_matter()
+    ensures { LevelsDoNotMatter }
+{
+    Constraint::laws();
+    paths_depend_on_their_reads();
+}
+
+/// A triple that touches none of its reads makes no difference to a pair, whether it is inserted or removed.
+pub fn edits_beside_a_pair()
+    ensures inserted { (shapes : List PlanShape) → RefersLower shapes → (g h : Graph) (t : Triple)
+        → AllKnown g → AllKnown h → IsKnownPlan g.terms shapes → h.terms ≡ g.terms
+        → HasAlso g.triples h.triples t → (p : Pair) → p.node < length g.terms
+        → ((k : Key) → Contains (pair_reads shapes g p) k → Touches t k → ⊥) → IsSamePair shapes g h p }
+    ensures removed { (shapes : List PlanShape) → RefersLower shapes → (g h : Graph) (t : Triple)
+        → AllKnown g → AllKnown h → IsKnownPlan g.terms shapes → h.terms ≡ g.terms
+        → IsWithout g.triples h.triples t → (p : Pair) → p.node < length g.terms
+        → ((k : Key) → Contains (pair_reads shapes g p) k → Touches t k → ⊥) → IsSamePair shapes g h p }
+{
+    results_depend_on_reads();
+}

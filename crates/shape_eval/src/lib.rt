@@ -1,0 +1,45 @@
+//! Plans of shapes, and what they find: the target nodes of a shape, its results at a node, and what is read
+//! for them (SHACL, sections 2.1 and 3.4).
+//!
+//! | file | what it holds |
+//! |---|---|
+//! | `plan.rt` | `Plan`: shapes by number, each of which names lower numbers alone |
+//! | `planning.rt` | how a plan is made, and what it holds |
+//! | `shape.rt`, `target.rt` | `PlanShape`, `Target`: what a shape states |
+//! | `constraint.rt` | `Constraint`: any of the 29 components with its parameters |
+//! | `constraint_component.rt` | a constraint is a component, by cases |
+//! | `pairs.rt` | `eval_pair`: the results of a shape at a node, and what they were read from |
+//! | `targets.rt` | `eval_target`: the target nodes of a shape |
+//! | `answering.rt` | the pairs that a pair asks are answered first, and then its constraints are checked |
+//! | `checking.rt` | the constraints of a shape, checked at a node over answers that are held |
+//! | `table.rt` | the answers that are held while one pair is evaluated |
+//! | `laws.rt` | results and target nodes depend on what is read for them, and on nothing else |
+//!
+//! It stands on the four crates of components, on `path_eval` for value nodes and instances, and on
+//! `shape_order` for what it is to refer to something. Start with `plan.rt` and `pairs.rt`;
+//! `specs/Results.antt` says what the results are, `specs/Targets.antt` which nodes are targets, and
+//! `specs/Report.antt` what a report is.
+#![tactic(auto)]
+
+mod answering;
+mod checking;
+mod constraint;
+mod constraint_component;
+mod laws;
+mod pairs;
+mod plan;
+mod planning;
+mod shape;
+mod table;
+mod target;
+mod targets;
+
+pub use constraint::Constraint;
+pub use laws::{
+    edits_beside_a_pair, levels_do_not_matter, results_depend_on_reads, targets_depend_on_reads,
+};
+pub use pairs::{PairAnswer, eval_pair};
+pub use plan::Plan;
+pub use shape::PlanShape;
+pub use target::Target;
+pub use targets::eval_target;

@@ -1,0 +1,54 @@
+//! The evaluation of a shape at a node.
+ghost use Rattle.std.specs.Prelude.{◌≡◌, ◌+◌, ◌<◌, length, IfOk};
+ghost use Rattle.shx_term.specs.Members.{SameMembers};
+ghost use Rattle.graph_view.specs.Valid.{IsValidView};
+ghost use Rattle.shape_eval.specs.Planned.{plan_of};
+ghost use Rattle.shape_eval.specs.Plan.{IsKnownPlan};
+ghost use Rattle.shape_eval.specs.Report.{at_shape};
+ghost use Rattle.shape_eval.specs.Results.{pair_reads, results};
+
+use crate::Plan;
+use crate::answering::answer;
+use crate::table::Table;
+use comp_core::{Pair, ResultRow, ShapeNo};
+use graph_view::{GraphView, Reads};
+use shx_term::{Id, Memory, Steps};
+use std::alloc::Global;
+use std::sync::ledger::Ledger;
+
+/// The results of a shape at a node, and what they were read from.
+#[derive(Drop)]
+pub struct PairAnswer {
+    pub rows: Vec<ResultRow>,
+    pub reads: Reads,
+}
+
+/// The results of a shape at a node (SHACL, section 3.4), in order, and the keys that were read for them. It
+/// counts one step, also where memory is refused.
+///
+/// Each pair of a shape and a node that is asked on the way is evaluated once. It recurses as deep as shapes
+/// refer to one another in the plan.
+pub fn eval_pair<V: GraphView, L: Ledger>(
+    alloc: Global,
+    view: &V,
+    plan: &Plan,
+    shape: ShapeNo,
+    node: Id,
+    steps: &mut Steps<L>,
+) -> Result<PairAnswer, Memory>
+    requires valid { IsValidView (V.graph view.now) }
+    requires plan { IsKnownPlan (V.graph view.now).terms (plan_of plan.now).shapes }
+    requires shape { shape < length (plan_of plan.now).shapes }
+    requires node { node < length (V.graph view.now).terms }
+    ensures step { steps.new ≡ steps.old + 1 }
+    ensures rows { IfOk result (λ answer. answer.rows.items
+        ≡ results (plan_of plan.now).shapes (V.graph view.now) (at_shape shape node)) }
+    ensures reads { IfOk result (λ answer. SameMembers answer.reads
+        (pair_reads (plan_of plan.now).shapes (V.graph view.now) (at_shape shape node))) }
+{
+    steps.tick();
+    let mut table = Table::new(alloc);
+    let pair = Pair { shape, node };
+    let found = answer(alloc, view, plan.shapes(), pair, &mut table)?;
+    Ok(found)
+}

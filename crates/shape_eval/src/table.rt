@@ -1,0 +1,86 @@
+//! Answers that are held while one pair is evaluated.
+ghost use Rattle.std.specs.Prelude.{◌≡◌, Some, OnOk};
+ghost use Rattle.std.specs.Option.{is_some};
+ghost use Rattle.indexmap.specs.IndexMap.{IsEmpty};
+ghost use Rattle.shape_eval.specs.inner.Answers.{Holds, HoldsAlso, answer_in};
+
+use crate::PairAnswer;
+use comp_core::{Conform, Pair, ResultRow};
+use graph_view::Reads;
+use indexmap::IndexMap;
+use shx_term::Memory;
+use std::alloc::Global;
+
+/// The answers for some pairs, found by hash.
+#[derive(Drop)]
+pub(crate) struct Table {
+    answers: IndexMap<Pair, PairAnswer>,
+}
+
+impl Table {
+    /// No answers. It takes no memory.
+    pub(crate) fn new(alloc: Global) -> Table
+        ensures { IsEmpty result.answers }
+    {
+        Table {
+            answers: IndexMap::new(alloc),
+        }
+    }
+
+    /// Whether there is an answer for the pair.
+    pub(crate) fn holds(&self, pair: &Pair) -> bool
+        ensures { result ≡ is_some (answer_in self.now pair.now) }
+    {
+        self.answers.contains_key(pair)
+    }
+
+    /// Adds the answer for a pair.
+    pub(crate) fn add(&mut self, pair: Pair, answer: PairAnswer) -> Result<(), Memory>
+        ensures { OnOk result (HoldsAlso self.old self.new pair answer) }
+    {
+        self.answers.insert(pair, answer)?;
+        Ok(())
+    }
+
+    // The answer for a pair.
+    fn answer(&self, pair: &Pair) -> &PairAnswer
+        requires { Holds self.now pair.now }
+        ensures { answer_in self.now pair.now ≡ Some result.now }
+    {
+        match self.answers.get(pair) {
+            Some(answer) => answer,
+            None => unreachable!(),
+        }
+    }
+}
+
+impl Conform for Table {
+    ghost use Rattle.shape_eval.specs.inner.Answers.{Holds, held_rows, held_reads};
+
+    ghost holds = { Holds };
+
+    ghost rows_of = { held_rows };
+
+    ghost reads_of = { held_reads };
+
+    fn conforms(&self, pair: &Pair, reads: &mut Reads) -> Result<bool, Memory> {
+        let answer = self.answer(pair);
+        reads.add_all(&answer.reads)?;
+        Ok(answer.rows.is_empty())
+    }
+
+    fn results(
+        &self,
+        alloc: Global,
+        pair: &Pair,
+        reads: &mut Reads,
+        out: &mut Vec<ResultRow>,
+    ) -> Result<(), Memory> {
+        let answer = self.answer(pair);
+        reads.add_all(&answer.reads)?;
+        for row in &answer.rows {
+            out.push(row.copy(alloc)?)?;
+        }
+        Ok(())
+    }
+}

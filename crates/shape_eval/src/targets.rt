@@ -1,0 +1,65 @@
+//! The target nodes of a shape.
+ghost use Rattle.std.specs.Prelude.{◌≡◌, ◌<◌, length, IfOk, OnOk};
+ghost use Rattle.shx_term.specs.Members.{Adds};
+ghost use Rattle.graph_view.specs.Graph.{HasTerms};
+ghost use Rattle.shape_eval.specs.Planned.{plan_of};
+ghost use Rattle.shape_eval.specs.Plan.{IsKnownPlan, target_number};
+ghost use Rattle.shape_eval.specs.Targets.{nodes_of_target, reads_of_target, target_nodes, target_reads};
+
+use crate::{Plan, Target};
+use comp_core::ShapeNo;
+use graph_view::{GraphView, Reads};
+use path_eval::instances;
+use shx_term::{Id, Memory};
+use std::alloc::Global;
+
+/// The target nodes of a shape (SHACL, section 2.1.3) in term order, each once. It adds the keys that are
+/// read for them, and no others. It costs a look-up for each target, the instances of each class, and a sort.
+pub fn eval_target<V: GraphView>(
+    alloc: Global,
+    view: &V,
+    plan: &Plan,
+    shape: ShapeNo,
+    reads: &mut Reads,
+) -> Result<Vec<Id>, Memory>
+    requires plan { IsKnownPlan (V.graph view.now).terms (plan_of plan.now).shapes }
+    requires shape { shape < length (plan_of plan.now).shapes }
+    ensures nodes { IfOk result (λ found.
+        found.items ≡ target_nodes (plan_of plan.now).shapes (V.graph view.now) shape) }
+    ensures known { IfOk result (λ found. HasTerms (V.graph view.now) found.items) }
+    ensures reads { OnOk result (Adds reads.old reads.new
+        (target_reads (plan_of plan.now).shapes (V.graph view.now) shape)) }
+{
+    let mut found = Vec::new(alloc);
+    for target in &plan.shape(shape).targets {
+        let nodes = nodes_of_target(alloc, view, *target, reads)?;
+        found.extend_from_slice(&nodes)?;
+    }
+    Ok(view.pool().in_order(found))
+}
+
+// The nodes of one target.
+fn nodes_of_target<V: GraphView>(
+    alloc: Global,
+    view: &V,
+    target: Target,
+    reads: &mut Reads,
+) -> Result<Vec<Id>, Memory>
+    requires { target_number target < length (V.graph view.now).terms }
+    ensures nodes { IfOk result (λ found. found.items ≡ nodes_of_target (V.graph view.now) target) }
+    ensures known { IfOk result (λ found. HasTerms (V.graph view.now) found.items) }
+    ensures reads { OnOk result (Adds reads.old reads.new (reads_of_target (V.graph view.now) target)) }
+{
+    match target {
+        Target::Node(node) => Ok(vec![in alloc; node]?),
+        Target::Class(class) => instances(alloc, view, class, reads),
+        Target::SubjectsOf(p) => {
+            let triples = view.triples_with(alloc, p, reads)?;
+            triples.iter().map(|t| t.s).collect(alloc)
+        }
+        Target::ObjectsOf(p) => {
+            let triples = view.triples_with(alloc, p, reads)?;
+            triples.iter().map(|t| t.o).collect(alloc)
+        }
+    }
+}

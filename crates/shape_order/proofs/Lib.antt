@@ -1,0 +1,12 @@
+pub mod ChainLemmas
+pub mod CycleLemmas
+pub mod LeastLemmas
+pub mod LevelLemmas
+pub mod ListedLemmas
+pub mod NumberingLemmas
+pub mod OrderLemmas
+pub mod OutcomeLemmas
+pub mod PlacedLemmas
+pub mod ReferenceLemmas
+pub mod RisingLemmas
+pub mod SearchLemmas

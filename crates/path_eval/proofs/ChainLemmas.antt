@@ -1,7 +1,7 @@
 -- Chains of steps: one behind the other, the other way round, and of steps that are the same.
 use Rattle.std.specs.Prelude.{◌≡◌, ℕ, List, [], ◌∷◌, ◌↔◌, ◌⊎◌}
 use Rattle.std.proofs.Common.{refl, sym, subst, inl, inr}
-use Rattle.path_eval.specs.Relation.{Walk, Chain, Longer}
+use Rattle.shx_term.specs.Chains.{Walk, Chain, Longer}
 
 module _ (R : ℕ → ℕ → Type 0) where
   pub chain_here : (x : ℕ) → Chain R x x

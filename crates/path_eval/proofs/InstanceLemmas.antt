@@ -11,7 +11,7 @@ use Rattle.graph_view.specs.Agree.{Agree}
 use Rattle.graph_view.specs.Graph.{Graph, AllKnown, HasAlso, IsWithout}
 use Rattle.path_eval.specs.declared.direction.Direction.TheVariants.{Forward}
 use Rattle.path_eval.specs.Instances.{IsInstance, instance_route, is_instance}
-use Rattle.path_eval.specs.Relation.{Chain}
+use Rattle.shx_term.specs.Chains.{Chain}
 use Rattle.path_eval.specs.Values.{nodes_reached, path_reads}
 use Rattle.path_eval.proofs.AgreementLemmas.{path_agreement}
 use Rattle.path_eval.proofs.ChainLemmas.{Chain-keeps, chain_here, chain_step}

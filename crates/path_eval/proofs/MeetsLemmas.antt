@@ -9,7 +9,8 @@ use Rattle.graph_view.proofs.LookUpLemmas.{Contains-objects_of, Contains-subject
 use Rattle.graph_view.proofs.LookUpLemmas.{known_object, known_subject}
 use Rattle.path_eval.specs.declared.direction.Direction.{Direction}
 use Rattle.path_eval.specs.declared.direction.Direction.TheVariants.{Forward, Backward}
-use Rattle.path_eval.specs.Relation.{Chain, Longer, PathRelates, Reaches, opposite, pick}
+use Rattle.shx_term.specs.Chains.{Chain, Longer}
+use Rattle.path_eval.specs.Relation.{PathRelates, Reaches, opposite, pick}
 use Rattle.path_eval.specs.Route.{Route, along, here, first_then, none, one_or_other, turned, any_times}
 use Rattle.path_eval.specs.Route.{some_times, perhaps}
 use Rattle.path_eval.specs.Values.{ListsReached, nodes_reached}

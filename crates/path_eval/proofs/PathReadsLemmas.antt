@@ -5,7 +5,8 @@ use Rattle.graph_view.specs.declared.key.Key.{Key}
 use Rattle.graph_view.specs.Graph.{Graph, AllKnown}
 use Rattle.path_eval.specs.declared.direction.Direction.{Direction}
 use Rattle.path_eval.specs.declared.direction.Direction.TheVariants.{Forward, Backward}
-use Rattle.path_eval.specs.Relation.{Chain, PathRelates, PathReads, Reaches, opposite, step_key}
+use Rattle.shx_term.specs.Chains.{Chain}
+use Rattle.path_eval.specs.Relation.{PathRelates, PathReads, Reaches, opposite, step_key}
 use Rattle.path_eval.specs.Route.{Route, along, here, first_then, none, one_or_other, turned, any_times}
 use Rattle.path_eval.specs.Route.{some_times, perhaps}
 use Rattle.path_eval.specs.Values.{path_reads}

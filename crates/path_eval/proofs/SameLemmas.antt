@@ -2,7 +2,7 @@
 use Rattle.std.specs.Prelude.{ℕ, flat_map, Contains, ◌↔◌}
 use Rattle.shx_term.specs.Members.{SameMembers}
 use Rattle.shx_term.proofs.SetLemmas.{SameMembers-itself, SameMembers-append, SameMembers-flat_map}
-use Rattle.path_eval.specs.Relation.{Chain}
+use Rattle.shx_term.specs.Chains.{Chain}
 use Rattle.path_eval.specs.Way.{Way, stay, either, then_by, repeated, closed}
 use Rattle.path_eval.proofs.ChainLemmas.{Longer-same}
 use Rattle.path_eval.proofs.MeetsLemmas.{Meets, meets_closed}

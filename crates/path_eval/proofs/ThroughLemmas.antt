@@ -9,7 +9,7 @@ use Rattle.std.proofs.lemmas.List.Elements.{Contains-append_left, Contains-appen
 use Rattle.std.proofs.lemmas.List.Elements.{Contains-append_cases}
 use Rattle.shx_term.proofs.MemberLemmas.{none_in_empty, Contains-head, Contains-tail, Contains-cases}
 use Rattle.shx_term.proofs.MemberLemmas.{Contains-test}
-use Rattle.path_eval.specs.Relation.{Walk, Longer}
+use Rattle.shx_term.specs.Chains.{Walk, Longer}
 use Rattle.path_eval.specs.inner.Through.{behind, through}
 use Rattle.path_eval.specs.Way.{Way, below, repeated}
 use Rattle.path_eval.proofs.ChainLemmas.{longer_step, longer_then}

@@ -1,5 +1,6 @@
 -- Which nodes a path relates (SHACL, section 2.3.1; SPARQL 1.1, section 9.3), and what is read to find them.
 use Rattle.std.specs.Prelude.{◌≡◌, ℕ, List, [], ◌∷◌, Contains, ◌⊎◌}
+use Rattle.shx_term.specs.Chains.{Chain, Longer}
 use Rattle.shx_term.specs.declared.triple.Triple.{Triple}
 use Rattle.graph_view.specs.declared.key.Key.{Key}
 use Rattle.graph_view.specs.declared.key.Key.TheVariants.{Out, In}
@@ -7,21 +8,6 @@ use Rattle.path_eval.specs.declared.direction.Direction.{Direction}
 use Rattle.path_eval.specs.declared.direction.Direction.TheVariants.{Forward, Backward}
 use Rattle.path_eval.specs.Route.{Route, along, here, first_then, none, one_or_other, turned, any_times}
 use Rattle.path_eval.specs.Route.{some_times, perhaps}
-
--- ---- chains
-
--- from x past these nodes to y, each related to the next
-abbrev pub Walk : (ℕ → ℕ → Type 0) → ℕ → List ℕ → ℕ → Type 0
-Walk R x [] y = x ≡ y
-Walk R x (n ∷ ns) y = R x n × Walk R n ns y
-
--- none or more steps
-abbrev pub Chain : (ℕ → ℕ → Type 0) → ℕ → ℕ → Type 0
-Chain R x y = (ns : List ℕ) × Walk R x ns y
-
--- one step or more
-abbrev pub Longer : (ℕ → ℕ → Type 0) → ℕ → ℕ → Type 0
-Longer R x y = (n : ℕ) × R x n × Chain R n y
 
 -- ---- what a path relates
 

@@ -66,7 +66,7 @@ module _ (paths_agree : PathsAgree) (agrees : (c : Constraint) → AgreesAt c)
 
   module _ (m n : Pair → List ResultRow) (r q : Pair → List Key) (p : Pair)
       (inside : p.node < length g.terms) where
-    -- each asked pair on whose reads the graphs agree has the same answers
+    -- where the graphs agree on what an asked pair reads, it is answered alike
     abbrev pub AskAlike : List Constraint → List ℕ → Type 0
     AskAlike cs vs = (c : Constraint) → Contains cs c → (d : Pair) → Contains (constraint_asks c vs) d
         → Agree g h (Contains (r d)) → SameAnswers m n r q d

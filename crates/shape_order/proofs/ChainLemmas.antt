@@ -4,7 +4,8 @@ use Rattle.std.specs.Prelude.{List, [], ◌∷◌, ◌++◌, length, Contains}
 use Rattle.std.proofs.Common.{refl, sym, ap, ◌∙◌, subst, arith, get_or, inl, inr}
 use Rattle.std.proofs.lemmas.List.{get_or_append_left, get_or_push, length_push, get_or_default}
 use Rattle.std.proofs.lemmas.Bool.{eqb-true, eqb-false}
-use Rattle.shape_order.specs.Chain.{Walk, Chain, Longer, IsRecursive, IsTrail, IsCycle}
+use Rattle.shx_term.specs.Chains.{Walk, Chain, Longer}
+use Rattle.shape_order.specs.Chain.{IsRecursive, IsTrail, IsCycle}
 use Rattle.shape_order.specs.Refs.{Refers}
 
 module _ (R : ℕ → ℕ → Type 0) where

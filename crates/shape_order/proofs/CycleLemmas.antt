@@ -11,7 +11,8 @@ use Rattle.std.proofs.lemmas.Map.Keys.{IsDistinct-push, apart_from_distinct, IsD
 use Rattle.shx_term.proofs.MemberLemmas.{none_in_empty}
 use Rattle.shape_order.specs.declared.references.Reference.{Reference}
 use Rattle.shape_order.specs.declared.visits.Visit.{Visit}
-use Rattle.shape_order.specs.Chain.{Walk, IsTrail, IsRecursive, IsCycle}
+use Rattle.shx_term.specs.Chains.{Walk}
+use Rattle.shape_order.specs.Chain.{IsTrail, IsRecursive, IsCycle}
 use Rattle.shape_order.specs.Refs.{Refers, IsWithin}
 use Rattle.shape_order.specs.inner.Listed.{with_shape}
 use Rattle.shape_order.specs.inner.Search.{AreListed, IsNext}

@@ -8,7 +8,8 @@ use Rattle.std.proofs.lemmas.List.{get_or_append_left, get_or_push, length_push,
 use Rattle.std.proofs.lemmas.List.{take-append-le, take_at, get_or-take, length-take-le}
 use Rattle.std.proofs.lemmas.List.Elements.{Contains-get_or}
 use Rattle.std.proofs.lemmas.Map.Keys.{apart_from_distinct}
-use Rattle.shape_order.specs.Chain.{Walk, IsRecursive}
+use Rattle.shx_term.specs.Chains.{Walk}
+use Rattle.shape_order.specs.Chain.{IsRecursive}
 use Rattle.shape_order.specs.Order.{IsOrdered, HasEach}
 use Rattle.shape_order.specs.Refs.{Refers}
 use Rattle.shape_order.specs.inner.Listed.{with_shape}

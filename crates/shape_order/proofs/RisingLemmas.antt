@@ -3,7 +3,8 @@ use Rattle.std.specs.Prelude.{◌≡◌, ℕ, ◌<◌, ◌≤◌, List, [], ◌�
 use Rattle.std.specs.declared.alloc.Global.{Global}
 use Rattle.std.proofs.Common.{ap, ◌∙◌, subst, arith, get_or}
 use Rattle.std.proofs.lemmas.List.{get_or_default}
-use Rattle.shape_order.specs.Chain.{Walk, IsCycle, IsLeastCycle, IsRecursive}
+use Rattle.shx_term.specs.Chains.{Walk}
+use Rattle.shape_order.specs.Chain.{IsCycle, IsLeastCycle, IsRecursive}
 use Rattle.shape_order.specs.Refs.{Refers, refs_of}
 use Rattle.shape_order.specs.inner.Rising.{AreAbove, NeverFalls, RiseBelow}
 use Rattle.shape_order.proofs.LeastLemmas.{refers_below, least_of}

@@ -1,20 +1,8 @@
 -- Chains of references, and which shapes reach themselves.
 use Rattle.std.specs.Prelude.{◌≡◌, ℕ, ◌+◌, ◌-◌, ◌<◌, nat_eq, List, [], ◌∷◌, length, slice_index}
 use Rattle.std.specs.List.{IsDistinct}
+use Rattle.shx_term.specs.Chains.{Longer}
 use Rattle.shape_order.specs.Refs.{Refers}
-
--- from x past these shapes to y, each related to the next
-abbrev pub Walk : (ℕ → ℕ → Type 0) → ℕ → List ℕ → ℕ → Type 0
-Walk R x [] y = x ≡ y
-Walk R x (n ∷ ns) y = R x n × Walk R n ns y
-
--- none or more steps
-abbrev pub Chain : (ℕ → ℕ → Type 0) → ℕ → ℕ → Type 0
-Chain R x y = (ns : List ℕ) × Walk R x ns y
-
--- one step or more
-abbrev pub Longer : (ℕ → ℕ → Type 0) → ℕ → ℕ → Type 0
-Longer R x y = (n : ℕ) × R x n × Chain R n y
 
 -- the shape reaches itself
 abbrev pub IsRecursive : (ℕ → List ℕ) → ℕ → Type 0
@@ -24,7 +12,7 @@ IsRecursive to i = Longer (Refers to) i i
 pub record IsTrail (to : ℕ → List ℕ) (path : List ℕ) : Type 0 where
   pub steps : (k : ℕ) → k + 1 < length path → Refers to (slice_index path k) (slice_index path (k + 1))
 
--- distinct shapes, each of which refers to the next, and the last to the first
+-- distinct shapes in a ring: a reference leads from each to the one behind it, and from the last to the start
 pub record IsCycle (to : ℕ → List ℕ) (start : ℕ) (cycle : List ℕ) : Type 0 where
   pub filled : 0 < length cycle
   pub first : slice_index cycle 0 ≡ start

@@ -22,8 +22,8 @@ pub struct Numbering {
 /// Why shapes have no order that may be used.
 #[derive(Drop)]
 pub enum OrderFault {
-    /// Shapes that reach themselves (SHACL, section 3.4.3): each of these refers to the next, and the last to
-    /// the first, which is the least of all that reach themselves.
+    /// Shapes that reach themselves (SHACL, section 3.4.3), in a ring: a reference leads from each to the one
+    /// behind it, and from the last to the start, which is the least of all that reach themselves.
     Recursive { cycle: Vec<u32> },
     /// The least shape whose level is above the limit, where no shape reaches itself.
     TooDeep { shape: u32 },

@@ -1,3 +1,4 @@
+pub mod Chains
 pub mod Characters
 pub mod Datatypes
 pub mod FaultCodes

@@ -1,0 +1,2 @@
+-- What the tests of this crate are proved by.
+pub mod Fits

@@ -1,0 +1,13 @@
+mod cells;
+mod constraints;
+mod graphs;
+mod order;
+mod pairs;
+mod paths;
+mod plans;
+mod results;
+mod rows;
+mod shapes;
+mod targets;
+mod terms;
+mod words;

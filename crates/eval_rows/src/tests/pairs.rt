@@ -1,0 +1,144 @@
+//! What a shape finds at a node, and what is read for it.
+ghost use Rattle.std.specs.Prelude.{◌≡◌, ◌+◌, OnOk};
+ghost use Rattle.graph_view.specs.Valid.{IsValidView};
+ghost use Rattle.shape_eval.specs.Plan.{IsKnownPlan};
+ghost use Rattle.shape_eval.specs.Planned.{plan_of};
+
+use super::cells::{Cells, cells_of};
+use super::graphs::{graph_of, keys_of};
+use super::plans::plan_of;
+use super::results::results_of;
+use super::rows::{components, nesting, values, worked, wrong};
+use super::terms::id_of;
+use comp_core::Pair;
+use due_view::{DueView, is_known, is_valid};
+use graph_view::{GraphView, ListGraph};
+use row_tools::{RowFault, cut, first_other_block, number};
+use shape_eval::{
+    PairAnswer, Plan, edits_beside_a_pair, eval_pair, levels_do_not_matter,
+    results_depend_on_reads, targets_depend_on_reads,
+};
+use shx_term::{Pool, Steps};
+use std::alloc::Global;
+use std::marker::Brand;
+use std::sync::ledger::{Blank, Ledger};
+use std::test::Fail;
+
+fn pair_of(alloc: Global, pool: &Pool, cell: &str) -> Result<Pair, RowFault> {
+    let (shape, node) = cut(cell, " ")?;
+    Ok(Pair {
+        shape: number(shape)?,
+        node: id_of(alloc, pool, node)?,
+    })
+}
+
+// The answer of a pair, which takes one step, whatever nests.
+fn found<V: GraphView, L: Ledger>(
+    alloc: Global,
+    view: &V,
+    plan: &Plan,
+    pair: Pair,
+    steps: &mut Steps<L>,
+) -> Result<PairAnswer, RowFault>
+    requires valid { IsValidView (V.graph view.now) }
+    requires plan { IsKnownPlan (V.graph view.now).terms (plan_of plan.now).shapes }
+    ensures { OnOk result (steps.new ≡ steps.old + 1) }
+{
+    if pair.shape >= plan.len() || !is_known(view, pair.node) {
+        return Err(RowFault::Unread);
+    }
+    match eval_pair(alloc, view, plan, pair.shape, pair.node, steps) {
+        Ok(answer) => Ok(answer),
+        Err(_) => Err(RowFault::Unread),
+    }
+}
+
+// Whether the pair of a block has the results that are due, over its graph. Nothing but its keys may be
+// looked up.
+fn is_met<L: Ledger>(
+    alloc: Global,
+    graph: &ListGraph,
+    cells: &Cells,
+    blank: Blank,
+) -> Result<bool, RowFault>
+    requires name { blank.name ≡ L.name }
+    requires parts { blank.parts ≡ L.parts }
+    requires some { blank.parts ≡ 1 }
+{
+    let pool = graph.pool();
+    let plan = plan_of(alloc, pool, cells.shapes)?;
+    let pair = pair_of(alloc, pool, cells.asked)?;
+    let due = results_of(alloc, pool, cells.due)?;
+    let keys = keys_of(alloc, pool, cells.keys)?;
+    if !is_valid(graph) {
+        return Err(RowFault::Unread);
+    }
+    let view = DueView::new(graph, &keys);
+    let mut steps: Steps<L> = Steps::open(blank);
+    let answer = found(alloc, &view, &plan, pair, &mut steps)?;
+    Ok(answer.rows == due && view.are_read(&answer.reads))
+}
+
+fn is_as_said(alloc: Global, block: &str) -> Result<bool, RowFault> {
+    let cells = cells_of(block)?;
+    let graph = graph_of(alloc, cells.triples)?;
+    is_met::<Brand>(alloc, &graph, &cells, Blank::new(1))
+}
+
+fn is_refused(alloc: Global, block: &str) -> Result<bool, RowFault> {
+    match is_as_said(alloc, block) {
+        Ok(is_met) => Ok(!is_met),
+        Err(RowFault::Unread) => Ok(true),
+        Err(RowFault::Memory) => Err(RowFault::Memory),
+    }
+}
+
+#[test]
+fn results_nest_as_said(rt: HostRuntime) -> Result<(), Fail> {
+    assert_eq!(rt;
+        first_other_block(rt.alloc(), nesting::ROWS, is_as_said)?,
+        ""
+    );
+    Ok(())
+}
+
+#[test]
+fn value_nodes_are_as_said(rt: HostRuntime) -> Result<(), Fail> {
+    assert_eq!(rt;
+        first_other_block(rt.alloc(), values::ROWS, is_as_said)?,
+        ""
+    );
+    Ok(())
+}
+
+#[test]
+fn all_components_stand_in_one_shape(rt: HostRuntime) -> Result<(), Fail> {
+    assert_eq!(rt;
+        first_other_block(rt.alloc(), components::ROWS, is_as_said)?,
+        ""
+    );
+    Ok(())
+}
+
+#[test]
+fn worked_runs_find_as_said(rt: HostRuntime) -> Result<(), Fail> {
+    assert_eq!(rt;
+        first_other_block(rt.alloc(), worked::ROWS, is_as_said)?,
+        ""
+    );
+    Ok(())
+}
+
+#[test]
+fn rows_that_are_wrong_are_not_met(rt: HostRuntime) -> Result<(), Fail> {
+    assert_eq!(rt; first_other_block(rt.alloc(), wrong::ROWS, is_refused)?, "");
+    Ok(())
+}
+
+#[test]
+fn laws_of_plans_are_at_hand() {
+    results_depend_on_reads();
+    targets_depend_on_reads();
+    levels_do_not_matter();
+    edits_beside_a_pair();
+}

@@ -1,0 +1,87 @@
+//! The target nodes of a shape, what is read for them, and from which shapes a validation begins.
+ghost use Rattle.shape_eval.specs.Plan.{IsKnownPlan};
+ghost use Rattle.shape_eval.specs.Planned.{plan_of};
+
+use super::cells::{Cells, cells_of};
+use super::graphs::{graph_of, keys_of};
+use super::plans::plan_of;
+use super::rows::targets::{BEGUN, ROWS, WRONG};
+use super::terms::ids_of;
+use comp_core::ShapeNo;
+use due_view::DueView;
+use graph_view::{GraphView, ListGraph, Reads};
+use row_tools::{RowFault, first_other_block, number};
+use shape_eval::{Plan, eval_target};
+use shx_term::Id;
+use std::alloc::Global;
+use std::test::Fail;
+
+// The target nodes of a shape.
+fn found<V: GraphView>(
+    alloc: Global,
+    view: &V,
+    plan: &Plan,
+    shape: ShapeNo,
+    reads: &mut Reads,
+) -> Result<Vec<Id>, RowFault>
+    requires { IsKnownPlan (V.graph view.now).terms (plan_of plan.now).shapes }
+{
+    if shape >= plan.len() {
+        return Err(RowFault::Unread);
+    }
+    match eval_target(alloc, view, plan, shape, reads) {
+        Ok(nodes) => Ok(nodes),
+        Err(_) => Err(RowFault::Unread),
+    }
+}
+
+// Whether the shape of a block has the target nodes that are due. Nothing but its keys may be looked up.
+fn is_met(alloc: Global, graph: &ListGraph, cells: &Cells) -> Result<bool, RowFault> {
+    let pool = graph.pool();
+    let plan = plan_of(alloc, pool, cells.shapes)?;
+    let due = ids_of(alloc, pool, cells.due, " ")?;
+    let keys = keys_of(alloc, pool, cells.keys)?;
+    let view = DueView::new(graph, &keys);
+    let mut reads = Reads::new(alloc);
+    let nodes = found(alloc, &view, &plan, number(cells.asked)?, &mut reads)?;
+    Ok(nodes == due && view.are_read(&reads))
+}
+
+fn is_as_said(alloc: Global, block: &str) -> Result<bool, RowFault> {
+    let cells = cells_of(block)?;
+    let graph = graph_of(alloc, cells.triples)?;
+    is_met(alloc, &graph, &cells)
+}
+
+fn is_refused(alloc: Global, block: &str) -> Result<bool, RowFault> {
+    match is_as_said(alloc, block) {
+        Ok(is_met) => Ok(!is_met),
+        Err(RowFault::Unread) => Ok(true),
+        Err(RowFault::Memory) => Err(RowFault::Memory),
+    }
+}
+
+// Whether validation begins from the shapes that are due.
+fn begins_as_said(alloc: Global, block: &str) -> Result<bool, RowFault> {
+    let cells = cells_of(block)?;
+    let graph = graph_of(alloc, cells.triples)?;
+    let plan = plan_of(alloc, graph.pool(), cells.shapes)?;
+    let mut due = Vec::new(alloc);
+    for word in cells.due.split_whitespace() {
+        due.push(number(word)?)?;
+    }
+    Ok(plan.targeted() == due.as_slice())
+}
+
+#[test]
+fn target_nodes_are_as_said(rt: HostRuntime) -> Result<(), Fail> {
+    assert_eq!(rt; first_other_block(rt.alloc(), ROWS, is_as_said)?, "");
+    assert_eq!(rt; first_other_block(rt.alloc(), WRONG, is_refused)?, "");
+    Ok(())
+}
+
+#[test]
+fn validations_begin_as_said(rt: HostRuntime) -> Result<(), Fail> {
+    assert_eq!(rt; first_other_block(rt.alloc(), BEGUN, begins_as_said)?, "");
+    Ok(())
+}

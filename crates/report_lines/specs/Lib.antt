@@ -1,0 +1,5 @@
+pub mod Names
+pub mod PathLines
+pub mod ReportLines
+pub mod TermTexts
+pub mod inner

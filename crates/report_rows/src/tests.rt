@@ -1,0 +1,6 @@
+mod paths;
+mod plans;
+mod reports;
+mod results;
+mod rows;
+mod terms;

@@ -1,0 +1,48 @@
+//! Results of lines: the number of the component, the focus node, the value, the predicate and the number of
+//! the shape. `-` is for none.
+use super::terms::id_of;
+use comp_core::ResultRow;
+use row_tools::{RowFault, cut, in_four, number};
+use shx_term::{Id, Pool};
+use std::alloc::Global;
+
+fn optional(alloc: Global, pool: &Pool, word: &str) -> Result<Option<Id>, RowFault> {
+    match word {
+        "-" => Ok(None),
+        _ => Ok(Some(id_of(alloc, pool, word)?)),
+    }
+}
+
+fn kind_of(word: &str) -> Result<u8, RowFault> {
+    match word.parse::<u8>() {
+        Ok(kind) => Ok(kind),
+        Err(_) => Err(RowFault::Unread),
+    }
+}
+
+fn result_of(alloc: Global, pool: &Pool, line: &str) -> Result<ResultRow, RowFault> {
+    let (kind, focus, value, rest) = in_four(line, " ")?;
+    let (predicate, shape) = cut(rest, " ")?;
+    let kind = kind_of(kind)?;
+    let focus = id_of(alloc, pool, focus)?;
+    let value = optional(alloc, pool, value)?;
+    let predicate = optional(alloc, pool, predicate)?;
+    let shape = number(shape)?;
+    Ok(ResultRow::plain(alloc, focus, value, predicate, shape, kind)?)
+}
+
+/// The results of these lines.
+pub(super) fn results_of(
+    alloc: Global,
+    pool: &Pool,
+    lines: &str,
+) -> Result<Vec<ResultRow>, RowFault> {
+    let mut rows = Vec::new(alloc);
+    if lines == "-" {
+        return Ok(rows);
+    }
+    for line in lines.split('\n') {
+        rows.push(result_of(alloc, pool, line)?)?;
+    }
+    Ok(rows)
+}

@@ -1,0 +1,48 @@
+//! The terms of the tables, and their numbers.
+ghost use Rattle.std.specs.Prelude.{◌<◌, IfOk, length};
+
+use row_tools::{RowFault, term};
+use shx_term::vocabulary::VOCABULARY_LEN;
+use shx_term::{Id, Memory, Pool, Term};
+use std::alloc::Global;
+
+const TERMS: &str = r#"
+e:a e:b e:next e:p e:q e:grave e:S e:T e:U data:x data#7 shapes:s shapes#1 shapes#2 sh:Warning sh:Info
+'x' 'd'@de '5'^^integer '1971-07-07'^^date '987-65-432A' 'say"it\~again' 'none'@en 'rien'@fr
+e:Alice e:Bob e:Calvin e:ssn e:worksFor e:birthDate e:PersonShape e:UntypedCompany
+"#;
+
+// How many these are at most.
+const ROOM: u32 = 60;
+
+// The term of a word, in which a `~` is a line feed.
+fn term_of(alloc: Global, word: &str) -> Result<Term, RowFault> {
+    let word = word.replace(alloc, "~", "\n")?;
+    term(alloc, word.as_str())
+}
+
+/// A pool of these terms.
+pub(super) fn all_terms(alloc: Global) -> Result<Pool, RowFault> {
+    let mut pool = Pool::with_vocabulary(alloc, VOCABULARY_LEN + ROOM)?;
+    for word in TERMS.split_whitespace() {
+        pool.enter(&term_of(alloc, word)?)?;
+    }
+    Ok(pool)
+}
+
+/// The number of the term of a word.
+pub(super) fn id_of(alloc: Global, pool: &Pool, word: &str) -> Result<Id, RowFault>
+    ensures { IfOk result (λ id. id < length pool.now.terms) }
+{
+    match pool.find(&term_of(alloc, word)?) {
+        Some(id) if id < pool.len() => Ok(id),
+        _ => Err(RowFault::Unread),
+    }
+}
+
+/// A text with its IRIs spelled out: `{a}` is `http://e/a`, and `{xsd:date}` one of XML Schema.
+pub(super) fn spelled_out(alloc: Global, text: &str) -> Result<String, Memory> {
+    let text = text.replace(alloc, "{xsd:", "<http://www.w3.org/2001/XMLSchema#")?;
+    let text = text.as_str().replace(alloc, "{", "<http://e/")?;
+    text.as_str().replace(alloc, "}", ">")
+}

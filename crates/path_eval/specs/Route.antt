@@ -1,5 +1,5 @@
 -- What a path says (SHACL, section 2.3.1), without the places in memory at which its parts stand.
-use Rattle.std.specs.Prelude.{ℕ, suc, max, List, [], ◌∷◌, ◌++◌}
+use Rattle.std.specs.Prelude.{ℕ, ◌+◌, max, List, [], ◌∷◌, ◌++◌}
 use Rattle.path_eval.specs.declared.path.Path.{Path, Row_of-Path, end_of-Path, more_of-Path}
 use Rattle.path_eval.specs.declared.path.Path.{Pred, Seq', Alt', Inverse', ZeroOrMore', OneOrMore'}
 use Rattle.path_eval.specs.declared.path.Path.{ZeroOrOne'}
@@ -44,18 +44,18 @@ abbrev mutual
   among end_of-Path = none
   among (more_of-Path p members) = one_or_other (route_of p) (among members)
 
--- how deep a path nests: a predicate is one level, and what stands inside a path is one level deeper than it;
--- the parts of a sequence, and the members of an alternative, stand at one level
+-- how deep a path nests: a predicate once, and what stands around a path once more than it; the parts of a
+-- sequence, as the members of an alternative, stand side by side
 abbrev pub nesting : Route → ℕ
 nesting (along p) = 1
-nesting here = 1
-nesting (first_then r s) = max (suc (nesting r)) (nesting s)
-nesting none = 1
-nesting (one_or_other r s) = max (suc (nesting r)) (nesting s)
-nesting (turned r) = suc (nesting r)
-nesting (any_times r) = suc (nesting r)
-nesting (some_times r) = suc (nesting r)
-nesting (perhaps r) = suc (nesting r)
+nesting here = 0
+nesting (first_then r s) = max (nesting r + 1) (nesting s)
+nesting none = 0
+nesting (one_or_other r s) = max (nesting r + 1) (nesting s)
+nesting (turned r) = nesting r + 1
+nesting (any_times r) = nesting r + 1
+nesting (some_times r) = nesting r + 1
+nesting (perhaps r) = nesting r + 1
 
 -- the predicates that stand in a path
 abbrev pub predicates_in : Route → List ℕ

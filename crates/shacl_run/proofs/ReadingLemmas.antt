@@ -18,7 +18,7 @@ use Rattle.ttl_meaning.specs.State.{State}
 use Rattle.ttl_read.specs.Documents.{Setting, setting, IsStatement, start_of}
 use Rattle.ttl_read.specs.Grammar.{Place}
 use Rattle.ttl_read.specs.Unique.{IsOneFault}
-use Rattle.ttl_read.specs.inner.Stated.{States as states_document}
+use Rattle.ttl_read.specs.Stated.{States as states_document}
 use Rattle.report_write.specs.declared.answer.Answer.TheVariants.{TextFault}
 use Rattle.shacl_run.specs.declared.refusal.Refusal.TheVariants.{Text}
 use Rattle.shacl_run.specs.Readings.{TextReading, States, Faulty, Long, IsReadAs, IsKnownDocument}

@@ -4,12 +4,9 @@ use Rattle.std.specs.Prelude.{Option, Some}
 use Rattle.std.specs.Option.{option_or}
 use Rattle.std.proofs.Common.{ap, ◌∙◌, get_or, sym}
 use Rattle.std.proofs.lemmas.List.{at_drop_all, at_drop_more}
+use Rattle.shape_decl.proofs.LeftLemmas.{IsLeft}
 use Rattle.shape_check.specs.Faults.{first}
 use Rattle.shape_check.proofs.FirstLemmas.{empty_from_first, first-append}
-
--- what f says of the list it says of the part from i on
-pub record IsLeft {X Y : Type 0} (f : List X → Y) (xs : List X) (i : ℕ) : Type 0 where
-  pub same : f xs ≡ f (drop i xs)
 
 -- a loop that looks in turn at what f makes of each element, as h tells it
 module _ {X Y A : Type 0} (f : Y → List A) (h : X → Y) (xs : List X) (i : ℕ) where

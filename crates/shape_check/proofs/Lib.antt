@@ -2,5 +2,5 @@ pub mod FaultLemmas
 pub mod FirstLemmas
 pub mod KindLemmas
 pub mod LeftLemmas
-pub mod ParameterLemmas
-pub mod UnderLemmas
+pub mod ListLemmas
+pub mod WellFormedLemmas

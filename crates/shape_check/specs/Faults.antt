@@ -3,7 +3,7 @@
 use Rattle.std.specs.Prelude.{◌≡◌, ℕ, ◌==◌, Bool, true, false, ◌&&◌, not, List, [], ◌∷◌, ◌++◌, map}
 use Rattle.std.specs.Prelude.{flat_map, filter, take, drop, Option, Some, None, slice_get, codes}
 use Rattle.std.specs.Prelude.{if◌then◌else◌, ⊤}
-use Rattle.std.specs.List.{list_any, zip}
+use Rattle.std.specs.List.{list_any}
 use Rattle.std.specs.Option.{is_none, is_some}
 use Rattle.shx_term.specs.declared.fault_codes.TheConstants.{BAD_LIST, TOO_MANY_VALUES, WRONG_KIND}
 use Rattle.shx_term.specs.declared.fault_codes.TheConstants.{NOT_ON_NODE_SHAPE, BAD_PATH}
@@ -14,7 +14,7 @@ use Rattle.shx_term.specs.declared.term.Literal.{Literal}
 use Rattle.shx_term.specs.declared.term.Term.{Term}
 use Rattle.shx_term.specs.declared.vocabulary.TheConstants.{SH_PATH, SH_NODE, SH_PROPERTY, SH_FLAGS}
 use Rattle.graph_view.specs.Graph.{Graph}
-use Rattle.shape_decl.specs.Declarations.{Declaration, ListReading, Values, declarations}
+use Rattle.shape_decl.specs.Declarations.{Declaration, Values, declarations, lists_under}
 use Rattle.shape_decl.specs.PathReadings.{RouteReading, Read, Broken as BrokenPath, TooDeep as DeepPath}
 use Rattle.shape_decl.specs.Shapes.{members_or_none}
 use Rattle.shape_check.specs.declared.fault.CheckFault.{CheckFault}
@@ -47,21 +47,6 @@ is_too_deep (Some (Read route)) = false
 is_too_deep (Some BrokenPath) = false
 is_too_deep (Some DeepPath) = true
 is_too_deep None = false
-
-abbrev pub expects_lists : Expected → Bool
-expects_lists (Each kind) = false
-expects_lists (Lists kind) = true
-
--- the parameter of each list: lists stand in the order of the values that head them
-abbrev pub list_parameters : List Values → List ℕ
-list_parameters values = flat_map (λ v.
-    if expects_lists (restriction_of v.predicate).expected then map (λ value. v.predicate) v.values else [])
-    values
-
--- the lists that are values of a parameter
-abbrev pub lists_under : Declaration → ℕ → List ListReading
-lists_under d p =
-    map (λ under. under.1) (filter (λ under. under.0 == p) (zip (list_parameters d.values) d.lists))
 
 -- ---- the terms at which a shape breaks a rule, among the values of one predicate
 
@@ -139,13 +124,14 @@ faults_by terms ds d rule =
 abbrev pub faults_of : List Term → List Declaration → Declaration → List ShapeFault
 faults_of terms ds d = flat_map (faults_by terms ds d) rules
 
-abbrev pub one_too_many : Declaration → ShapeFault
-one_too_many d = record { code = TOO_MANY_SHAPES; shape = d.node; predicate = None; term = None }
+-- a node is one shape too many
+abbrev pub past_limit : ℕ → ShapeFault
+past_limit node = record { code = TOO_MANY_SHAPES; shape = node; predicate = None; term = None }
 
 -- where there are shapes past the limit, the first of these alone is told
 abbrev pub faults_before : List Term → List Declaration → List Declaration → List ShapeFault
 faults_before terms ds [] = flat_map (faults_of terms ds) ds
-faults_before terms ds (d ∷ past) = one_too_many d ∷ []
+faults_before terms ds (d ∷ past) = past_limit d.node ∷ []
 
 unfoldable pub faults : Limits → List Term → List Declaration → List ShapeFault
 faults limits terms ds = faults_before terms ds (drop limits.shapes ds)

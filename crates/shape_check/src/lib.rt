@@ -2,16 +2,16 @@
 //!
 //! | file | what it holds |
 //! |---|---|
-//! | `checking.rt` | `check`: the first fault of the declarations of a shapes graph |
+//! | `checking.rt` | `check`: the first fault of the declarations of a shapes graph; `check_shapes` |
 //! | `fault.rt` | `ShapeFault`: which shape breaks a rule, and where |
 //! | `rule.rt` | `Rule`: the rules, with their codes |
 //! | `offenders.rt` | the first term at which a rule is broken, among the values of one predicate |
 //! | `judged.rt` | what the rules look at beside these values |
 //! | `restrictions.rt` | the table: what is asked of the values of a predicate |
 //! | `kind.rt`, `kinds.rt` | of which kind a value is |
-//! | `lists.rt` | the lists of a shape, each under its parameter, and the first that breaks a rule |
+//! | `lists.rt` | the first of some lists that breaks a rule |
 //! | `shapes.rt` | the shapes that have a path |
-//! | `laws.rt` | that lists stand under the parameters whose values head them |
+//! | `laws.rt` | that accepted shapes are well formed |
 //!
 //! It stands on `shape_decl` for the declarations, and on `value_space` for booleans and integers that are
 //! well typed. Start with `checking.rt`; `specs/Faults.antt` is the whole list of faults, by rules of one
@@ -30,8 +30,8 @@ mod restrictions;
 mod rule;
 mod shapes;
 
-pub use checking::check;
+pub use checking::{check, check_shapes};
 pub use fault::{CheckFault, ShapeFault};
 pub use kind::{Expected, ValueKind};
-pub use laws::lists_stand_under_their_parameters;
+pub use laws::{accepted_literals_have_values, accepted_shapes_are_well_formed};
 pub use rule::Rule;

@@ -69,7 +69,7 @@ fn is_too_deep(path: &Option<PathReading>) -> bool
 fn broken_list(judged: &Judged, declared: &Declared) -> Option<Id>
     ensures { result ≡ first (offenders_in judged.now Rule.BadList (told_values declared.now)) }
 {
-    first_broken(judged.parameters, &judged.decl.lists, declared.predicate)
+    first_broken(judged.decl.lists_of(declared.predicate))
 }
 
 fn second_value(declared: &Declared) -> Option<Id>
@@ -88,13 +88,9 @@ fn of_other_kind(judged: &Judged, declared: &Declared) -> Option<Id>
 {
     match restriction_of(declared.predicate).expected {
         Expected::Each(kind) => first_unfit(judged.pool, kind, &declared.values),
-        Expected::Lists(kind) => first_unfit_member(
-            judged.parameters,
-            &judged.decl.lists,
-            declared.predicate,
-            judged.pool,
-            kind,
-        ),
+        Expected::Lists(kind) => {
+            first_unfit_member(judged.decl.lists_of(declared.predicate), judged.pool, kind)
+        }
     }
 }
 

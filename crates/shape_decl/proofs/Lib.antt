@@ -1,10 +1,16 @@
 pub mod CountLemmas
+pub mod DistinctLemmas
 pub mod FollowsLemmas
-pub mod InstanceLemmas
+pub mod KeptLemmas
+pub mod LeftLemmas
 pub mod ListLemmas
+pub mod NamedLemmas
+pub mod NestingLemmas
+pub mod NumberLemmas
 pub mod ObjectLemmas
 pub mod PathReadingLemmas
 pub mod RouteReadLemmas
 pub mod ShapeLemmas
+pub mod UnderLemmas
 pub mod ValuesLemmas
 pub mod VisitLemmas

@@ -126,7 +126,7 @@ module _ (cell : ℕ → Cell) where
 
 -- ---- in a graph
 
-first_of_link : (is_nil : Bool) (firsts rests : List ℕ) (member rest : ℕ)
+pub first_of_link : (is_nil : Bool) (firsts rests : List ℕ) (member rest : ℕ)
     → cell_of is_nil firsts rests ≡ Link member rest → firsts ≡ member ∷ []
 first_of_link true [] [] member rest e = cc
 first_of_link true [] (r ∷ rs) member rest e = cc

@@ -5,9 +5,9 @@ use Rattle.std.proofs.Common.{refl, sym, subst, inl, inr}
 use Rattle.std.proofs.lemmas.List.Elements.{Contains-append_left, Contains-append_right}
 use Rattle.std.proofs.lemmas.List.Elements.{Contains-append_cases}
 use Rattle.shx_term.specs.declared.triple.Triple.{Triple}
-use Rattle.shx_term.specs.IdOrder.{id_cmp}
+use Rattle.shx_term.specs.IdOrder.{id_cmp, in_term_order}
 use Rattle.shx_term.specs.InOrder.{Lists}
-use Rattle.shx_term.proofs.IdOrderLemmas.{in_term_order_lists}
+use Rattle.shx_term.proofs.IdOrderLemmas.{in_term_order_lists, in_term_order_same}
 use Rattle.shx_term.proofs.MemberLemmas.{none_in_empty, Contains-map, Contains-from_map, Contains-flat_map}
 use Rattle.shx_term.proofs.MemberLemmas.{Contains-from_flat_map, Contains-filter, Contains-from_filter}
 use Rattle.graph_view.specs.Graph.{Graph, AllKnown, triples_with}
@@ -22,6 +22,7 @@ use Rattle.shx_term.specs.TermKinds.{is_node}
 use Rattle.shape_decl.specs.Shapes.{candidates, members_or_none, members_with, objects_with}
 use Rattle.shape_decl.specs.Shapes.{shape_classes, shape_nodes, subjects_with}
 use Rattle.shape_decl.specs.Tables.{shape_list_predicates, shape_predicates, subject_predicates}
+use Rattle.shape_decl.specs.inner.Gathered.{gathered, heads, members_at}
 use Rattle.shape_decl.proofs.ListLemmas.{lists_read}
 
 either_told : {P Q : Type 0} (xs ys : List ℕ) (n : ℕ) → Contains xs n ↔ P → Contains ys n ↔ Q
@@ -31,6 +32,19 @@ either_told xs ys n first second = (
   λ h. elim h [
     | inl p ↦ Contains-append_left xs ys n (first.1 p)
     | inr q ↦ Contains-append_right xs ys n (second.1 q)
+  ],
+)
+
+either_alike : (xs ys zs : List ℕ) (n : ℕ) → Contains ys n ↔ Contains zs n
+    → Contains (xs ++ ys) n ↔ Contains (xs ++ zs) n
+either_alike xs ys zs n same = (
+  λ c. elim (Contains-append_cases xs ys n c) [
+    | inl d ↦ Contains-append_left xs zs n d
+    | inr d ↦ Contains-append_right xs zs n (same.0 d)
+  ],
+  λ c. elim (Contains-append_cases xs zs n c) [
+    | inl d ↦ Contains-append_left xs ys n d
+    | inr d ↦ Contains-append_right xs ys n (same.1 d)
   ],
 )
 
@@ -163,3 +177,62 @@ module _ (g : Graph) (known : AllKnown g) where
               (Contains-filter (is_node g.terms) (candidates g) n ((candidate n).1 is.cause) is.node),
         );
       }
+
+-- ---- what is gathered
+
+module _ (g : Graph) (n : ℕ) where
+  -- the members of the lists that heads head, each head taken once
+  same_members : Contains (flat_map (members_at g) (heads g)) n
+      ↔ Contains (flat_map (members_with g) shape_list_predicates) n
+  same_members =
+      let all = flat_map (objects_with g) shape_list_predicates in
+      let once = in_term_order_lists g.terms all in (
+        λ c.
+            let of_head = Contains-from_flat_map (members_at g) (heads g) n c in
+            let head = of_head.0 in
+            let of_table =
+            Contains-from_flat_map (objects_with g) shape_list_predicates head
+            ((once.each head).0 of_head.1) in
+            let p = of_table.0 in
+            let of_triple = Contains-from_map (λ t. t.o) (triples_with g p) head of_table.2 in
+            Contains-flat_map (members_with g) shape_list_predicates p n of_table.1
+            (Contains-flat_map (λ (t : Triple). members_at g t.o) (triples_with g p) of_triple.0 n of_triple.1
+            (subst (λ h. Contains (members_at g h) n) of_triple.2 of_head.2)),
+        λ c.
+            let of_table = Contains-from_flat_map (members_with g) shape_list_predicates n c in
+            let p = of_table.0 in
+            let of_triple =
+            Contains-from_flat_map (λ (t : Triple). members_at g t.o) (triples_with g p) n of_table.2 in
+            let t = of_triple.0 in
+            let held =
+            Contains-flat_map (objects_with g) shape_list_predicates p t.o of_table.1
+            (Contains-map (λ u. u.o) (triples_with g p) t of_triple.1) in
+            Contains-flat_map (members_at g) (heads g) t.o n ((once.each t.o).1 held) of_triple.2,
+      )
+
+  same_candidate : Contains (gathered g) n ↔ Contains (candidates g) n
+  same_candidate =
+      let instances = flat_map (nodes_reached g Backward instance_route) shape_classes in
+      let subjects = flat_map (subjects_with g) subject_predicates in
+      let values = flat_map (objects_with g) shape_predicates in
+      let once = flat_map (members_at g) (heads g) in
+      let members = flat_map (members_with g) shape_list_predicates in
+      let last = either_alike values once members n same_members in
+      let middle = either_alike subjects (values ++ once) (values ++ members) n last in
+      either_alike instances (subjects ++ (values ++ once)) (subjects ++ (values ++ members)) n middle
+
+-- so they are the shapes, once they are put in order
+pub gathered_shapes : (g : Graph)
+    → in_term_order g.terms (filter (is_node g.terms) (gathered g)) ≡ shape_nodes g
+unfolding shape_nodes
+gathered_shapes g =
+    let kept = filter (is_node g.terms) (gathered g) in
+    let due = filter (is_node g.terms) (candidates g) in
+    in_term_order_same g.terms kept due (λ n. (
+      λ c.
+          let found = Contains-from_filter (is_node g.terms) (gathered g) n c in
+          Contains-filter (is_node g.terms) (candidates g) n ((same_candidate g n).0 found.0) found.1,
+      λ c.
+          let found = Contains-from_filter (is_node g.terms) (candidates g) n c in
+          Contains-filter (is_node g.terms) (gathered g) n ((same_candidate g n).1 found.0) found.1,
+    ))

@@ -1,6 +1,7 @@
 -- The declarations of a shapes graph: each shape with what is stated of it.
-use Rattle.std.specs.Prelude.{ℕ, Bool, List, [], ◌∷◌, map, flat_map, Option, Some, None}
-use Rattle.std.specs.List.{range_with_len}
+use Rattle.std.specs.Prelude.{ℕ, ◌==◌, Bool, List, [], ◌∷◌, map, flat_map, length, take, drop}
+use Rattle.std.specs.Prelude.{Option, Some, None, if◌then◌else◌}
+use Rattle.std.specs.List.{list_any, range_with_len}
 use Rattle.std.specs.Option.{option_map}
 use Rattle.shx_term.specs.declared.limits.Limits.{Limits}
 use Rattle.shx_term.specs.declared.vocabulary.TheConstants.{RDFS_CLASS, SH_NODE_SHAPE, SH_PATH}
@@ -35,6 +36,35 @@ pub record Declaration : Type 0 where
   pub lists : List ListReading
   -- of the first value of sh:path in term order
   pub path : Option RouteReading
+
+-- ---- what a declaration says of one predicate
+
+abbrev pub values_among : List Values → ℕ → List ℕ
+values_among [] p = []
+values_among (row ∷ rows) p = if row.predicate == p then row.values else values_among rows p
+
+-- its values; none where the shape does not have it
+abbrev pub values_under : Declaration → ℕ → List ℕ
+values_under d p = values_among d.values p
+
+-- the predicate is a parameter that expects lists
+abbrev pub takes_lists : ℕ → Bool
+takes_lists p = list_any (λ list_predicate. list_predicate == p) list_predicates
+
+-- how many lists its values are
+abbrev pub lists_in : Values → ℕ
+lists_in row = if takes_lists row.predicate then length row.values else 0
+
+-- lists stand in the order of the values that head them: behind those of the rows before, as many as values
+abbrev pub lists_among : List Values → List ListReading → ℕ → List ListReading
+lists_among [] lists p = []
+lists_among (row ∷ rows) lists p =
+    if row.predicate == p then take (length row.values) lists
+    else lists_among rows (drop (lists_in row) lists) p
+
+-- the lists that are its values; none where it is no parameter that expects lists
+abbrev pub lists_under : Declaration → ℕ → List ListReading
+lists_under d p = if takes_lists p then lists_among d.values d.lists p else []
 
 -- ---- what the graph states of a node
 

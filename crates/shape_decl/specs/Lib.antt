@@ -1,5 +1,8 @@
 pub mod Declarations
+pub mod Laws
 pub mod Lists
+pub mod Nesting
+pub mod Numbers
 pub mod PathForms
 pub mod PathReadings
 pub mod Shapes

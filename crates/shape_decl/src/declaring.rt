@@ -5,38 +5,40 @@ ghost use Rattle.graph_view.specs.Graph.{objects_of, triples_of};
 ghost use Rattle.shape_decl.specs.PathReadings.{told_reading};
 ghost use Rattle.shape_decl.specs.Declarations.{declaration_of, told_decl, told_values, told_list};
 ghost use Rattle.shape_decl.specs.Declarations.{list_reading, lists_of, path_of, unless_empty, values_of};
+ghost use Rattle.shape_decl.specs.inner.Kept.{AreReadingsOf, IsKnownOf};
 
+use crate::knowing::known_path;
+use crate::lists::known_list;
+use crate::readings::{Known, Readings};
 use crate::tables::list_predicates;
-use crate::{Declared, ListValue, PathReading, ShapeDecl, read_list, read_path};
+use crate::{Declared, ListValue, PathReading, ShapeDecl};
 use graph_view::{GraphView, Key, Reads, objects_among};
-use path_eval::classes;
-use shx_term::vocabulary::{RDFS_CLASS, SH_NODE_SHAPE, SH_PATH, VOCABULARY_LEN};
+use shx_term::vocabulary::{SH_PATH, VOCABULARY_LEN};
 use shx_term::{Id, Limits, Memory, Triple};
 use std::alloc::Global;
 
 /// What a graph states of a node. It asks the graph once for the triples of the node, and goes over them once
-/// for each predicate of the vocabulary. What is read is not asked for: `reads` is made empty for each node,
-/// so that one set serves them all.
+/// for each predicate of the vocabulary.
 pub(crate) fn declare<V: GraphView>(
     alloc: Global,
     graph: &V,
     limits: &Limits,
     node: Id,
-    reads: &mut Reads,
+    known: &mut Known,
 ) -> Result<ShapeDecl, Memory>
-    ensures { IfOk result (λ decl.
+    requires { IsKnownOf limits.now (V.graph graph.now) known.old }
+    ensures declared { IfOk result (λ decl.
         told_decl decl ≡ declaration_of limits.now (V.graph graph.now) node) }
+    ensures known { OnOk result (IsKnownOf limits.now (V.graph graph.now) known.new) }
 {
-    reads.clear();
-    let triples = graph.triples_of(alloc, node, reads)?;
-    let classes = classes(alloc, graph, node, reads)?;
+    let triples = graph.triples_of(alloc, node, &mut Reads::new(alloc))?;
     Ok(ShapeDecl {
         node,
-        is_node_shape: classes.contains(&SH_NODE_SHAPE),
-        is_class: classes.contains(&RDFS_CLASS),
+        is_node_shape: known.node_shapes.contains(&node),
+        is_class: known.classes.contains(&node),
         values: declared_values(alloc, graph, node, &triples)?,
-        lists: declared_lists(alloc, graph, node, &triples)?,
-        path: declared_path(alloc, graph, node, &triples, limits)?,
+        lists: declared_lists(alloc, graph, node, &triples, &mut known.readings)?,
+        path: declared_path(alloc, graph, node, &triples, limits, known)?,
     })
 }
 
@@ -88,14 +90,17 @@ fn declared_lists<V: GraphView>(
     graph: &V,
     node: Id,
     triples: &[Triple],
+    readings: &mut Readings,
 ) -> Result<Vec<ListValue>, Memory>
-    requires { triples.now ≡ triples_of (V.graph graph.now) node }
-    ensures { IfOk result (λ found. map told_list found.items ≡ lists_of (V.graph graph.now) node) }
+    requires triples { triples.now ≡ triples_of (V.graph graph.now) node }
+    requires known { AreReadingsOf (V.graph graph.now) readings.old }
+    ensures lists { IfOk result (λ found. map told_list found.items ≡ lists_of (V.graph graph.now) node) }
+    ensures known { OnOk result (AreReadingsOf (V.graph graph.now) readings.new) }
 {
     let mut found = Vec::new(alloc);
     for p in list_predicates() {
         let heads = values_among(alloc, graph, node, triples, *p)?;
-        add_lists(alloc, graph, &heads, &mut found)?;
+        add_lists(alloc, graph, &heads, readings, &mut found)?;
     }
     Ok(found)
 }
@@ -104,13 +109,16 @@ fn add_lists<V: GraphView>(
     alloc: Global,
     graph: &V,
     heads: &[Id],
+    readings: &mut Readings,
     found: &mut Vec<ListValue>,
 ) -> Result<(), Memory>
-    ensures { OnOk result (map told_list found.new.items
+    requires { AreReadingsOf (V.graph graph.now) readings.old }
+    ensures lists { OnOk result (map told_list found.new.items
         ≡ map told_list found.old.items ++ map (list_reading (V.graph graph.now)) heads.now) }
+    ensures known { OnOk result (AreReadingsOf (V.graph graph.now) readings.new) }
 {
     for head in heads {
-        let members = read_list(alloc, graph, *head)?;
+        let members = known_list(alloc, graph, *head, readings)?;
         found.push(ListValue {
             head: *head,
             members,
@@ -126,14 +134,17 @@ fn declared_path<V: GraphView>(
     node: Id,
     triples: &[Triple],
     limits: &Limits,
+    known: &mut Known,
 ) -> Result<Option<PathReading>, Memory>
-    requires { triples.now ≡ triples_of (V.graph graph.now) node }
-    ensures { IfOk result (λ path.
+    requires triples { triples.now ≡ triples_of (V.graph graph.now) node }
+    requires known { IsKnownOf limits.now (V.graph graph.now) known.old }
+    ensures path { IfOk result (λ path.
         option_map told_reading path ≡ path_of limits.now (V.graph graph.now) node) }
+    ensures known { OnOk result (IsKnownOf limits.now (V.graph graph.now) known.new) }
 {
     let heads = values_among(alloc, graph, node, triples, SH_PATH)?;
     match heads.first() {
         None => Ok(None),
-        Some(head) => Ok(Some(read_path(alloc, graph, *head, limits)?)),
+        Some(head) => Ok(Some(known_path(alloc, graph, limits, *head, known)?)),
     }
 }

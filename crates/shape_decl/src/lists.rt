@@ -1,9 +1,12 @@
 //! SHACL lists.
-ghost use Rattle.std.specs.Prelude.{◌≡◌, IfOk};
+ghost use Rattle.std.specs.Prelude.{◌≡◌, IfOk, OnOk};
 ghost use Rattle.std.specs.Option.{option_map};
 ghost use Rattle.shape_decl.specs.Lists.{cell_of, cell_at, list_of};
+ghost use Rattle.shape_decl.specs.inner.Kept.{AreReadingsOf};
 
 use crate::Cell;
+use crate::knowing::no_readings;
+use crate::readings::Readings;
 use graph_view::{GraphView, Reads};
 use indexmap::IndexSet;
 use shx_term::vocabulary::{RDF_FIRST, RDF_NIL, RDF_REST};
@@ -20,11 +23,65 @@ pub fn read_list<V: GraphView>(
     ensures { IfOk result (λ found.
         option_map (λ members. members.items) found ≡ list_of (V.graph graph.now) head) }
 {
+    followed(alloc, graph, head, &mut no_readings(alloc))
+}
+
+/// The same. What was read before is copied.
+pub(crate) fn known_list<V: GraphView>(
+    alloc: Global,
+    graph: &V,
+    head: Id,
+    readings: &mut Readings,
+) -> Result<Option<Vec<Id>>, Memory>
+    requires { AreReadingsOf (V.graph graph.now) readings.old }
+    ensures list { IfOk result (λ found.
+        option_map (λ members. members.items) found ≡ list_of (V.graph graph.now) head) }
+    ensures known { OnOk result (AreReadingsOf (V.graph graph.now) readings.new) }
+{
+    if let Some(list) = readings.lists.get(&head) {
+        return copied(alloc, list);
+    }
+    let list = followed(alloc, graph, head, readings)?;
+    let copy = copied(alloc, &list)?;
+    readings.lists.insert(head, list)?;
+    Ok(copy)
+}
+
+fn copied(alloc: Global, list: &Option<Vec<Id>>) -> Result<Option<Vec<Id>>, Memory>
+    ensures { IfOk result (λ copy. option_map (λ members. members.items) copy
+        ≡ option_map (λ members. members.items) list.now) }
+{
+    match list {
+        Some(members) => Ok(Some(copied_members(alloc, members)?)),
+        None => Ok(None),
+    }
+}
+
+fn copied_members(alloc: Global, members: &[Id]) -> Result<Vec<Id>, Memory>
+    ensures { IfOk result (λ copy. copy.items ≡ members.now) }
+{
+    let mut copy = Vec::with_capacity(alloc, members.len())?;
+    copy.extend_from_slice(members)?;
+    Ok(copy)
+}
+
+/// The same, with no list kept: from cell to cell, up to the end or a node that was passed before.
+pub(crate) fn followed<V: GraphView>(
+    alloc: Global,
+    graph: &V,
+    head: Id,
+    readings: &mut Readings,
+) -> Result<Option<Vec<Id>>, Memory>
+    requires { AreReadingsOf (V.graph graph.now) readings.old }
+    ensures list { IfOk result (λ found.
+        option_map (λ members. members.items) found ≡ list_of (V.graph graph.now) head) }
+    ensures known { AreReadingsOf (V.graph graph.now) readings.new }
+{
     let mut seen = IndexSet::new(alloc);
     let mut members = Vec::new(alloc);
     let mut at = head;
     'cells: loop {
-        match read_cell(alloc, graph, at)? {
+        match known_cell(alloc, graph, at, readings)? {
             Cell::End => return Ok(Some(members)),
             Cell::Link(first, rest) => {
                 if !seen.insert(at)? {
@@ -36,6 +93,25 @@ pub fn read_list<V: GraphView>(
             Cell::Neither => return Ok(None),
         }
     }
+}
+
+// What a node is in a list. A node is asked for once.
+fn known_cell<V: GraphView>(
+    alloc: Global,
+    graph: &V,
+    node: Id,
+    readings: &mut Readings,
+) -> Result<Cell, Memory>
+    requires { AreReadingsOf (V.graph graph.now) readings.old }
+    ensures cell { IfOk result (λ cell. cell ≡ cell_at (V.graph graph.now) node) }
+    ensures known { AreReadingsOf (V.graph graph.now) readings.new }
+{
+    if let Some(cell) = readings.cells.get(&node) {
+        return Ok(*cell);
+    }
+    let cell = read_cell(alloc, graph, node)?;
+    readings.cells.insert(node, cell)?;
+    Ok(cell)
 }
 
 fn read_cell<V: GraphView>(alloc: Global, graph: &V, node: Id) -> Result<Cell, Memory>

@@ -3,12 +3,14 @@ ghost use Rattle.std.specs.Prelude.{◌≡◌, ◌<◌, [], ◌∷◌, map, Ok, 
 ghost use Rattle.path_eval.specs.Route.{route_of};
 ghost use Rattle.shape_decl.specs.declared.path_fault.PathFault.{PathFault};
 ghost use Rattle.shape_decl.specs.PathReadings.{route_at};
+ghost use Rattle.shape_decl.specs.inner.Kept.{AreReadingsOf};
 ghost use Rattle.shape_decl.specs.inner.ToldForm.{told_form};
 ghost use Rattle.shape_decl.specs.inner.Visits.{counted, row_visits, visits, Meets};
 
 use crate::PathFault;
 use crate::form::Form;
 use crate::forms::read_form;
+use crate::readings::Readings;
 use graph_view::GraphView;
 use path_eval::Path;
 use shx_term::Id;
@@ -24,38 +26,41 @@ pub(crate) fn read_node<V: GraphView>(
     left: u32,
     limit: u32,
     parts: &mut u32,
+    readings: &mut Readings,
 ) -> Result<Path, PathFault>
+    requires { AreReadingsOf (V.graph graph.now) readings.old }
+    ensures known { AreReadingsOf (V.graph graph.now) readings.new }
     ensures counted { OnOk result
         (counted (V.graph graph.now) limit parts.old (visits (V.graph graph.now) left node) ≡ Ok parts.new) }
     ensures path { IfOk result (λ path. route_of path ≡ route_at (V.graph graph.now) left node) }
     ensures fault { IfErr result (λ fault. (fault ≡ PathFault.Memory → ⊥)
         → counted (V.graph graph.now) limit parts.old (visits (V.graph graph.now) left node) ≡ Err fault) }
 {
-    let form = meet(alloc, graph, node, left, limit, parts)?;
+    let form = meet(alloc, graph, node, left, limit, parts, readings)?;
     match &form {
         Form::Predicate => Ok(Path::Pred(node)),
         Form::Sequence(nodes) => {
-            let paths = read_nodes(alloc, graph, nodes, left - 1, limit, parts)?;
+            let paths = read_nodes(alloc, graph, nodes, left - 1, limit, parts, readings)?;
             Ok(Path::Seq(paths))
         }
         Form::Alternative(nodes) => {
-            let paths = read_nodes(alloc, graph, nodes, left - 1, limit, parts)?;
+            let paths = read_nodes(alloc, graph, nodes, left - 1, limit, parts, readings)?;
             Ok(Path::Alt(paths))
         }
         Form::Inverse(inside) => {
-            let path = read_inside(alloc, graph, *inside, left - 1, limit, parts)?;
+            let path = read_inside(alloc, graph, *inside, left - 1, limit, parts, readings)?;
             Ok(Path::Inverse(path))
         }
         Form::ZeroOrMore(inside) => {
-            let path = read_inside(alloc, graph, *inside, left - 1, limit, parts)?;
+            let path = read_inside(alloc, graph, *inside, left - 1, limit, parts, readings)?;
             Ok(Path::ZeroOrMore(path))
         }
         Form::OneOrMore(inside) => {
-            let path = read_inside(alloc, graph, *inside, left - 1, limit, parts)?;
+            let path = read_inside(alloc, graph, *inside, left - 1, limit, parts, readings)?;
             Ok(Path::OneOrMore(path))
         }
         Form::ZeroOrOne(inside) => {
-            let path = read_inside(alloc, graph, *inside, left - 1, limit, parts)?;
+            let path = read_inside(alloc, graph, *inside, left - 1, limit, parts, readings)?;
             Ok(Path::ZeroOrOne(path))
         }
         Form::Formless => Err(PathFault::Broken),
@@ -71,7 +76,10 @@ fn read_nodes<V: GraphView>(
     left: u32,
     limit: u32,
     parts: &mut u32,
+    readings: &mut Readings,
 ) -> Result<Vec<Path>, PathFault>
+    requires { AreReadingsOf (V.graph graph.now) readings.old }
+    ensures known { AreReadingsOf (V.graph graph.now) readings.new }
     ensures counted { OnOk result (counted (V.graph graph.now) limit parts.old
         (row_visits (V.graph graph.now) left nodes.now) ≡ Ok parts.new) }
     ensures paths { IfOk result (λ paths.
@@ -82,7 +90,7 @@ fn read_nodes<V: GraphView>(
 {
     let mut paths = Vec::new(alloc);
     for node in nodes {
-        let path = read_node(alloc, graph, *node, left, limit, parts)?;
+        let path = read_node(alloc, graph, *node, left, limit, parts, readings)?;
         paths.push(path)?;
     }
     Ok(paths)
@@ -97,7 +105,10 @@ fn read_inside<V: GraphView>(
     left: u32,
     limit: u32,
     parts: &mut u32,
+    readings: &mut Readings,
 ) -> Result<Box<Path>, PathFault>
+    requires { AreReadingsOf (V.graph graph.now) readings.old }
+    ensures known { AreReadingsOf (V.graph graph.now) readings.new }
     ensures counted { OnOk result (counted (V.graph graph.now) limit parts.old
         (row_visits (V.graph graph.now) left (node ∷ [])) ≡ Ok parts.new) }
     ensures path { IfOk result (λ path. route_of path.value ≡ route_at (V.graph graph.now) left node) }
@@ -105,7 +116,7 @@ fn read_inside<V: GraphView>(
         → counted (V.graph graph.now) limit parts.old (row_visits (V.graph graph.now) left (node ∷ []))
         ≡ Err fault) }
 {
-    let path = read_node(alloc, graph, node, left, limit, parts)?;
+    let path = read_node(alloc, graph, node, left, limit, parts, readings)?;
     Ok(Box::new(alloc, path)?)
 }
 
@@ -117,7 +128,10 @@ fn meet<V: GraphView>(
     left: u32,
     limit: u32,
     parts: &mut u32,
+    readings: &mut Readings,
 ) -> Result<Form, PathFault>
+    requires { AreReadingsOf (V.graph graph.now) readings.old }
+    ensures known { AreReadingsOf (V.graph graph.now) readings.new }
     ensures level { OnOk result (0 < left) }
     ensures met { IfOk result (λ form.
         Meets (V.graph graph.now) limit parts.old parts.new left node (told_form form)) }
@@ -128,5 +142,5 @@ fn meet<V: GraphView>(
         return Err(PathFault::TooDeep);
     }
     *parts += 1;
-    Ok(read_form(alloc, graph, node)?)
+    Ok(read_form(alloc, graph, node, readings)?)
 }

@@ -5,22 +5,23 @@ ghost use Rattle.graph_view.specs.Graph.{triples_with};
 ghost use Rattle.path_eval.specs.declared.direction.Direction.{Direction};
 ghost use Rattle.path_eval.specs.Instances.{instance_route};
 ghost use Rattle.path_eval.specs.Values.{nodes_reached};
-ghost use Rattle.shape_decl.specs.Lists.{list_of};
 ghost use Rattle.shx_term.specs.TermKinds.{is_node};
-ghost use Rattle.shape_decl.specs.Shapes.{members_or_none, members_with, objects_with, shape_nodes};
-ghost use Rattle.shape_decl.specs.Shapes.{candidates, subjects_with};
+ghost use Rattle.shape_decl.specs.Shapes.{objects_with, shape_nodes, subjects_with};
+ghost use Rattle.shape_decl.specs.inner.Gathered.{gathered, members_at};
+ghost use Rattle.shape_decl.specs.inner.Kept.{AreReadingsOf};
 
-use crate::read_list;
+use crate::knowing::no_readings;
+use crate::lists::followed;
+use crate::readings::Readings;
 use crate::tables::{shape_classes, shape_list_predicates, shape_predicates, subject_predicates};
 use graph_view::{GraphView, Reads};
 use path_eval::instances;
 use shx_term::{Id, Memory, Pool, Term, Triple};
 use std::alloc::Global;
 
-/// The shapes of a graph in term order, each once. It asks the graph by predicate, and follows the path of
-/// instances back from the two classes of shapes.
-#[tactic(auto, unfolding(crate::specs::Shapes::shape_nodes))]
-pub(crate) fn find_shapes<V: GraphView>(alloc: Global, graph: &V) -> Result<Vec<Id>, Memory>
+/// The shapes of a graph in term order, each once (SHACL, section 2). It asks the graph by predicate, and
+/// follows the path of instances back from the two classes of shapes.
+pub fn find_shapes<V: GraphView>(alloc: Global, graph: &V) -> Result<Vec<Id>, Memory>
     ensures { IfOk result (λ nodes. nodes.items ≡ shape_nodes (V.graph graph.now)) }
 {
     let mut found = gather(alloc, graph)?;
@@ -28,15 +29,18 @@ pub(crate) fn find_shapes<V: GraphView>(alloc: Global, graph: &V) -> Result<Vec<
     Ok(graph.pool().in_order(found))
 }
 
-// All that may be a shape, literals among them, with repeats.
+// All that may be a shape, literals among them, with repeats. Heads of lists are taken once each.
 fn gather<V: GraphView>(alloc: Global, graph: &V) -> Result<Vec<Id>, Memory>
-    ensures { IfOk result (λ found. found.items ≡ candidates (V.graph graph.now)) }
+    ensures { IfOk result (λ found. found.items ≡ gathered (V.graph graph.now)) }
 {
+    let mut heads = Vec::new(alloc);
+    gather_objects(alloc, graph, shape_list_predicates(), &mut heads)?;
+    let heads = graph.pool().in_order(heads);
     let mut found = Vec::new(alloc);
     gather_instances(alloc, graph, shape_classes(), &mut found)?;
     gather_subjects(alloc, graph, subject_predicates(), &mut found)?;
     gather_objects(alloc, graph, shape_predicates(), &mut found)?;
-    gather_members(alloc, graph, shape_list_predicates(), &mut found)?;
+    gather_members(alloc, graph, &heads, &mut no_readings(alloc), &mut found)?;
     Ok(found)
 }
 
@@ -106,36 +110,39 @@ fn add_objects(triples: &[Triple], found: &mut Vec<Id>) -> Result<(), Memory>
     Ok(())
 }
 
+// The members of lists, one list after the other.
 fn gather_members<V: GraphView>(
     alloc: Global,
     graph: &V,
-    predicates: &[Id],
+    heads: &[Id],
+    readings: &mut Readings,
     found: &mut Vec<Id>,
 ) -> Result<(), Memory>
+    requires { AreReadingsOf (V.graph graph.now) readings.old }
     ensures { OnOk result (found.new.items
-        ≡ found.old.items ++ flat_map (members_with (V.graph graph.now)) predicates.now) }
+        ≡ found.old.items ++ flat_map (members_at (V.graph graph.now)) heads.now) }
 {
-    for p in predicates {
-        let triples = graph.triples_with(alloc, *p, &mut Reads::new(alloc))?;
-        add_members(alloc, graph, &triples, found)?;
+    for head in heads {
+        add_members(alloc, graph, *head, readings, found)?;
     }
     Ok(())
 }
 
-// A value that is no list has no members.
+// A node that is no list has no members.
 fn add_members<V: GraphView>(
     alloc: Global,
     graph: &V,
-    triples: &[Triple],
+    head: Id,
+    readings: &mut Readings,
     found: &mut Vec<Id>,
 ) -> Result<(), Memory>
-    ensures { OnOk result (found.new.items ≡ found.old.items
-        ++ flat_map (λ t. members_or_none (list_of (V.graph graph.now) t.o)) triples.now) }
+    requires { AreReadingsOf (V.graph graph.now) readings.old }
+    ensures known { AreReadingsOf (V.graph graph.now) readings.new }
+    ensures added { OnOk result (found.new.items
+        ≡ found.old.items ++ members_at (V.graph graph.now) head) }
 {
-    for t in triples {
-        if let Some(members) = read_list(alloc, graph, t.o)? {
-            found.extend_from_slice(&members)?;
-        }
+    if let Some(members) = followed(alloc, graph, head, readings)? {
+        found.extend_from_slice(&members)?;
     }
     Ok(())
 }

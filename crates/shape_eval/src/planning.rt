@@ -39,8 +39,8 @@ impl Plan {
         self.shapes.len() as u32
     }
 
-    /// The numbers of the active shapes that have a target, in the order of the terms of their nodes. It takes
-    /// no memory.
+    /// The numbers of the active shapes that have a target, in the order of the terms of their nodes. It
+    /// takes no memory.
     pub fn targeted(&self) -> &[ShapeNo]
         ensures targeted { result.now ≡ (plan_of self.now).targeted }
         ensures within { All (λ n. n < length (plan_of self.now).shapes) result.now }

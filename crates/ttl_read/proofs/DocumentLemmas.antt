@@ -19,18 +19,18 @@ use Rattle.ttl_meaning.specs.declared.stated.Excess.TheVariants.{Triples, Terms}
 use Rattle.ttl_meaning.specs.declared.stated.Stated.{Stated}
 use Rattle.ttl_meaning.specs.inner.DocumentOf.{IsDocumentOf}
 use Rattle.ttl_meaning.specs.inner.IsReading.{IsReading}
-use Rattle.ttl_meaning.specs.IsStated.{Bounds, IsWithin}
+use Rattle.ttl_meaning.specs.IsStated.{Bounds, IsWithin, terms_with}
 use Rattle.ttl_meaning.specs.State.{State, first_state}
 use Rattle.ttl_read.specs.declared.fault.TtlFault.{TtlFault}
 use Rattle.ttl_read.specs.declared.fault.TtlFault.TheVariants.{At, Memory}
 use Rattle.ttl_read.specs.declared.reader.Reader.{Reader}
 use Rattle.ttl_read.specs.Documents.{Setting, IsStatement, HasCause, IsAtEnd, BeginsAt, HasBadStatement}
-use Rattle.ttl_read.specs.Documents.{HasFault, HoldsRead, Reaches}
+use Rattle.ttl_read.specs.Documents.{HasFault, Reaches}
 use Rattle.ttl_read.specs.Documents.{first_byte, start_of, code_of, place_of}
 use Rattle.ttl_read.specs.Grammar.{Place}
 use Rattle.ttl_read.specs.inner.Reads.{Stands, IsNext, place, start_of_next}
 use Rattle.ttl_read.specs.inner.Sound.{IsSound, Led, LedWrong, Concludes, Holds, IsGood, is_end_next}
-use Rattle.ttl_read.specs.inner.Stated.{States, FaultStands}
+use Rattle.ttl_read.specs.Stated.{States, FaultStands, HoldsRead, HoldsBefore, HoldsAllBefore}
 use Rattle.ttl_read.specs.Unique.{One, IsOneFault}
 use Rattle.ttl_read.proofs.KindLemmas.{kind_is_not}
 use Rattle.ttl_read.proofs.UniqueLemmas.{chain, end_never}
@@ -73,26 +73,6 @@ not_at_end text at (Ok token) utf8 here more end =
     kind_is_not End token.kind more (ap (λ (t : Token). t.kind) same ∙ end.2)
 not_at_end text at (Err none) utf8 here more end = token_or_none text at none.at end.0 utf8 end.1 here
 
-pub concludes_wrong : (t : Setting) (r : Reader) (p : Pooled) (m : Reader) (q : Pooled) (n : Reader)
-    (o : Pooled)
-    (r' : Reader) (p' : Pooled) (e : TtlFault) (result : Result (Unit {0}) TtlFault)
-    → IsUtf8 t.text → IsErrAnd result (λ z. z ≡ e) → Leading t r p m q → Stands t.text m.tokens
-    → is_end_next m.tokens.next ≡ false → IsSound t m q n o (Err e) → Concludes t r p r' p' result
-concludes_wrong t r p m q n o r' p' e (Ok u) utf8 is leading stands more sound = absurd is
-concludes_wrong t r p m q n o r' p' e (Err (At code at)) utf8 is leading stands more sound = λ s reads.
-    let here = leading s reads in
-    let fault = subst (λ (f : TtlFault). IsSound t m q n o (Err f)) (sym is) sound in
-    record {
-      reached = place m here.state;
-      count = here.count;
-      statements = here.statements;
-      start = start_of_next m.tokens.next;
-      begins = begins_here t.text m.tokens.place m.tokens.next stands.next;
-      more = not_at_end t.text m.tokens.place m.tokens.next utf8 stands.next more;
-      cause = fault here.state here.reads;
-    }
-concludes_wrong t r p m q n o r' p' e (Err Memory) utf8 is leading stands more sound = tt
-
 pub begins_once : (text : List ℕ) (at n m : ℕ) → IsUtf8 text → BeginsAt text at n → BeginsAt text at m → n ≡ m
 begins_once text at n m utf8 (inl a) (inl b) =
     sym a.2 ∙ ap (λ (t : Token). t.start) (one_token text at a.0 b.0 utf8 a.1 b.1) ∙ b.2
@@ -122,11 +102,10 @@ sound_chain t (suc n) x y s = (s.0, s.1.is, sound_chain t n s.0 y s.2)
 
 -- ---- the pool
 
--- whatever is kept behind statements without fault, the pool holds their terms
-pub holds_led : (t : Setting) (r : Reader) (p : Pooled) (m : Reader) (q : Pooled) (s : State) (p' : Pooled)
-    → Leading t r p m q → p'.terms ≡ q.terms → Holds t r p s p'
-holds_led t r p m q s p' leading same = λ good reads.
-    let here = leading s reads in
+-- where statements without fault lead, the pool holds their terms
+led_terms : (t : Setting) (r : Reader) (p : Pooled) (m : Reader) (q : Pooled) (s : State)
+    (here : Led t r p s m q) → IsGood t.bounds s → q.terms ≡ terms_with t.bounds here.state.triples
+led_terms t r p m q s here good =
     let y = place m here.state in
     let statements = sound_chain t here.count (place r s) y here.statements in
     let behind = good_behind t here.count (place r s) y statements good in
@@ -134,7 +113,38 @@ holds_led t r p m q s p' leading same = λ good reads.
     let none = no_excess m.reading.stated.excess t.bounds here.state m.reading.stated q behind within in
     let all = subst (λ (e : Option Excess). IsWithin e t.bounds here.state.triples m.reading.stated q) none
     within in
-    (y, (here.count, statements), same ∙ all.2)
+    all.2
+
+-- whatever is kept behind statements without fault, the pool holds their terms
+pub holds_led : (t : Setting) (r : Reader) (p : Pooled) (m : Reader) (q : Pooled) (s : State) (p' : Pooled)
+    → Leading t r p m q → p'.terms ≡ q.terms → Holds t r p s p'
+holds_led t r p m q s p' leading same = λ good reads.
+    let here = leading s reads in
+    let statements = sound_chain t here.count (place r s) (place m here.state) here.statements in
+    (place m here.state, (here.count, statements), same ∙ led_terms t r p m q s here good)
+
+-- ... and where the next one has a fault
+pub concludes_wrong : (t : Setting) (r : Reader) (p : Pooled) (m : Reader) (q : Pooled) (n : Reader)
+    (o : Pooled)
+    (r' : Reader) (p' : Pooled) (e : TtlFault) (result : Result (Unit {0}) TtlFault)
+    → IsUtf8 t.text → p'.terms ≡ q.terms → IsErrAnd result (λ z. z ≡ e) → Leading t r p m q
+    → Stands t.text m.tokens → is_end_next m.tokens.next ≡ false → IsSound t m q n o (Err e)
+    → Concludes t r p r' p' result
+concludes_wrong t r p m q n o r' p' e (Ok u) utf8 same is leading stands more sound = absurd is
+concludes_wrong t r p m q n o r' p' e (Err (At code at)) utf8 same is leading stands more sound = λ s reads.
+    let here = leading s reads in
+    let fault = subst (λ (f : TtlFault). IsSound t m q n o (Err f)) (sym is) sound in
+    record {
+      reached = place m here.state;
+      count = here.count;
+      statements = here.statements;
+      start = start_of_next m.tokens.next;
+      begins = begins_here t.text m.tokens.place m.tokens.next stands.next;
+      more = not_at_end t.text m.tokens.place m.tokens.next utf8 stands.next more;
+      cause = fault here.state here.reads;
+      terms = λ good. same ∙ led_terms t r p m q s here good;
+    }
+concludes_wrong t r p m q n o r' p' e (Err Memory) utf8 same is leading stands more sound = tt
 
 -- at the start, where so many terms are held
 first_good : (t : Setting) (scope : Scope) (base : List ℕ) {n : ℕ} → n ≡ length t.bounds.held
@@ -189,36 +199,34 @@ end_sound t n x y code at utf8 r end bad = go (chain t n bad.statements.0 x y ba
     go (inr one) = one.1.sound bad.cause.0 bad.cause.1
 
 -- where they lead to a fault, they lead to no other, and to no end
-fault_only : (t : Setting) (x : Place) (code at c a : ℕ) → IsUtf8 t.text → LedWrong t x code at
-    → HasBadStatement t x c a → (code ≡ c) × (at ≡ a)
-fault_only t x code at c a utf8 wrong bad =
+wrong_place : (t : Setting) (x : Place) (pool : Pooled) (code at c a : ℕ) (wrong : LedWrong t x pool code at)
+    (bad : HasBadStatement t x c a) → wrong.reached ≡ bad.reached
+wrong_place t x pool code at c a wrong bad =
     go (chain t wrong.count bad.statements.0 x wrong.reached bad.reached wrong.statements bad.statements.1)
   where
-    begins_same : (n m : ℕ) (v : Place) → BeginsAt t.text v.at n → BeginsAt t.text v.at m → n ≡ m
-    begins_same n m v b d = begins_once t.text v.at n m utf8 b d
-
-    same : wrong.reached ≡ bad.reached → (code ≡ c) × (at ≡ a)
-    same e =
-        let cause : wrong.cause.0 ≡ bad.cause.0 =
-        wrong.cause.1.only bad.cause.0
-        (subst (λ (v : Place). HasCause t v bad.cause.0) (sym e) bad.cause.1) in
-        let begin : wrong.start ≡ bad.start =
-        begins_same wrong.start bad.start wrong.reached wrong.begins
-        (subst (λ (v : Place). BeginsAt t.text v.at bad.start) (sym e) bad.begins) in (
-          sym wrong.cause.2 ∙ ap code_of cause ∙ bad.cause.2,
-          sym wrong.cause.3 ∙ ap (λ (n : ℕ). place_of n wrong.cause.0) begin ∙ ap (place_of bad.start) cause
-              ∙ bad.cause.3,
-        )
-
     go : ((k : ℕ) × Times (IsStatement t) k wrong.reached bad.reached) ⊎ ((w : Place) × One t bad.reached w)
-        → (code ≡ c) × (at ≡ a)
-    go (inl (zero, e)) = same e
+        → wrong.reached ≡ bad.reached
+    go (inl (zero, e)) = e
     go (inl (suc k, more)) = absurd (wrong.cause.1.none more.0 more.1)
     go (inr one) = absurd (one.1.sound bad.cause.0 bad.cause.1)
 
-fault_endless : (t : Setting) (x z : Place) (m code at : ℕ) → IsUtf8 t.text → LedWrong t x code at
-    → Times (IsStatement t) m x z → IsAtEnd t.text z.at → ⊥
-fault_endless t x z m code at utf8 wrong s end =
+fault_only : (t : Setting) (x : Place) (pool : Pooled) (code at c a : ℕ) → IsUtf8 t.text
+    → LedWrong t x pool code at → HasBadStatement t x c a → (code ≡ c) × (at ≡ a)
+fault_only t x pool code at c a utf8 wrong bad =
+    let e = wrong_place t x pool code at c a wrong bad in
+    let cause : wrong.cause.0 ≡ bad.cause.0 =
+    wrong.cause.1.only bad.cause.0 (subst (λ (v : Place). HasCause t v bad.cause.0) (sym e) bad.cause.1) in
+    let begin : wrong.start ≡ bad.start =
+    begins_once t.text wrong.reached.at wrong.start bad.start utf8 wrong.begins
+    (subst (λ (v : Place). BeginsAt t.text v.at bad.start) (sym e) bad.begins) in (
+      sym wrong.cause.2 ∙ ap code_of cause ∙ bad.cause.2,
+      sym wrong.cause.3 ∙ ap (λ (n : ℕ). place_of n wrong.cause.0) begin ∙ ap (place_of bad.start) cause
+          ∙ bad.cause.3,
+    )
+
+fault_endless : (t : Setting) (x z : Place) (pool : Pooled) (m code at : ℕ) → IsUtf8 t.text
+    → LedWrong t x pool code at → Times (IsStatement t) m x z → IsAtEnd t.text z.at → ⊥
+fault_endless t x z pool m code at utf8 wrong s end =
     go (chain t wrong.count m x wrong.reached z wrong.statements s)
   where
     go : ((k : ℕ) × Times (IsStatement t) k wrong.reached z) ⊎ ((w : Place) × One t z w) → ⊥
@@ -267,7 +275,17 @@ states_where t scope base r p r' p' u document count room utf8 start reads concl
     not_faulty code at (inl bytes) utf8 none = bytes.1 utf8
     not_faulty code at (inr bad) utf8 none = none bad.1
 
--- what is answered otherwise is its fault
+-- the fault that is answered, led to from the start
+wrong_at_start : (t : Setting) (scope : Scope) (base : List ℕ) (r : Reader) (p : Pooled) (r' : Reader)
+    (p' : Pooled) (code at : ℕ) (e : TtlFault) → At code at ≡ e → r.tokens.place ≡ first_byte t.text
+    → IsReading t.bounds (first_state scope base) r.reading p → Concludes t r p r' p' (Err e)
+    → LedWrong t (start_of t.text scope base) p' code at
+wrong_at_start t scope base r p r' p' code at e is start reads concludes =
+    let s = first_state scope base in
+    let answered = subst (λ (f : TtlFault). Concludes t r p r' p' (Err f)) (sym is) concludes in
+    subst (λ (n : ℕ). LedWrong t (record { at = n; state = s }) p' code at) start (answered s reads)
+
+-- what is answered otherwise is the fault of the text
 pub fault_where : (t : Setting) (scope : Scope) (base : List ℕ) (r : Reader) (p : Pooled) (r' : Reader)
     (p' : Pooled)
     (e : TtlFault) (result : Result Document TtlFault)
@@ -276,33 +294,51 @@ pub fault_where : (t : Setting) (scope : Scope) (base : List ℕ) (r : Reader) (
     → IfErr result (FaultStands t scope base)
 fault_where t scope base r p r' p' e (Ok document) is utf8 start reads concludes = tt
 fault_where t scope base r p r' p' e (Err (At code at)) is utf8 start reads concludes =
-    one_fault (subst (λ (n : ℕ). LedWrong t (record { at = n; state = first_state scope base }) code at) start
-    ((subst (λ (f : TtlFault). Concludes t r p r' p' (Err f)) (sym is) concludes) (first_state scope base)
-    reads))
+    let wrong = wrong_at_start t scope base r p r' p' code at e is start reads concludes in record {
+      is = inr (utf8, bad_of wrong);
+      only = other wrong;
+      none = λ s is. fault_endless t (start_of t.text scope base) is.1.0 p' is.1.1.0 code at utf8 wrong
+          is.1.1.1 is.1.2;
+    }
   where
-    bad_of : (x : Place) → LedWrong t x code at → HasBadStatement t x code at
-    bad_of x wrong = record {
+    bad_of : LedWrong t (start_of t.text scope base) p' code at
+        → HasBadStatement t (start_of t.text scope base) code at
+    bad_of wrong = record {
       reached = wrong.reached;
-      statements = (wrong.count, sound_chain t wrong.count x wrong.reached wrong.statements);
+      statements = (
+        wrong.count,
+        sound_chain t wrong.count (start_of t.text scope base) wrong.reached wrong.statements,
+      );
       start = wrong.start;
       begins = wrong.begins;
       more = wrong.more;
       cause = (wrong.cause.0, wrong.cause.1.is, wrong.cause.2, wrong.cause.3);
     }
 
-    other : LedWrong t (start_of t.text scope base) code at → (c a : ℕ) → HasFault t scope base c a
+    other : LedWrong t (start_of t.text scope base) p' code at → (c a : ℕ) → HasFault t scope base c a
         → (code ≡ c) × (at ≡ a)
     other wrong c a (inl bytes) = absurd (bytes.1 utf8)
-    other wrong c a (inr bad) = fault_only t (start_of t.text scope base) code at c a utf8 wrong bad.1
-
-    one_fault : LedWrong t (start_of t.text scope base) code at → IsOneFault t scope base code at
-    one_fault wrong = record {
-      is = inr (utf8, bad_of (start_of t.text scope base) wrong);
-      only = other wrong;
-      none = λ s is. fault_endless t (start_of t.text scope base) is.1.0 is.1.1.0 code at utf8 wrong is.1.1.1
-          is.1.2;
-    }
+    other wrong c a (inr bad) = fault_only t (start_of t.text scope base) p' code at c a utf8 wrong bad.1
 fault_where t scope base r p r' p' e (Err Memory) is utf8 start reads concludes = tt
+
+-- ... and the pool holds the terms of the statements before it
+pub before_where : (t : Setting) (scope : Scope) (base : List ℕ) (r : Reader) (p : Pooled) (r' : Reader)
+    (p' : Pooled) {n : ℕ}
+    (e : TtlFault) (result : Result Document TtlFault)
+    → n ≡ length t.bounds.held → n ≤ t.bounds.terms
+    → IsErrAnd result (λ z. z ≡ e) → IsUtf8 t.text → r.tokens.place ≡ first_byte t.text
+    → IsReading t.bounds (first_state scope base) r.reading p → Concludes t r p r' p' (Err e)
+    → IfErr result (HoldsBefore t scope base p')
+before_where t scope base r p r' p' e (Ok document) count room is utf8 start reads concludes = tt
+before_where t scope base r p r' p' e (Err (At code at)) count room is utf8 start reads concludes =
+    let wrong = wrong_at_start t scope base r p r' p' code at e is start reads concludes in record {
+      bytes = λ none. absurd (none utf8);
+      statements = λ _ c a bad.
+          wrong.terms (first_good t scope base count room)
+          ∙ ap (λ (v : Place). terms_with t.bounds v.state.triples)
+          (wrong_place t (start_of t.text scope base) p' code at c a wrong bad);
+    }
+before_where t scope base r p r' p' e (Err Memory) count room is utf8 start reads concludes = tt
 
 -- bytes that are not UTF-8
 pub bytes_only : (t : Setting) (scope : Scope) (base : List ℕ) (at : ℕ) → (IsUtf8 t.text → ⊥)
@@ -319,3 +355,10 @@ bytes_only t scope base at none valid = record {
       sym (utf8_valid_len-IsValidUpTo t.text at valid) ∙ utf8_valid_len-IsValidUpTo t.text a bytes.2,
     )
     only c a (inr bad) = absurd (none bad.0)
+
+pub bytes_before : (t : Setting) (scope : Scope) (base : List ℕ) (pool : Pooled) → (IsUtf8 t.text → ⊥)
+    → pool.terms ≡ t.bounds.held → HoldsAllBefore t scope base pool
+bytes_before t scope base pool none same = record {
+  bytes = λ _. same;
+  statements = λ utf8 c a bad. absurd (none utf8);
+}

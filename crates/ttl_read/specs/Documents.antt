@@ -147,11 +147,3 @@ abbrev pub HasFault : Setting → Scope → List ℕ → ℕ → ℕ → Type 0
 HasFault t scope base code at =
     ((code ≡ NOT_UTF8) × (IsUtf8 t.text → ⊥) × IsValidUpTo t.text at)
     ⊎ (IsUtf8 t.text × HasBadStatement t (start_of t.text scope base) code at)
-
--- ---- what a pool holds, whether the text is a document or not
-
--- beside what was held before, the terms of the triples of statements without fault, from the first on
-pub record HoldsRead (t : Setting) (scope : Scope) (base : List ℕ) (pool : Pooled) : Type 0 where
-  pub reached : Place
-  pub statements : Reaches t (start_of t.text scope base) reached
-  pub terms : pool.terms ≡ terms_with t.bounds reached.state.triples

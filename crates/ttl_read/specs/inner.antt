@@ -2,5 +2,4 @@
 pub mod Follows
 pub mod Reads
 pub mod Sound
-pub mod Stated
 pub mod Stops

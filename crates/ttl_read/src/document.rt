@@ -3,8 +3,8 @@ ghost use Rattle.std.specs.Str.{IsCharBoundary, IsUtf8};
 ghost use Rattle.iri_resolve.specs.Resolution.{IsAbsolute};
 ghost use Rattle.ttl_meaning.specs.inner.DocumentOf.{IsDocumentOf};
 ghost use Rattle.ttl_meaning.specs.State.{State};
-ghost use Rattle.ttl_read.specs.Documents.{HoldsRead, first_byte, setting};
-ghost use Rattle.ttl_read.specs.inner.Stated.{FaultStands, States};
+ghost use Rattle.ttl_read.specs.Documents.{first_byte, setting};
+ghost use Rattle.ttl_read.specs.Stated.{FaultStands, HoldsBefore, HoldsRead, States};
 
 use crate::fault::TtlFault;
 use crate::reader::{Reader, Tokens};
@@ -16,8 +16,10 @@ use std::str;
 use ttl_meaning::{Document, ReaderState};
 
 /// What a text of Turtle states (Turtle 1.1). Its terms are entered into the pool, and the limit of terms is
-/// the pool's. After a refusal the pool holds the terms of the statements before the one that was refused,
-/// beside what it held before.
+/// the pool's. Behind a fault the pool holds, beside what it held before, the terms of all statements before
+/// the one at fault, and no other. Of bytes that are not UTF-8 it holds none, since no statement is read.
+/// Where memory is wanted it holds those of all statements that were read; how many these are depends on the
+/// memory, so that the contract says no more than that they are the first ones.
 ///
 /// Beside the check of UTF-8 and the undoing of escapes, each token is read once, but for those of a
 /// statement that has no derivation, which are read once more: it takes time linear in the text, but for
@@ -43,6 +45,8 @@ pub fn read_document(
         States (setting text.now limits.now pool.old) scope base.now document pool.new) }
     ensures fault { IfErr result (FaultStands (setting text.now limits.now pool.old) scope base.now) }
     ensures pool { HoldsRead (setting text.now limits.now pool.old) scope base.now pool.new }
+    ensures before { IfErr result
+        (HoldsBefore (setting text.now limits.now pool.old) scope base.now pool.new) }
     ensures limit { pool.new.limit ≡ pool.old.limit }
 {
     match str::from_utf8(text) {
@@ -68,6 +72,8 @@ fn read_text(
         States (setting text.now limits.now pool.old) scope base.now document pool.new) }
     ensures fault { IfErr result (FaultStands (setting text.now limits.now pool.old) scope base.now) }
     ensures pool { HoldsRead (setting text.now limits.now pool.old) scope base.now pool.new }
+    ensures before { IfErr result
+        (HoldsBefore (setting text.now limits.now pool.old) scope base.now pool.new) }
     ensures limit { pool.new.limit ≡ pool.old.limit }
 {
     // A pool never holds more terms than its limit.

@@ -3,7 +3,7 @@ use super::names::{add_term, shortened};
 use graph_view::{GraphEdit, GraphView, ListGraph, StoreFault};
 use iri_resolve::is_absolute;
 use row_tools::{RowFault, iri_text};
-use shape_check::{CheckFault, ShapeFault, check};
+use shape_check::{CheckFault, ShapeFault, check, check_shapes};
 use shape_decl::collect;
 use shx_term::{Limits, Memory, Pool, Scope, Triple};
 use std::alloc::{AllocError, Global};
@@ -69,11 +69,32 @@ pub(super) fn answer(alloc: Global, limits: &Limits, text: &str) -> Result<Strin
     }
 }
 
-fn checked(alloc: Global, limits: &Limits, graph: &ListGraph) -> Result<String, Memory> {
+// What is answered where shapes are declared and then checked, which is what `check_shapes` answers.
+fn checked(alloc: Global, limits: &Limits, graph: &ListGraph) -> Result<String, RowFault> {
+    if limits.path_depth > 64 {
+        return Err(RowFault::Unread);
+    }
     let decls = collect(alloc, graph, limits)?;
-    match check(alloc, &decls, graph.pool(), limits) {
+    let apart = told_of(
+        alloc,
+        graph.pool(),
+        check(alloc, &decls, graph.pool(), limits),
+    )?;
+    let whole = match check_shapes(alloc, graph, limits) {
+        Ok(all) if all.len() == decls.len() => Ok(()),
+        Ok(_) => return Err(RowFault::Unread),
+        Err(fault) => Err(fault),
+    };
+    if told_of(alloc, graph.pool(), whole)?.as_str() != apart.as_str() {
+        return Ok(String::from_str(alloc, "two answers")?);
+    }
+    Ok(apart)
+}
+
+fn told_of(alloc: Global, pool: &Pool, outcome: Result<(), CheckFault>) -> Result<String, Memory> {
+    match outcome {
         Ok(()) => String::from_str(alloc, "accepted"),
-        Err(CheckFault::Shape(fault)) => told(alloc, graph.pool(), &fault),
+        Err(CheckFault::Shape(fault)) => told(alloc, pool, &fault),
         Err(CheckFault::Memory) => Err(AllocError),
     }
 }

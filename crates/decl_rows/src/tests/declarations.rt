@@ -5,7 +5,7 @@ use super::made::{cut, graph};
 use super::paths::spelled;
 use graph_view::{GraphView, ListGraph};
 use row_tools::{RowFault, first_other, first_other_block};
-use shape_decl::{Declared, ListValue, ShapeDecl, collect, sparql_count};
+use shape_decl::{Declared, ListValue, ShapeDecl, collect, find_shapes, sparql_count};
 use shx_term::vocabulary::vocabulary_rows;
 use shx_term::{Id, Limits, LocalName, Memory, Pool, Term};
 use std::alloc::Global;
@@ -119,6 +119,41 @@ fn is_as_said(alloc: Global, row: &str) -> Result<bool, RowFault> {
     let graph = graph(alloc, text)?;
     let found = declarations(alloc, &graph)?;
     Ok(found.as_str().trim_end() == due.trim_end())
+}
+
+// What is found under each predicate, and under those of lists, is what stands there; the nodes are those
+// that are found alone.
+fn is_found_again(alloc: Global, row: &str) -> Result<bool, RowFault> {
+    let (text, _) = match row.split_once('\n') {
+        Some(parts) => parts,
+        None => (row, ""),
+    };
+    let graph = graph(alloc, text)?;
+    let nodes = find_shapes(alloc, &graph)?;
+    let decls = collect(alloc, &graph, &Limits::program())?;
+    let same_nodes = nodes.iter().eq(decls.iter().map(|decl| &decl.node));
+    Ok(same_nodes && decls.iter().all(has_all_under))
+}
+
+fn has_all_under(decl: &ShapeDecl) -> bool {
+    decl.values.iter().all(|row| has_under(decl, row))
+}
+
+// The lists of a predicate are headed by its values, if it takes lists.
+fn has_under(decl: &ShapeDecl, row: &Declared) -> bool {
+    let lists = decl.lists_of(row.predicate);
+    let heads = lists.iter().map(|list| &list.head);
+    decl.values_of(row.predicate) == row.values.as_slice()
+        && (lists.is_empty() || heads.eq(row.values.iter()))
+}
+
+#[test]
+fn found_again(rt: HostRuntime) -> Result<(), Fail> {
+    assert_eq!(rt;
+        first_other_block(rt.alloc(), rows::ROWS, is_found_again)?,
+        ""
+    );
+    Ok(())
 }
 
 #[test]

@@ -71,6 +71,9 @@ fn is_read(
     head: &str,
     due: &str,
 ) -> Result<bool, RowFault> {
+    if limits.path_depth > 64 {
+        return Err(RowFault::Unread);
+    }
     let mut graph = graph(alloc, text)?;
     let head = number(alloc, &mut graph, head)?;
     let reading = read_path(alloc, &graph, head, limits)?;

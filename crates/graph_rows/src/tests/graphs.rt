@@ -1,35 +1,61 @@
-use super::letters::{graph_of, triple_of};
+use super::letters::graph_of;
+use super::questions::words;
 use graph_view::{GraphEdit, GraphView, ListGraph, StoreFault};
-use shx_term::Pool;
+use row_tools::{RowFault, cut, first_other, number};
 use shx_term::vocabulary::VOCABULARY_LEN;
+use shx_term::{Pool, Triple};
+use std::alloc::Global;
 use std::test::Fail;
+
+// How many triples a graph may hold, and those that it holds, in the order in which it lends them.
+const LENT: &str = "\
+1:
+1:apb
+3:bpc apb aqb";
+
+fn has_words(alloc: Global, triples: &[Triple], due: &str) -> Result<bool, RowFault> {
+    Ok(words(alloc, triples)?.as_str().trim_end() == due)
+}
+
+fn is_lent(alloc: Global, row: &str) -> Result<bool, RowFault> {
+    let (limit, due) = cut(row, ":")?;
+    let graph = graph_of(alloc, 75, u64::from(number(limit)?), due)?;
+    has_words(alloc, graph.triples(), due)
+}
 
 #[test]
 fn a_graph_lends_its_triples(rt: HostRuntime) -> Result<(), Fail> {
-    let graph = graph_of(rt.alloc(), 75, 1, "")?;
-    assert!(rt; graph.triples().is_empty());
-    let graph = graph_of(rt.alloc(), 75, 1, "apb")?;
-    assert_eq!(rt; graph.triples(), [triple_of("apb")?].as_slice());
+    let other = first_other(rt.alloc(), LENT, is_lent);
+    assert_eq!(rt; other, Ok(""));
     Ok(())
+}
+
+// Whether a graph without triples gives back the pool that it was made of.
+fn is_given_back(alloc: Global) -> Result<bool, RowFault> {
+    let pool = Pool::with_vocabulary(alloc, VOCABULARY_LEN + 1)?;
+    let graph = ListGraph::new(alloc, pool, 5);
+    let (triples, most) = (graph.len(), graph.limit());
+    let pool = graph.into_pool();
+    let (terms, room) = (pool.len(), pool.limit());
+    Ok((triples, most, terms, room) == (0, 5, 62, 63))
 }
 
 #[test]
 fn a_graph_gives_its_pool_back(rt: HostRuntime) -> Result<(), Fail> {
-    let pool = Pool::with_vocabulary(rt.alloc(), VOCABULARY_LEN + 1)?;
-    let graph = ListGraph::new(rt.alloc(), pool, 5);
-    assert_eq!(rt; graph.len(), 0);
-    assert_eq!(rt; graph.limit(), 5);
-    let pool = graph.into_pool();
-    assert_eq!(rt; pool.len(), 62);
-    assert_eq!(rt; pool.limit(), 63);
+    let is_back = is_given_back(rt.alloc());
+    assert_eq!(rt; is_back, Ok(true));
     Ok(())
+}
+
+fn has_text(alloc: Global, fault: StoreFault, due: &str) -> Result<bool, RowFault> {
+    Ok(fault.to_string(alloc)?.as_str() == due)
 }
 
 #[test]
 fn store_faults_have_a_text(rt: HostRuntime) -> Result<(), Fail> {
-    let full = StoreFault::TooMany.to_string(rt.alloc())?;
-    assert_eq!(rt; full.as_str(), "the graph is full");
-    let memory = StoreFault::Memory.to_string(rt.alloc())?;
-    assert_eq!(rt; memory.as_str(), "out of memory");
+    let full = has_text(rt.alloc(), StoreFault::TooMany, "the graph is full");
+    assert_eq!(rt; full, Ok(true));
+    let memory = has_text(rt.alloc(), StoreFault::Memory, "out of memory");
+    assert_eq!(rt; memory, Ok(true));
     Ok(())
 }

@@ -28,44 +28,27 @@ a e:a";
 /// The first number behind those of the letters.
 pub(super) const LETTERS_END: Id = 75;
 
+// The letters, in the order of their numbers.
+const LETTERS: &str = "xyztusrqpdcba";
+
 /// The number of a letter.
 pub(super) fn number(letter: u8) -> Result<Id, RowFault> {
-    match letter {
-        b'x' => Ok(62),
-        b'y' => Ok(63),
-        b'z' => Ok(64),
-        b't' => Ok(65),
-        b'u' => Ok(66),
-        b's' => Ok(67),
-        b'r' => Ok(68),
-        b'q' => Ok(69),
-        b'p' => Ok(70),
-        b'd' => Ok(71),
-        b'c' => Ok(72),
-        b'b' => Ok(73),
-        b'a' => Ok(74),
-        _ => Err(RowFault::Unread),
+    for (id, other) in (VOCABULARY_LEN..).zip(LETTERS.bytes()) {
+        if other == letter {
+            return Ok(id);
+        }
     }
+    Err(RowFault::Unread)
 }
 
 /// The letter of a number, or `!`.
 pub(super) fn letter(id: Id) -> char {
-    match id {
-        62 => 'x',
-        63 => 'y',
-        64 => 'z',
-        65 => 't',
-        66 => 'u',
-        67 => 's',
-        68 => 'r',
-        69 => 'q',
-        70 => 'p',
-        71 => 'd',
-        72 => 'c',
-        73 => 'b',
-        74 => 'a',
-        _ => '!',
+    for (number, letter) in (VOCABULARY_LEN..).zip(LETTERS.chars()) {
+        if number == id {
+            return letter;
+        }
     }
+    '!'
 }
 
 /// The triple of a word.
@@ -80,13 +63,20 @@ pub(super) fn triple_of(word: &str) -> Result<Triple, RowFault> {
     }
 }
 
+fn key_of_letters(s: u8, p: u8, o: u8) -> Result<Key, RowFault> {
+    match (s, p, o) {
+        (b'?', _, b'?') => Ok(Key::Predicate(number(p)?)),
+        (_, b'?', b'?') => Ok(Key::Subject(number(s)?)),
+        (b'?', _, _) => Ok(Key::In(number(p)?, number(o)?)),
+        (_, _, b'?') => Ok(Key::Out(number(s)?, number(p)?)),
+        _ => Err(RowFault::Unread),
+    }
+}
+
 /// The key of a word with a `?`.
 pub(super) fn key_of(word: &str) -> Result<Key, RowFault> {
     match word.as_bytes() {
-        [b'?', p, b'?'] => Ok(Key::Predicate(number(*p)?)),
-        [s, b'?', b'?'] => Ok(Key::Subject(number(*s)?)),
-        [b'?', p, o] => Ok(Key::In(number(*p)?, number(*o)?)),
-        [s, p, b'?'] => Ok(Key::Out(number(*s)?, number(*p)?)),
+        [s, p, o] => key_of_letters(*s, *p, *o),
         _ => Err(RowFault::Unread),
     }
 }
@@ -132,6 +122,14 @@ pub(super) fn graph_of(
     Ok(graph)
 }
 
+fn store_from(alloc: Global, graph: ListGraph) -> Result<Store, RowFault> {
+    let triples = graph.triples().to_vec(alloc)?;
+    // Its numbers have terms.
+    let _ = graph.pool();
+    let limit = graph.limit();
+    Ok(Store::from_triples(alloc, graph.into_pool(), &triples, limit)?)
+}
+
 /// The store of those words, made of all their triples at once.
 pub(super) fn store_of(
     alloc: Global,
@@ -139,10 +137,5 @@ pub(super) fn store_of(
     limit: u64,
     words: &str,
 ) -> Result<Store, RowFault> {
-    let graph = graph_of(alloc, terms, limit, words)?;
-    let triples = graph.triples().to_vec(alloc)?;
-    // Its numbers have terms.
-    let _ = graph.pool();
-    let limit = graph.limit();
-    Ok(Store::from_triples(alloc, graph.into_pool(), &triples, limit)?)
+    store_from(alloc, graph_of(alloc, terms, limit, words)?)
 }

@@ -19,9 +19,13 @@ fn triple_at(number: u32) -> Triple {
     }
 }
 
+fn takes(store: &mut Store, t: Triple) -> Result<bool, RowFault> {
+    Ok(inserted(store, t)? == "new")
+}
+
 fn takes_many(store: &mut Store) -> Result<bool, RowFault> {
     for number in 0..MANY {
-        if inserted(store, triple_at(number))? != "new" {
+        if !takes(store, triple_at(number))? {
             return Ok(false);
         }
     }

@@ -15,7 +15,8 @@ fn letters(alloc: Global, ids: &[Id]) -> Result<String, Memory> {
     Ok(out)
 }
 
-fn words(alloc: Global, triples: &[Triple]) -> Result<String, Memory> {
+/// The words of some triples, each with a blank behind it.
+pub(super) fn words(alloc: Global, triples: &[Triple]) -> Result<String, Memory> {
     let mut out = String::new(alloc);
     for t in triples {
         out.push(letter(t.s))?;
@@ -70,6 +71,10 @@ pub(super) fn answers<V: GraphView>(
     Ok(answer.as_str().trim_end() == if due == "-" { "" } else { due })
 }
 
+fn is_found<V: GraphView>(alloc: Global, view: &V, key: Key, due: &str) -> Result<bool, Memory> {
+    Ok(look_up(alloc, view, key)?.as_str() == due)
+}
+
 fn is_same_at<V: GraphView, W: GraphView>(
     alloc: Global,
     view: &V,
@@ -77,7 +82,7 @@ fn is_same_at<V: GraphView, W: GraphView>(
     key: Key,
 ) -> Result<bool, Memory> {
     let found = look_up(alloc, view, key)?;
-    Ok(look_up(alloc, other, key)?.as_str() == found.as_str())
+    is_found(alloc, other, key, found.as_str())
 }
 
 fn is_same_at_two<V: GraphView, W: GraphView>(

@@ -15,15 +15,15 @@ use std::alloc::Global;
 
 /// Inserts a triple of terms that the graph has, and says how that ended.
 pub(super) fn inserted<E: GraphEdit>(graph: &mut E, t: Triple) -> Result<&'static str, RowFault> {
-    if !is_known(graph, &t) {
-        return Err(RowFault::Unread);
+    if is_known(graph, &t) {
+        return match graph.insert(t) {
+            Ok(true) => Ok("new"),
+            Ok(false) => Ok("held"),
+            Err(StoreFault::TooMany) => Ok("full"),
+            Err(StoreFault::Memory) => Err(RowFault::Memory),
+        };
     }
-    match graph.insert(t) {
-        Ok(true) => Ok("new"),
-        Ok(false) => Ok("held"),
-        Err(StoreFault::TooMany) => Ok("full"),
-        Err(StoreFault::Memory) => Err(RowFault::Memory),
-    }
+    Err(RowFault::Unread)
 }
 
 fn removed<E: GraphEdit>(graph: &mut E, t: &Triple) -> &'static str {
@@ -102,14 +102,25 @@ pub(super) fn exchanged<E: GraphEdit>(
     added: &ListGraph,
     removed: &ListGraph,
 ) -> Result<&'static str, RowFault> {
-    if !is_patch(graph, added, removed) {
-        return Err(RowFault::Unread);
+    let new = added.triples();
+    let gone = removed.triples();
+    if is_patch(graph, added, removed) {
+        return match graph.exchange(gone, new) {
+            Ok(()) => Ok("done"),
+            Err(StoreFault::TooMany) => Ok("full"),
+            Err(StoreFault::Memory) => Err(RowFault::Memory),
+        };
     }
-    match graph.exchange(removed.triples(), added.triples()) {
-        Ok(()) => Ok("done"),
-        Err(StoreFault::TooMany) => Ok("full"),
-        Err(StoreFault::Memory) => Err(RowFault::Memory),
-    }
+    Err(RowFault::Unread)
+}
+
+fn exchanges_as<E: GraphEdit>(
+    graph: &mut E,
+    added: &ListGraph,
+    removed: &ListGraph,
+    due: &str,
+) -> Result<bool, RowFault> {
+    Ok(exchanged(graph, added, removed)? == due)
 }
 
 fn exchanges_for<E: GraphEdit>(
@@ -120,7 +131,7 @@ fn exchanges_for<E: GraphEdit>(
     due: &str,
 ) -> Result<bool, RowFault> {
     let added = graph_of(alloc, 75, 100, added)?;
-    Ok(exchanged(graph, &added, removed)? == due)
+    exchanges_as(graph, &added, removed, due)
 }
 
 // The change of some words: those that are removed, a bar, and those that are added.

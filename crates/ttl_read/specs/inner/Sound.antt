@@ -47,8 +47,15 @@ pub record Led (t : Setting) (r : Reader) (p : Pooled) (s : State) (r' : Reader)
   pub count : ℕ
   pub statements : Times (One t) count (place r s) (place r' state)
 
--- of the statements from here on, the first that has a fault has this one
-pub record LedWrong (t : Setting) (x : Place) (code at : ℕ) : Type 0 where
+-- a state within the limits, without a fault
+pub record IsGood (bounds : Bounds) (s : State) : Type 0 where
+  pub terms : s.fault ≡ None
+  pub triples : length s.triples ≤ bounds.triples
+  pub room : length (terms_with bounds s.triples) ≤ bounds.terms
+
+-- of the statements from here on, the first that has a fault has this one; the pool holds the terms of those
+-- before it
+pub record LedWrong (t : Setting) (x : Place) (pool : Pooled) (code at : ℕ) : Type 0 where
   pub reached : Place
   pub count : ℕ
   pub statements : Times (One t) count x reached
@@ -56,6 +63,7 @@ pub record LedWrong (t : Setting) (x : Place) (code at : ℕ) : Type 0 where
   pub begins : BeginsAt t.text reached.at start
   pub more : IsAtEnd t.text reached.at → ⊥
   pub cause : HasOneCauseAt t reached start code at
+  pub terms : IsGood t.bounds x.state → pool.terms ≡ terms_with t.bounds reached.state.triples
 
 -- statements without fault to the end, or the fault of the first that has one
 abbrev pub Concludes : Setting → Reader → Pooled → Reader → Pooled → Result (Unit {0}) TtlFault → Type 0
@@ -63,16 +71,10 @@ Concludes t r p r' p' (Ok u) =
     (s : State) → IsReading t.bounds s r.reading p
     → Led t r p s r' p' × IsAtEnd t.text r'.tokens.place
 Concludes t r p r' p' (Err (At code at)) =
-    (s : State) → IsReading t.bounds s r.reading p → LedWrong t (place r s) code at
+    (s : State) → IsReading t.bounds s r.reading p → LedWrong t (place r s) p' code at
 Concludes t r p r' p' (Err Memory) = Unit
 
 -- ---- the pool
-
--- a state within the limits, without a fault
-pub record IsGood (bounds : Bounds) (s : State) : Type 0 where
-  pub terms : s.fault ≡ None
-  pub triples : length s.triples ≤ bounds.triples
-  pub room : length (terms_with bounds s.triples) ≤ bounds.terms
 
 -- where a good state was kept, statements without fault lead on from it to a place whose terms the pool holds
 abbrev pub Holds : Setting → Reader → Pooled → State → Pooled → Type 0

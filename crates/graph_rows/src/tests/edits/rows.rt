@@ -1,8 +1,8 @@
 //! Graphs that go through steps, a block for each: how many terms its pool may hold, how many triples it may
-//! hold, and those that it begins with; then the steps, each with its answer.
+//! hold, and behind a colon those that it begins with; then the steps, each with its answer.
 
 pub const EDITS: &str = "\
-75 2
+75 2:
 +apb → new
 +apb → held
 +apc → new
@@ -11,7 +11,7 @@ pub const EDITS: &str = "\
 len → 2
 ap? → b c
 
-76 0
+76 0:
 terms → 75
 enter data#5 → 75
 enter data#5 → 75
@@ -21,7 +21,7 @@ terms → 76
 +apb → full
 len → 0
 
-75 12 apx uqx apz spb apr apy rpb aqb apt bpb apb apu
+75 12: apx uqx apz spb apr apy rpb aqb apt bpb apb apu
 ap? → b r u t z y x
 bq? → -
 ?pb → a b r s
@@ -53,7 +53,7 @@ a?? → apb apu apt apz apy apx aqb
 +apr → new
 a?? → apb apr apu apt apz apy apx aqb
 
-75 5
+75 5:
 -apb → absent
 +apb → new
 +apd → new
@@ -83,7 +83,7 @@ a?? → apb apr apu apt apz apy apx aqb
 len → 0
 +apb → new
 
-75 5 cda apq apb
+75 5: cda apq apb
 -apb → gone
 +apb → new
 +apd → new
@@ -113,7 +113,7 @@ len → 0
 len → 2
 +apb → new
 
-75 5 aqd dpb dpc
+75 5: aqd dpb dpc
 aq? → d
 dp? → b c
 ?pb → d
@@ -124,7 +124,7 @@ dp? → b
 +dpc → new
 len → 3
 
-75 3 apb apc
+75 3: apb apc
 exchange apb|apd → done
 ap? → c d
 exchange apd|apb → done
@@ -145,7 +145,7 @@ exchange bpx aqc|apb → done
 a?? → apb apc
 len → 2
 
-75 5
+75 5:
 cut 64: → done
 terms → 64
 enter data#1 → 64
@@ -153,7 +153,7 @@ enter data#1 → 64
 terms → 65
 len → 0
 
-75 5 rqx sqr sqt
+75 5: rqx sqr sqt
 cut 70: rqx sqr sqt → done
 terms → 70
 len → 3
@@ -179,7 +179,7 @@ enter e:a → 70
 enter data#5 → 71
 terms → 72
 
-75 2 apb
+75 2: apb
 -apb → gone
 cut 62: → done
 terms → 62

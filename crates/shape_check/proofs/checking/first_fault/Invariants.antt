@@ -1,7 +1,7 @@
 use Rattle.std.specs.Prelude.{flat_map}
 use Rattle.shape_check.specs.Faults.{first}
 use Rattle.shape_check.specs.inner.Judging.{faults_by_in}
-use Rattle.shape_check.proofs.LeftLemmas.{IsLeft}
+use Rattle.shape_decl.proofs.LeftLemmas.{IsLeft}
 use Rattle.shape_check.proofs.checking.first_fault.Given as goal
 
 abbrev pub invariant-loop-rule : goal.invariant-loop-rule

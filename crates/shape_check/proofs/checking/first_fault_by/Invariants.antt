@@ -2,7 +2,7 @@ use Rattle.std.specs.Prelude.{flat_map, map}
 use Rattle.shape_decl.specs.Declarations.{told_decl, told_values}
 use Rattle.shape_check.specs.Faults.{fault_at, first}
 use Rattle.shape_check.specs.inner.Judging.{offenders_in}
-use Rattle.shape_check.proofs.LeftLemmas.{IsLeft}
+use Rattle.shape_decl.proofs.LeftLemmas.{IsLeft}
 use Rattle.shape_check.proofs.checking.first_fault_by.Given as goal
 
 abbrev pub invariant-loop-declared : goal.invariant-loop-declared

@@ -2,7 +2,7 @@ use Rattle.std.specs.Prelude.{not}
 use Rattle.std.proofs.Common.{rules, sym, ap, ◌∙◌}
 use Rattle.shape_check.specs.Kinds.{is_of_kind}
 use Rattle.shape_check.proofs.FirstLemmas.{first-filter}
-use Rattle.shape_check.proofs.UnderLemmas.{first_member-told}
+use Rattle.shape_check.proofs.ListLemmas.{first_member-told}
 use Rattle.shape_check.proofs.offenders.of_other_kind.Goals as goal
 
 pub returns-in-Each : goal.returns-in-Each
@@ -14,8 +14,7 @@ pub returns-in-Lists : goal.returns-in-Lists
 returns-in-Lists c =
     let judged = c.args.judged.now in
     let expected = sym (ap (λ r. r.expected) c.restriction_of.ensures) ∙ c.in-Lists.is in
-    let found = rw c.deref-in-Lists.ensures.value at c.first_unfit_member.ensures in
-    rw (expected, ← judged.of_lists)
-    (found ∙ first_member-told c.args.declared.now.predicate
-    (λ n. not (is_of_kind judged.pool.now.terms c.in-Lists.kind n))
-    judged.parameters.now judged.decl.now.lists.items)
+    rw expected
+    (c.first_unfit_member.ensures
+    ∙ first_member-told (λ n. not (is_of_kind judged.pool.now.terms c.in-Lists.kind n))
+    c.lists_of.result.now _ c.lists_of.ensures)

@@ -1,7 +1,7 @@
 use Rattle.std.specs.Prelude.{map}
 use Rattle.shape_check.specs.Restrictions.{restriction_among}
 use Rattle.shape_check.specs.inner.Told.{told_restriction}
-use Rattle.shape_check.proofs.LeftLemmas.{IsLeft}
+use Rattle.shape_decl.proofs.LeftLemmas.{IsLeft}
 use Rattle.shape_check.proofs.restrictions.restriction_among.Given as goal
 
 abbrev pub invariant-loop-row : goal.invariant-loop-row

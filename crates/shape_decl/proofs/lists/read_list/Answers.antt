@@ -1,44 +1,4 @@
-use Rattle.std.proofs.Common.{◌≡◌, nat_eq, sym, ◌∙◌}
-use Rattle.std.specs.List.{list_any}
-use Rattle.shape_decl.specs.declared.cell.Cell.TheVariants.{Link}
-use Rattle.shape_decl.specs.Lists.{cell_at}
-use Rattle.shape_decl.proofs.FollowsLemmas.{read_to_end, read_cycle, read_neither, held_before}
-use Rattle.shape_decl.proofs.FollowsLemmas.{new_before, cell_passed, fewer_left}
 use Rattle.shape_decl.proofs.lists.read_list.Goals as goal
 
-pub returns-in-End : goal.returns-in-End
-returns-in-End g c =
-    let graph = g.V.GraphView.graph c.args.graph.now in
-    sym (read_to_end graph c.cells.invariant (sym c.in_ok-read_cell.ensures ∙ c.in-End.is))
-
-pub returns-in-Neither : goal.returns-in-Neither
-returns-in-Neither g c =
-    let graph = g.V.GraphView.graph c.args.graph.now in
-    sym (read_neither graph c.cells.invariant (sym c.in_ok-read_cell.ensures ∙ c.in-Neither.is))
-
-pub returns-then-not-branch : goal.returns-then-not-branch
-returns-then-not-branch g c =
-    let graph = g.V.GraphView.graph c.args.graph.now in
-    let held = held_before c.in_ok-insert-in-Link.field-0 (list_any (nat_eq c.cells.at) c.cells.seen.keys)
-    c.in_ok-insert-in-Link.ensures.added c.if-not-branch.true in
-    sym (read_cycle graph c.cells.invariant held)
-
-pub cells-smaller : goal.cells-smaller
-cells-smaller g c =
-    let graph = g.V.GraphView.graph c.args.graph.now in
-    let is : cell_at graph c.cells.at ≡ Link c.in-Link.first c.in-Link.rest =
-    sym c.in_ok-read_cell.ensures ∙ c.in-Link.is in
-    let new = new_before c.in_ok-insert-in-Link.field-0 (list_any (nat_eq c.cells.at) c.cells.seen.keys)
-    c.in_ok-insert-in-Link.ensures.added c.if-not-branch.false in
-    fewer_left graph c.cells.invariant c.in-Link.first c.in-Link.rest is new c.push.new.self.items
-    c.insert.new.self.keys c.in_ok-push-in-Link.ensures.items c.in_ok-insert-in-Link.ensures.keys
-
-pub cells-preserved : goal.cells-preserved
-cells-preserved g c =
-    let graph = g.V.GraphView.graph c.args.graph.now in
-    let is : cell_at graph c.cells.at ≡ Link c.in-Link.first c.in-Link.rest =
-    sym c.in_ok-read_cell.ensures ∙ c.in-Link.is in
-    let new = new_before c.in_ok-insert-in-Link.field-0 (list_any (nat_eq c.cells.at) c.cells.seen.keys)
-    c.in_ok-insert-in-Link.ensures.added c.if-not-branch.false in
-    cell_passed graph c.cells.invariant c.in-Link.first c.in-Link.rest is new c.push.new.self.items
-    c.insert.new.self.keys c.in_ok-push-in-Link.ensures.items c.in_ok-insert-in-Link.ensures.keys
+pub followed-requires : goal.followed-requires
+followed-requires g c = c.no_readings.ensures (g.V.GraphView.graph c.args.graph.now)

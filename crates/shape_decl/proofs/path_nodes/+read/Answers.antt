@@ -46,4 +46,5 @@ read_nodes-loop-node-preserved g t c =
           c.push.new.self.items c.in_ok-path.path c.args.nodes.now c.loop-node.node-index
           c.loop-node-test.true c.in_ok-push.ensures.items c.loop-node.invariant.paths
           c.in_ok-path.ensures.path;
+      known = c.read_node.ensures.known;
     }

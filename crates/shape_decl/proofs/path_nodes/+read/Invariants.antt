@@ -1,6 +1,7 @@
 use Rattle.std.proofs.Common.{◌≡◌, ◌+◌, ◌*◌, map, take, Ok}
 use Rattle.path_eval.specs.Route.{route_of}
 use Rattle.shape_decl.specs.PathReadings.{route_at}
+use Rattle.shape_decl.specs.inner.Kept.{AreReadingsOf}
 use Rattle.shape_decl.specs.inner.Visits.{counted, row_visits}
 use Rattle.shape_decl.proofs.path_nodes.+read.Given as goal
 
@@ -20,4 +21,5 @@ invariant-read_nodes-loop-node g l = record {
       ≡ Ok l.parts;
   paths : map route_of l.paths.items
       ≡ map (route_at (g.V.GraphView.graph l.graph) l.left) (take l.node-index l.nodes);
+  known : AreReadingsOf (g.V.GraphView.graph l.graph) l.readings;
 }

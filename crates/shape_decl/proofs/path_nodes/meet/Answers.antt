@@ -19,4 +19,4 @@ pub returns-clause-met : goal.returns-clause-met
 returns-clause-met g c =
     let graph = g.V.GraphView.graph c.args.graph.now in
     node_meets graph c.args.limit c.args.parts.now c.args.left c.args.node
-    (told_form c.in_ok-read_form.field-0) (omega arith) (omega arith) c.in_ok-read_form.ensures
+    (told_form c.in_ok-read_form.field-0) (omega arith) (omega arith) c.in_ok-read_form.ensures.form

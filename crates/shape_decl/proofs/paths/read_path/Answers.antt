@@ -1,24 +1,4 @@
-use Rattle.std.proofs.Common.{Ok, Err, sym, ap, ◌∙◌}
-use Rattle.shape_decl.specs.declared.path_fault.PathFault.TheVariants as fault
-use Rattle.shape_decl.specs.PathReadings.{Read}
-use Rattle.shape_decl.proofs.PathReadingLemmas.{counted_reading}
 use Rattle.shape_decl.proofs.paths.read_path.Goals as goal
 
-pub returns-in-Ok : goal.returns-in-Ok
-returns-in-Ok g c =
-    let graph = g.V.GraphView.graph c.args.graph.now in
-    ap Read c.in-Ok.ensures.path
-    ∙ sym (counted_reading c.args.limits.now graph c.args.head (Ok c.read_node.new.parts)
-    c.in-Ok.ensures.counted)
-
-pub returns-in-Err-Broken : goal.returns-in-Err-Broken
-returns-in-Err-Broken g c =
-    let graph = g.V.GraphView.graph c.args.graph.now in
-    let counted = rw c.in-Err-Broken.field-0-is at c.in-Err-Broken.ensures.fault in
-    sym (counted_reading c.args.limits.now graph c.args.head (Err fault.Broken) (counted (λ e. cc)))
-
-pub returns-in-Err-TooDeep : goal.returns-in-Err-TooDeep
-returns-in-Err-TooDeep g c =
-    let graph = g.V.GraphView.graph c.args.graph.now in
-    let counted = rw c.in-Err-TooDeep.field-0-is at c.in-Err-TooDeep.ensures.fault in
-    sym (counted_reading c.args.limits.now graph c.args.head (Err fault.TooDeep) (counted (λ e. cc)))
+pub path_with-requires : goal.path_with-requires
+path_with-requires g c = c.no_readings.ensures (g.V.GraphView.graph c.args.graph.now)

@@ -1,7 +1,7 @@
 use Rattle.std.proofs.Common.{ℕ, refl, sym, subst}
 use Rattle.ttl_read.specs.Documents.{setting}
 use Rattle.ttl_read.specs.Unique.{IsOneFault}
-use Rattle.ttl_read.proofs.DocumentLemmas.{bytes_only, holds_nothing}
+use Rattle.ttl_read.proofs.DocumentLemmas.{bytes_only, bytes_before, holds_nothing}
 use Rattle.ttl_read.proofs.document.read_document.Goals as goal
 
 pub returns-in-Err-clause-fault : goal.returns-in-Err-clause-fault
@@ -14,3 +14,8 @@ pub returns-in-Err-clause-pool : goal.returns-in-Err-clause-pool
 returns-in-Err-clause-pool c =
     holds_nothing (setting c.args.text.now c.args.limits.now c.args.pool.now) c.args.scope c.args.base.now
     c.args.pool.now refl
+
+pub returns-in-Err-clause-before : goal.returns-in-Err-clause-before
+returns-in-Err-clause-before c =
+    bytes_before (setting c.args.text.now c.args.limits.now c.args.pool.now) c.args.scope c.args.base.now
+    c.args.pool.now c.in-Err.ensures.cases.0 refl

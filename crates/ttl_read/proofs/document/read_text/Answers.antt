@@ -2,7 +2,8 @@ use Rattle.std.proofs.Common.{refl, ◌∙◌}
 use Rattle.ttl_meaning.specs.State.{first_state}
 use Rattle.ttl_read.specs.declared.reader.Reader.{Reader}
 use Rattle.ttl_read.specs.Documents.{setting}
-use Rattle.ttl_read.proofs.DocumentLemmas.{states_where, fault_where, holds_read, holds_nothing}
+use Rattle.ttl_read.proofs.DocumentLemmas.{states_where, fault_where, before_where, holds_read}
+use Rattle.ttl_read.proofs.DocumentLemmas.{holds_nothing}
 use Rattle.ttl_read.proofs.document.read_text.Goals as goal
 
 pub returns-in_err-reading-clause-pool : goal.returns-in_err-reading-clause-pool
@@ -28,6 +29,16 @@ returns-in_err-statements-clause-pool c =
     c.statements.new.pool c.len.ensures.count c.len.ensures.within
     (c.at-tokens.ensures.place ∙ c.first_byte.ensures.place) c.in_ok-reading.ensures
     (c.statements.ensures.holds before (first_state c.args.scope c.args.base.now))
+
+pub returns-in_err-statements-clause-before : goal.returns-in_err-statements-clause-before
+returns-in_err-statements-clause-before c =
+    let before = c.args.pool.now in
+    let reader : Reader = record { tokens = c.at-tokens.result; reading = c.in_ok-reading.reading } in
+    before_where (setting c.args.text.now c.args.limits.now before) c.args.scope c.args.base.now reader
+    before c.statements.new.reader c.statements.new.pool c.in_err-statements.field-0.0 _
+    c.len.ensures.count c.len.ensures.within c.from_residual-in_err-statements.ensures.1 c.utf8.text
+    (c.at-tokens.ensures.place ∙ c.first_byte.ensures.place) c.in_ok-reading.ensures
+    (c.in_err-statements.ensures.concludes before)
 
 pub returns-in_err-finish-clause-pool : goal.returns-in_err-finish-clause-pool
 returns-in_err-finish-clause-pool c =

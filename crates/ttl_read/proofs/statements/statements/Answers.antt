@@ -25,7 +25,7 @@ returns-in_err-sound_statement c = record {
       concludes_wrong (setting c.args.text.now c.args.limits.now before) c.args.reader.now c.args.pool.now
       c.loop-reader.reader c.loop-reader.pool c.sound_statement.new.reader c.sound_statement.new.pool
       c.sound_statement.new.reader c.sound_statement.new.pool c.in_err-sound_statement.field-0.0 _
-      c.utf8.text c.from_residual.ensures.1
+      c.utf8.text c.in_err-sound_statement.ensures.refused c.from_residual.ensures.1
       (c.loop-reader.invariant.leading before) c.loop-reader.invariant.stands
       (sym c.is_at_end.ensures ∙ c.loop-reader-test.true) (c.in_err-sound_statement.ensures.sound before);
 }

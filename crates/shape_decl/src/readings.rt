@@ -1,0 +1,20 @@
+//! What is kept of a graph while its shapes are declared, so that nothing is read twice.
+use crate::{Cell, PathReading};
+use indexmap::{IndexMap, IndexSet};
+use shx_term::Id;
+
+/// What was read of nodes, by their numbers: what they are in lists, and the lists that they head.
+#[derive(Drop)]
+pub(crate) struct Readings {
+    pub(crate) cells: IndexMap<Id, Cell>,
+    pub(crate) lists: IndexMap<Id, Option<Vec<Id>>>,
+}
+
+/// The same, with the paths that were read, and the instances of the two classes that declarations tell of.
+#[derive(Drop)]
+pub(crate) struct Known {
+    pub(crate) readings: Readings,
+    pub(crate) paths: IndexMap<Id, PathReading>,
+    pub(crate) node_shapes: IndexSet<Id>,
+    pub(crate) classes: IndexSet<Id>,
+}

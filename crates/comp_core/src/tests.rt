@@ -20,7 +20,7 @@ fn two_rows(alloc: Global) -> Result<Answered, Memory>
 }
 
 // Its results, and whether it has none, behind a pair of the same shape without results.
-#[tactic(auto, unfolding(crate::specs::Table::has_pair, crate::specs::Table::same_pair))]
+#[tactic(auto, unfolding(crate::specs::Table::has_pair, crate::specs::Pairs::same_pair))]
 fn told(alloc: Global) -> Result<(Vec<ResultRow>, bool), Memory> {
     let mut answers = Vec::new(alloc);
     answers.push(Answered {
@@ -80,7 +80,7 @@ fn shapes_are_asked_by_node(rt: HostRuntime) -> Result<(), Fail> {
 }
 
 // Where the node has results at the one shape, and none at the other.
-#[tactic(auto, unfolding(crate::specs::Table::has_pair, crate::specs::Table::same_pair))]
+#[tactic(auto, unfolding(crate::specs::Table::has_pair, crate::specs::Pairs::same_pair))]
 fn counted(alloc: Global) -> Result<usize, Memory> {
     let mut answers = Vec::new(alloc);
     answers.push(two_rows(alloc)?)?;

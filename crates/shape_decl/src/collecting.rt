@@ -16,7 +16,8 @@ use std::alloc::Global;
 
 /// Each shape of a graph once, in term order, with what the graph states of it. It asks the graph by
 /// predicate and by subject, and takes time in proportion to the triples of shapes and to what it gives,
-/// where look-ups do: a list or a path that several shapes have is read once, and copied into each.
+/// where look-ups do: a list or a path that several shapes have is read once, and copied into each. Heads
+/// that stand before one tail are paid for apart: from each of them the tail is followed once more.
 #[tactic(auto, unfolding(crate::specs::Declarations::declarations))]
 pub fn collect<V: GraphView>(
     alloc: Global,

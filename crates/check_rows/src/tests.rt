@@ -3,6 +3,7 @@ mod answers;
 mod faults;
 mod limits;
 mod names;
+mod plans;
 mod rows;
 mod tables;
 mod worked;

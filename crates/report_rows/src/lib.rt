@@ -1,15 +1,17 @@
-//! Reports as they are written, as tests alone: results of plans, and paths.
+//! Reports and answers as they are written, as tests alone: results of plans, paths, and answers.
 //!
 //! | file | what it holds |
 //! |---|---|
 //! | `tests/rows.rt` | the tables: reports with their lines, and paths with their texts |
 //! | `tests/reports.rt` | the reports, each put by itself and behind another line |
 //! | `tests/paths.rt` | the paths |
+//! | `tests/answers.rt` | answers, with the names of codes |
+//! | `tests/shape_answers.rt` | answers that tell terms of the shapes, and the notice |
 //! | `tests/plans.rt` | a plan of three lines, each a shape without constraints |
 //! | `tests/results.rt` | results of lines |
 //! | `tests/terms.rt` | the terms of the tables, and their numbers |
 //!
-//! It stands on `report_lines`, `shape_eval` and the crates below them, and on `row_tools`. Start with
+//! It stands on `report_write`, `shape_eval` and the crates below them, and on `row_tools`. Start with
 //! `tests/rows.rt`. A table is a text, and a test asks for the first block or row that is met otherwise.
 #![tactic(auto)]
 

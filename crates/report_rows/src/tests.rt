@@ -1,6 +1,8 @@
+mod answers;
 mod paths;
 mod plans;
 mod reports;
 mod results;
 mod rows;
+mod shape_answers;
 mod terms;

@@ -1,1 +1,1 @@
-pub mod WriterLemmas
+pub mod PartLemmas

@@ -1,12 +1,15 @@
--- The texts of answers. Each ends with a line feed.
+-- The texts of answers. Each ends with a line feed. Terms are told by number, and written by their spelling.
 use Rattle.std.specs.Prelude.{ℕ, List, ◌++◌, codes, decimal}
 use Rattle.shx_outside.specs.declared.role.Role.{Role}
 use Rattle.shx_outside.specs.declared.role.Role.TheVariants.{Shapes, Data, Script}
+use Rattle.shx_term.specs.declared.term.Term.{Term}
 use Rattle.shx_term.specs.declared.fault_codes.TheConstants.{NOT_BUILT, SCRIPT_TOO_LONG, TEXT_TOO_LONG}
 use Rattle.report_write.specs.declared.answer.Answer.{Answer}
 use Rattle.report_write.specs.declared.answer.Answer.TheVariants.{Changed, Unchanged, RefusedLine}
 use Rattle.report_write.specs.declared.answer.Answer.TheVariants.{TextFault, TooLong, NotBuilt, Usage}
-use Rattle.report_write.specs.Names.{code_word, role_name}
+use Rattle.report_write.specs.declared.answer.Answer.TheVariants.{Notice, Rule, OfShape}
+use Rattle.report_write.specs.FaultNames.{code_word, role_name}
+use Rattle.text_output.specs.TermTexts.{number_text}
 
 -- a code with its name
 abbrev pub code_text : ℕ → List ℕ
@@ -22,16 +25,26 @@ code_of_length Script = SCRIPT_TOO_LONG
 abbrev pub fault_head : Role → ℕ → List ℕ
 fault_head role code = codes "fault " ++ role_name role ++ codes ": " ++ code_text code
 
+-- how the fault of a shape begins
+abbrev pub shape_fault_head : List Term → ℕ → ℕ → List ℕ
+shape_fault_head terms code shape = fault_head Shapes code ++ codes " shape " ++ number_text terms shape
+
 abbrev pub usage_text : List ℕ
 usage_text = codes "usage: shacl_keep [--format lines|turtle] [--base IRI] SHAPES DATA [SCRIPT]\n"
 
-abbrev pub answer_text : Answer → List ℕ
-answer_text Changed = codes "ok changed\n"
-answer_text Unchanged = codes "ok unchanged\n"
-answer_text (RefusedLine line code) =
+abbrev pub answer_text : List Term → Answer → List ℕ
+answer_text terms Changed = codes "ok changed\n"
+answer_text terms Unchanged = codes "ok unchanged\n"
+answer_text terms (RefusedLine line code) =
     codes "refused line " ++ decimal line ++ codes ": " ++ code_text code ++ codes "\n"
-answer_text (TextFault role code at) =
+answer_text terms (TextFault role code at) =
     fault_head role code ++ codes " at " ++ decimal at ++ codes "\n"
-answer_text (TooLong role) = fault_head role (code_of_length role) ++ codes "\n"
-answer_text (NotBuilt role) = fault_head role NOT_BUILT ++ codes "\n"
-answer_text Usage = usage_text
+answer_text terms (TooLong role) = fault_head role (code_of_length role) ++ codes "\n"
+answer_text terms (NotBuilt role) = fault_head role NOT_BUILT ++ codes "\n"
+answer_text terms (Rule code shape predicate term) =
+    shape_fault_head terms code shape ++ codes " predicate " ++ number_text terms predicate
+    ++ codes " term " ++ number_text terms term ++ codes "\n"
+answer_text terms (OfShape code shape) = shape_fault_head terms code shape ++ codes "\n"
+answer_text terms (Notice count) =
+    codes "notice: " ++ decimal count ++ codes " sh:sparql triples ignored\n"
+answer_text terms Usage = usage_text

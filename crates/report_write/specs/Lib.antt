@@ -1,4 +1,6 @@
 pub mod Answers
-pub mod Names
-pub mod Writes
+pub mod FaultNames
+pub mod PathLines
+pub mod ReportLines
+pub mod ResultNames
 pub mod inner

@@ -1,15 +1,16 @@
 ghost use Rattle.std.specs.Prelude.{◌≡◌, ◌++◌, codes, decimal};
 ghost use Rattle.report_write.specs.Answers.{answer_text, code_of_length, code_text, fault_head};
-ghost use Rattle.report_write.specs.Writes.{Writes};
+ghost use Rattle.report_write.specs.Answers.{shape_fault_head};
+ghost use Rattle.text_output.specs.TermTexts.{number_text};
+ghost use Rattle.text_output.specs.Writes.{Writes};
 
-use crate::names::{code_word, role_name};
-use crate::number::add_number;
-use crate::{WriteFault, Writer};
+use crate::fault_names::{code_word, role_name};
 use shx_outside::{Role, Sink};
-use shx_term::Pieces;
 use shx_term::fault_codes::{NOT_BUILT, SCRIPT_TOO_LONG, TEXT_TOO_LONG};
+use shx_term::{Id, Pieces, Pool};
+use text_output::{WriteFault, Writer, add_number, add_term};
 
-/// What is said to a line of a script, or in place of a report.
+/// What is said to a line of a script, before a report, or in its place. Terms are told by their numbers.
 #[derive(Clone, Copy, Debug, PartialEq, Eq)]
 pub enum Answer {
     Changed,
@@ -33,24 +34,40 @@ pub enum Answer {
     NotBuilt {
         role: Role,
     },
+    /// A shape breaks a rule: by a value of `predicate`, or a member of a list there, which is `term`.
+    Rule {
+        code: u32,
+        shape: Id,
+        predicate: Id,
+        term: Id,
+    },
+    /// A shape has a fault that is not of one value: it reaches itself, say.
+    OfShape {
+        code: u32,
+        shape: Id,
+    },
+    /// So many triples of the shapes have sh:sparql as their predicate (SHACL, section 5), and are not read.
+    Notice {
+        count: u64,
+    },
     Usage,
 }
 
 const USAGE: &[u8] =
     b"usage: shacl_keep [--format lines|turtle] [--base IRI] SHAPES DATA [SCRIPT]\n";
 
-/// Puts an answer whole.
-pub fn write_answer<O: Sink>(answer: &Answer, out: &mut O) -> Result<(), WriteFault>
-    ensures { Writes (O.state out.old) (O.state out.new) (answer_text answer.now) result }
+/// Puts an answer whole. It takes no memory, and time linear in the text.
+pub fn write_answer<O: Sink>(answer: &Answer, pool: &Pool, out: &mut O) -> Result<(), WriteFault>
+    ensures { Writes (O.state out.old) (O.state out.new) (answer_text pool.now.terms answer.now) result }
 {
     let mut writer = Writer::new(out);
-    add_answer(answer, &mut writer);
+    add_answer(answer, pool, &mut writer);
     writer.finish()
 }
 
 /// Adds an answer.
-pub fn add_answer<W: Pieces>(answer: &Answer, out: &mut W)
-    ensures { W.added out.old out.new (answer_text answer.now) }
+pub fn add_answer<W: Pieces>(answer: &Answer, pool: &Pool, out: &mut W)
+    ensures { W.added out.old out.new (answer_text pool.now.terms answer.now) }
 {
     match answer {
         Answer::Changed => out.add(b"ok changed\n"),
@@ -59,6 +76,14 @@ pub fn add_answer<W: Pieces>(answer: &Answer, out: &mut W)
         Answer::TextFault { role, code, at } => add_text_fault(*role, *code, *at, out),
         Answer::TooLong { role } => add_fault(*role, code_of_length(*role), out),
         Answer::NotBuilt { role } => add_fault(*role, NOT_BUILT, out),
+        Answer::Rule {
+            code,
+            shape,
+            predicate,
+            term,
+        } => add_rule(*code, *shape, *predicate, *term, pool, out),
+        Answer::OfShape { code, shape } => add_shape_fault(*code, *shape, pool, out),
+        Answer::Notice { count } => add_notice(*count, out),
         Answer::Usage => out.add(USAGE),
     }
 }
@@ -88,6 +113,44 @@ fn add_fault<W: Pieces>(role: Role, code: u32, out: &mut W)
 {
     add_fault_head(role, code, out);
     out.add(b"\n");
+}
+
+fn add_rule<W: Pieces>(code: u32, shape: Id, predicate: Id, term: Id, pool: &Pool, out: &mut W)
+    ensures { W.added out.old out.new
+        (shape_fault_head pool.now.terms code shape ++ codes " predicate "
+        ++ number_text pool.now.terms predicate ++ codes " term " ++ number_text pool.now.terms term
+        ++ codes "\n") }
+{
+    add_shape_fault_head(code, shape, pool, out);
+    out.add(b" predicate ");
+    add_term(predicate, pool, out);
+    out.add(b" term ");
+    add_term(term, pool, out);
+    out.add(b"\n");
+}
+
+fn add_shape_fault<W: Pieces>(code: u32, shape: Id, pool: &Pool, out: &mut W)
+    ensures { W.added out.old out.new (shape_fault_head pool.now.terms code shape ++ codes "\n") }
+{
+    add_shape_fault_head(code, shape, pool, out);
+    out.add(b"\n");
+}
+
+fn add_shape_fault_head<W: Pieces>(code: u32, shape: Id, pool: &Pool, out: &mut W)
+    ensures { W.added out.old out.new (shape_fault_head pool.now.terms code shape) }
+{
+    add_fault_head(Role::Shapes, code, out);
+    out.add(b" shape ");
+    add_term(shape, pool, out);
+}
+
+fn add_notice<W: Pieces>(count: u64, out: &mut W)
+    ensures { W.added out.old out.new
+        (codes "notice: " ++ decimal count ++ codes " sh:sparql triples ignored\n") }
+{
+    out.add(b"notice: ");
+    add_number(count, out);
+    out.add(b" sh:sparql triples ignored\n");
 }
 
 fn add_fault_head<W: Pieces>(role: Role, code: u32, out: &mut W)

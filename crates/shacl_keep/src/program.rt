@@ -1,6 +1,6 @@
 ghost use Rattle.shx_term.specs.Limits.{program_limits};
 ghost use Rattle.shacl_run.specs.Outside.{outside};
-ghost use Rattle.shacl_run.specs.RunClauses.{IsRun};
+ghost use Rattle.shacl_run.specs.RunClauses.{IsRun, PatternsAreAdmittedBy};
 ghost use Rattle.shacl_run.specs.Words.{command_words, AdmitsFiles};
 
 use shacl_run::{Status, run};
@@ -20,7 +20,9 @@ pub fn run_program<H: Inputs, O: Sink, P: PatternHost, L: Ledger, M: Ledger>(
     nested: &mut Steps<M>,
     steps: &mut Steps<L>,
 ) -> Status
-    requires { AdmitsFiles (H.admits host.old) (command_words words.now) }
+    requires files { AdmitsFiles (H.admits host.old) (command_words words.now) }
+    requires patterns { PatternsAreAdmittedBy program_limits (command_words words.now) (H.state host.old).text
+        (P.admits patterns.old) }
     ensures { IsRun program_limits words.now
         (outside (H.state host.old) (O.state out.old) (P.state patterns.old) nested.old steps.old)
         (outside (H.state host.new) (O.state out.new) (P.state patterns.new) nested.new steps.new) result }

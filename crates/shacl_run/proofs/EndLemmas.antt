@@ -6,8 +6,8 @@ use Rattle.std.proofs.lemmas.Option.{none-some, same_Some}
 use Rattle.shx_outside.specs.Counted.{Rose}
 use Rattle.shx_outside.specs.Outside.{SinkState}
 use Rattle.shx_outside.proofs.ToldLemmas.{Grew-none, Grew-then, Fell-none, Fell-then}
-use Rattle.report_write.specs.Writes.{Put, FellShort}
-use Rattle.report_write.specs.inner.AddedLaws.{Put-then}
+use Rattle.text_output.specs.Writes.{Put, FellShort}
+use Rattle.text_output.specs.inner.AddedLaws.{Put-then}
 use Rattle.shacl_run.specs.declared.status.Status.{Status}
 use Rattle.shacl_run.specs.declared.status.Status.TheVariants.{InputFault, WriteFault, Memory as no_memory}
 use Rattle.shacl_run.specs.declared.stop.Stop.{Stop}

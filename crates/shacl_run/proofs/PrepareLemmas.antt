@@ -1,30 +1,40 @@
 -- What was read decides what the two texts come to.
-use Rattle.std.proofs.Common.{◌≡◌, ℕ, List, Option, None, Some, refl, ap, ◌∙◌, subst, Result, Ok, Err}
+use Rattle.std.proofs.Common.{◌≡◌, ℕ, List, Option, None, Some, refl, ◌∙◌, sym, subst, Result, Ok, Err}
 use Rattle.std.specs.Prelude.{IfSome, IfOk, IfErr}
+use Rattle.shx_outside.specs.declared.flags.Flags.{Flags}
 use Rattle.shx_outside.specs.declared.role.Role.TheVariants.{Shapes as of_shapes, Data as of_data}
 use Rattle.shx_term.specs.declared.limits.Limits.{Limits}
 use Rattle.shx_term.specs.declared.term.Scope.{Scope}
 use Rattle.shx_term.specs.declared.term.Scope.TheVariants.{Shapes, Data}
 use Rattle.shx_term.specs.declared.term.Term.{Term}
+use Rattle.shx_term.specs.Pool.{Pooled}
 use Rattle.shx_term.specs.Vocabulary.{vocabulary}
+use Rattle.graph_view.specs.Graph.{Graph}
+use Rattle.shape_eval.specs.Plan.{Planned}
+use Rattle.shape_eval.specs.Planned.{plan_of}
 use Rattle.text_input.specs.TextRead.{ReadsWhole, IsTooLong}
+use Rattle.ttl_meaning.specs.State.{State}
 use Rattle.report_write.specs.declared.answer.Answer.{Answer}
 use Rattle.report_write.specs.declared.answer.Answer.TheVariants.{TooLong}
-use Rattle.shacl_run.specs.declared.declare.Declared.{Declared}
-use Rattle.shacl_run.specs.declared.plan.Shape.{Shape}
+use Rattle.shacl_run.specs.declared.judge.Accepted.{Accepted}
 use Rattle.shacl_run.specs.declared.refusal.Refusal.{Refusal}
 use Rattle.shacl_run.specs.declared.refusal.Refusal.TheVariants.{Text, Cut}
+use Rattle.shacl_run.specs.declared.unopened.Unopened.{Unopened}
+use Rattle.shacl_run.specs.declared.unopened.Unopened.TheVariants as unopened
 use Rattle.shacl_run.specs.declared.stop.Stop.{Stop}
 use Rattle.shacl_run.specs.declared.validation.Validation.{Validation}
-use Rattle.shacl_run.specs.Declarations.{Declarations}
-use Rattle.shacl_run.specs.inner.Declares.{Declares, RefusesShapes, IsShapesRefusal, Opens, RefusesData}
-use Rattle.shacl_run.specs.inner.Declares.{declarations}
-use Rattle.shacl_run.specs.inner.Prepared.{IsPrepared}
+use Rattle.shacl_run.specs.inner.Judging.{Accepts, IsShapesRefusal, Opens, RefusesData, RefusesShapes}
+use Rattle.shacl_run.specs.inner.Prepared.{AreRead, IsPrepared}
 use Rattle.shacl_run.specs.inner.Refusal.{IsRefusalOf}
-use Rattle.shacl_run.specs.Readings.{Readings, TextReading, States, Faulty, Long, IsReadAs, AreRight}
-use Rattle.shacl_run.specs.Readings.{declarations_of}
-use Rattle.shacl_run.specs.Run.{Opening, texts_opening, with_shapes, with_declarations, with_data, refused}
+use Rattle.shacl_run.specs.inner.Unopened.{beside}
+use Rattle.shacl_run.specs.Readings.{Readings, TextReading, States, Faulty, Long, IsReadAs, stated_graph}
+use Rattle.shacl_run.specs.Readings.{AreJudged, ComeTo, DataIsRead, PatternsAreAdmitted, ShapesAreRead}
+use Rattle.shacl_run.specs.Run.{Opening, texts_opening, with_data, with_shapes, with_verdict, passed_over}
+use Rattle.shacl_run.specs.Run.{refused}
 use Rattle.shacl_run.specs.Run.Opening.{ends, opens}
+use Rattle.shacl_run.specs.RunClauses.{RoseWhere}
+use Rattle.shacl_run.specs.Verdict.{Obstacle, Verdict, plans, refuses_pattern, stops}
+use Rattle.shacl_run.specs.Verdict.Obstacle.{recurs}
 use Rattle.shacl_run.proofs.ReadingLemmas.{read_once}
 
 -- ---- the texts that are told
@@ -48,187 +58,264 @@ module _ (limits : Limits) (base : List ℕ) (scope : Scope) (held : List Term) 
   told_long None long = tt
   told_long (Some text) long = long.longer text refl
 
--- ---- what they come to
+-- the patterns of what was read are those of the text
+pub admitted_bytes : (limits : Limits) (base : List ℕ) (told rest : Option (List ℕ)) (bytes : List ℕ)
+    (admits : Flags → List ℕ → Type 0) → ReadsWhole told rest limits.text bytes
+    → PatternsAreAdmitted limits base told admits → PatternsAreAdmitted limits base (Some bytes) admits
+admitted_bytes limits base None rest bytes admits whole all =
+    λ document end is. record { each = λ d value states. all _ _ }
+admitted_bytes limits base (Some text) rest bytes admits whole all =
+    subst (λ (bs : List ℕ). PatternsAreAdmitted limits base (Some bs) admits)
+    (sym (whole.whole text refl)) all
 
-module _ (limits : Limits) (base : List ℕ) (readings : Readings) (P : Opening → Type 0) where
-  -- the shapes text is read so
-  by_shapes : (shapes data_text : Option (List ℕ)) (reading : TextReading)
-      → AreRight limits base readings shapes data_text
+-- ---- what the shapes text comes to
+
+judged_told : (limits : Limits) (reading : TextReading) (verdict : Verdict) → ComeTo limits reading verdict
+    → (shapes : Option (List ℕ)) → AreJudged limits reading shapes verdict
+judged_told limits reading verdict come None = tt
+judged_told limits reading verdict come (Some text) = come
+
+module _ (limits : Limits) (base : List ℕ) (reading : TextReading) (verdict : Verdict)
+    (come : ComeTo limits reading verdict) (readings : Readings) where
+  -- any reading of it comes to the same
+  judged_once : (shapes : Option (List ℕ)) → IsToldAs limits base Shapes vocabulary shapes reading
+      → ShapesAreRead limits base readings.shapes shapes → AreJudged limits readings.shapes shapes verdict
+  judged_once None told right = tt
+  judged_once (Some text) told right =
+      subst (λ (r : TextReading). ComeTo limits r verdict)
+      (read_once limits base Shapes vocabulary text reading readings.shapes told right) come
+
+  -- and so the texts come to what that reading does
+  opening_once : (P : Opening → Type 0) (shapes data_text : Option (List ℕ))
       → IsToldAs limits base Shapes vocabulary shapes reading
-      → (readings.shapes ≡ reading → IfSome (with_shapes readings reading data_text) P)
-      → IfSome (texts_opening readings shapes data_text) P
-  by_shapes None data_text reading right told holds = tt
-  by_shapes (Some text) data_text reading right told holds =
+      → ShapesAreRead limits base readings.shapes shapes
+      → (readings.shapes ≡ reading → IfSome (with_shapes readings verdict reading data_text) P)
+      → IfSome (texts_opening readings verdict shapes data_text) P
+  opening_once P None data_text told right holds = tt
+  opening_once P (Some text) data_text told right holds =
       let same : readings.shapes ≡ reading =
-      read_once limits base Shapes vocabulary text readings.shapes reading right.shapes_right told in
+      read_once limits base Shapes vocabulary text readings.shapes reading right told in
       rw same (holds same)
 
-  -- the data text is read so, behind these shapes
-  by_data : (shapes data_text : Option (List ℕ)) (declared : Declarations) (other : TextReading)
-      → AreRight limits base readings shapes data_text
-      → declarations_of readings.shapes ≡ Some declared
-      → IsToldAs limits base Data declared.terms data_text other
-      → P (with_data declared.shapes other)
-      → IfSome (with_declarations readings (Some declared) data_text) P
-  by_data shapes None declared other right known told holds = tt
-  by_data shapes (Some text) declared other right known told holds =
-      let same : readings.data_text ≡ other =
-      read_once limits base Data declared.terms text readings.data_text other
-      (rw known at right.data_right) told in
-      rw same holds
+-- the data text is read so, behind the shapes of this document
+opening_data : (limits : Limits) (base : List ℕ) (readings : Readings) (P : Opening → Type 0)
+    (document : Graph) (end : State) (plan : Planned) (data_text : Option (List ℕ)) (other : TextReading)
+    → readings.shapes ≡ States document end → DataIsRead limits base readings (plans plan) data_text
+    → IsToldAs limits base Data document.terms data_text other
+    → P (with_data (passed_over (stated_graph document)) plan other)
+    → IfSome (with_verdict readings (stated_graph document) (plans plan) data_text) P
+opening_data limits base readings P document end plan None other same right told holds = tt
+opening_data limits base readings P document end plan (Some text) other same right told holds =
+    let once : readings.data_text ≡ other =
+    read_once limits base Data document.terms text readings.data_text other
+    (right document end plan same refl) told in
+    rw once holds
 
-  by_declared : (data_text : Option (List ℕ)) (reading : TextReading) (declared : Declarations)
-      → declarations_of reading ≡ Some declared
-      → IfSome (with_declarations readings (Some declared) data_text) P
-      → IfSome (with_shapes readings reading data_text) P
-  by_declared data_text (States document end) declared is holds = rw is holds
-  by_declared data_text (Faulty code at) declared is holds = absurd (cc)
-  by_declared data_text Long declared is holds = absurd (cc)
+-- ---- what stands in the way
 
--- a shapes text that is refused ends the run with the answer
-shapes_end : (readings : Readings) (data_text : Option (List ℕ)) (reading : TextReading) (answer : Answer)
-    → IsShapesRefusal reading answer
-    → IfSome (with_shapes readings reading data_text) (λ opening. opening ≡ ends (refused answer))
-shapes_end readings data_text (States document end) answer is = rw (is.0, is.1) refl
-shapes_end readings data_text (Faulty code at) answer is = rw is refl
-shapes_end readings data_text Long answer is = rw is refl
+-- the shapes of a reading are refused so
+record Refuses (limits : Limits) (reading : TextReading) (refusals refusals' : ℕ) (terms : List Term)
+    (answer : Answer) : Type 0 where
+  obstacle : Obstacle
+  come : ComeTo limits reading (stops obstacle)
+  patterns : RoseWhere (refuses_pattern (stops obstacle)) refusals refusals'
+  told : (readings : Readings) (data_text : Option (List ℕ))
+      → IfSome (with_shapes readings (stops obstacle) reading data_text)
+      (λ opening. opening ≡ ends (refused terms answer))
 
-data_ends : (shapes : List Shape) (other : TextReading) (answer : Answer) → IsRefusalOf of_data other answer
-    → with_data shapes other ≡ ends (refused answer)
-data_ends shapes (States document end) answer is = absurd is
-data_ends shapes (Faulty code at) answer is = rw is refl
-data_ends shapes Long answer is = rw is refl
+refuses : (limits : Limits) (reading : TextReading) (refusals refusals' : ℕ) (terms : List Term)
+    (answer : Answer) → IsShapesRefusal limits reading refusals refusals' terms answer
+    → Refuses limits reading refusals refusals' terms answer
+refuses limits (States document end) refusals refusals' terms answer is = record {
+  obstacle = is.1.obstacle;
+  come = is.1.judged;
+  patterns = is.1.patterns;
+  told = λ readings data_text. rw (is.0, is.1.told) refl;
+}
+refuses limits (Faulty code at) refusals refusals' terms answer is = record {
+  obstacle = recurs 0;
+  come = tt;
+  patterns = is.1;
+  told = λ readings data_text. rw is.0 refl;
+}
+refuses limits Long refusals refusals' terms answer is = record {
+  obstacle = recurs 0;
+  come = tt;
+  patterns = is.1;
+  told = λ readings data_text. rw is.0 refl;
+}
 
-declares_none : (reading : TextReading) (answer : Answer) → IsShapesRefusal reading answer
-    → declarations_of reading ≡ None
-declares_none (States document end) answer is = is.0
-declares_none (Faulty code at) answer is = refl
-declares_none Long answer is = refl
+data_ends : (notices : ℕ) (plan : Planned) (other : TextReading) (terms : List Term) (answer : Answer)
+    → IsRefusalOf of_data other answer → with_data notices plan other ≡ ends (refused terms answer)
+data_ends notices plan (States document end) terms answer is = absurd is
+data_ends notices plan (Faulty code at) terms answer is = rw is refl
+data_ends notices plan Long terms answer is = rw is refl
 
--- ---- that there is a reading
+-- without a plan the data text is not read
+unread : (limits : Limits) (base : List ℕ) (readings : Readings) (obstacle : Obstacle)
+    (data_text : Option (List ℕ)) → DataIsRead limits base readings (stops obstacle) data_text
+unread limits base readings obstacle None = tt
+unread limits base readings obstacle (Some text) = λ document end plan same is. absurd (cc)
 
-module _ (limits : Limits) (base : List ℕ) (shapes : Option (List ℕ)) (reading : TextReading)
-    (told : IsToldAs limits base Shapes vocabulary shapes reading) where
-  -- of the shapes text alone, where it declares nothing
-  right_alone : (data_text : Option (List ℕ)) → declarations_of reading ≡ None
-      → AreRight limits base (record { shapes = reading; data_text = reading }) shapes data_text
-  right_alone data_text none = record { shapes_right = told; data_right = whatever data_text }
-    where
-      whatever : (data_text : Option (List ℕ)) → IfSome data_text (λ text.
-          IfSome (declarations_of reading) (λ declared.
-          IsReadAs limits base Data declared.terms text reading))
-      whatever None = tt
-      whatever (Some text) = rw none tt
-
-  right_both : (data_text : Option (List ℕ)) (declared : Declarations) (other : TextReading)
-      → declarations_of reading ≡ Some declared
-      → IsToldAs limits base Data declared.terms data_text other
-      → AreRight limits base (record { shapes = reading; data_text = other }) shapes data_text
-  right_both data_text declared other declares told' =
-      record { shapes_right = told; data_right = each data_text told' }
-    where
-      each : (data_text : Option (List ℕ)) → IsToldAs limits base Data declared.terms data_text other
-          → IfSome data_text (λ text. IfSome (declarations_of reading) (λ declared.
-          IsReadAs limits base Data declared.terms text other))
-      each None is = tt
-      each (Some text) is = rw declares is
+data_told : (limits : Limits) (base : List ℕ) (document : Graph) (end : State) (other : TextReading)
+    (verdict : Verdict) (data_text : Option (List ℕ))
+    → IsToldAs limits base Data document.terms data_text other
+    → DataIsRead limits base (record { shapes = States document end; data_text = other }) verdict data_text
+data_told limits base document end other verdict None told = tt
+data_told limits base document end other verdict (Some text) told = λ document' end' plan same is.
+    let one : document ≡ document' = cc in
+    subst (λ (g : Graph). IsReadAs limits base Data g.terms text other) one told
 
 -- ---- what was prepared
 
-module _ (limits : Limits) (base : List ℕ) (shapes data_text : Option (List ℕ)) where
-  pub prepared_cut : (stop : Stop) → IsPrepared limits base shapes data_text (Err (Cut stop))
-  prepared_cut stop = record { due = λ readings right. tt; read = tt }
-
-  -- the shapes text is refused
-  shapes_refused : (reading : TextReading) (answer : Answer)
-      → IsToldAs limits base Shapes vocabulary shapes reading → IsShapesRefusal reading answer
-      → IsPrepared limits base shapes data_text (Err (Text answer))
-  shapes_refused reading answer told is = record {
-    due = λ readings right.
-        by_shapes limits base readings (λ opening. opening ≡ ends (refused answer)) shapes data_text reading
-        right told
-        (λ same. shapes_end readings data_text reading answer is);
-    read = (_, right_alone limits base shapes reading told data_text (declares_none reading answer is));
+module _ (limits : Limits) (base : List ℕ) (shapes data_text : Option (List ℕ)) (refusals refusals' : ℕ) where
+  prepared_cut : (stop : Stop)
+      → IsPrepared limits base shapes data_text refusals refusals' (Err (unopened.Cut stop))
+  prepared_cut stop = record {
+    due = λ uncut. absurd (uncut tt);
+    read = λ uncut. absurd (uncut tt);
   }
 
-  -- ... since it is too long
-  pub prepared_long : (refusal : Refusal)
-      → ((answer : Answer) → refusal ≡ Text answer
-      → (answer ≡ TooLong of_shapes) × IsTooLong shapes limits.text)
-      → IsPrepared limits base shapes data_text (Err refusal)
-  prepared_long (Text answer) long =
-      let (is, longer) = long answer refl in
-      shapes_refused Long answer (told_long limits base Shapes vocabulary shapes longer) is
-  prepared_long (Cut stop) long = prepared_cut stop
-
-  module _ (rest : Option (List ℕ)) (bytes : List ℕ) (whole : ReadsWhole shapes rest limits.text bytes) where
-    -- ... or declares nothing
-    pub prepared_undeclared : (refusal : Refusal) → RefusesShapes limits base bytes refusal
-        → IsPrepared limits base shapes data_text (Err refusal)
-    prepared_undeclared (Text answer) (reading, is, refuses) =
-        shapes_refused reading answer
-        (told_bytes limits base Shapes vocabulary shapes rest bytes reading whole is) refuses
-    prepared_undeclared (Cut stop) refuses = prepared_cut stop
-
-    -- it declares shapes, so the data text decides
-    module _ (declared : Declared) (declares : Declares limits base bytes declared) where
-      shapes_told : IsToldAs limits base Shapes vocabulary shapes declares.0
-      shapes_told = told_bytes limits base Shapes vocabulary shapes rest bytes declares.0 whole declares.1
-
-      both_read : (other : TextReading)
-          → IsToldAs limits base Data declared.pool.terms data_text other
-          → (readings : Readings) × AreRight limits base readings shapes data_text
-      both_read other told = (
-        _,
-        right_both limits base shapes declares.0 shapes_told data_text (declarations declared) other
-            declares.2 told,
-      )
-
-      both_decide : (other : TextReading) → IsToldAs limits base Data declared.pool.terms data_text other
-          → (P : Opening → Type 0) → P (with_data declared.shapes.items other)
-          → (readings : Readings) → AreRight limits base readings shapes data_text
-          → IfSome (texts_opening readings shapes data_text) P
-      both_decide other told P holds readings right =
-          by_shapes limits base readings P shapes data_text declares.0 right shapes_told (λ same.
-          by_declared limits base readings P data_text declares.0 (declarations declared) declares.2
-          (by_data limits base readings P shapes data_text (declarations declared) other right
-          (ap declarations_of same ∙ declares.2) told holds))
-
-      data_refused : (other : TextReading) (answer : Answer)
-          → IsToldAs limits base Data declared.pool.terms data_text other → IsRefusalOf of_data other answer
-          → IsPrepared limits base shapes data_text (Err (Text answer))
-      data_refused other answer told is = record {
-        due = both_decide other told (λ opening. opening ≡ ends (refused answer))
-            (data_ends declared.shapes.items other answer is);
-        read = both_read other told;
+  -- the shapes text is refused
+  shapes_refused : (reading : TextReading) (answer : Answer) (pool : Pooled)
+      → IsToldAs limits base Shapes vocabulary shapes reading
+      → IsShapesRefusal limits reading refusals refusals' pool.terms answer
+      → IsPrepared limits base shapes data_text refusals refusals' (Err (unopened.Told answer pool))
+  shapes_refused reading answer pool told is =
+      let found = refuses limits reading refusals refusals' pool.terms answer is in
+      let verdict = stops found.obstacle in
+      let readings : Readings = record { shapes = reading; data_text = Long } in
+      record {
+        due = λ uncut readings right. record {
+          verdict = verdict;
+          judged = judged_once limits base reading verdict found.come readings shapes told right;
+          patterns = found.patterns;
+          says = λ data_right. opening_once limits base reading verdict found.come readings
+              (λ opening. opening ≡ ends (refused pool.terms answer)) shapes data_text told right
+              (λ same. found.told readings data_text);
+        };
+        read = λ uncut. record {
+          readings = readings;
+          shapes_read = told;
+          verdict = verdict;
+          judged = judged_told limits reading verdict found.come shapes;
+          data_read = unread limits base readings found.obstacle data_text;
+        };
       }
 
-      pub prepared_data_long : (refusal : Refusal)
+  -- ... since it is too long
+  pub prepared_long : refusals' ≡ refusals → (pool : Pooled) (refusal : Refusal)
+      → ((answer : Answer) → refusal ≡ Text answer
+      → (answer ≡ TooLong of_shapes) × IsTooLong shapes limits.text)
+      → IsPrepared limits base shapes data_text refusals refusals' (Err (beside pool refusal))
+  prepared_long quiet pool (Text answer) long =
+      let (is, longer) = long answer refl in
+      shapes_refused Long answer pool (told_long limits base Shapes vocabulary shapes longer) (is, quiet)
+  prepared_long quiet pool (Cut stop) long = prepared_cut stop
+
+  module _ (rest : Option (List ℕ)) (bytes : List ℕ) (whole : ReadsWhole shapes rest limits.text bytes) where
+    -- ... or makes no plan
+    pub prepared_unplanned : (why : Unopened) → RefusesShapes limits base bytes refusals refusals' why
+        → IsPrepared limits base shapes data_text refusals refusals' (Err why)
+    prepared_unplanned (unopened.Told answer pool) (reading, is, refuses) =
+        shapes_refused reading answer pool
+        (told_bytes limits base Shapes vocabulary shapes rest bytes reading whole is) refuses
+    prepared_unplanned (unopened.Cut stop) refuses = prepared_cut stop
+
+    -- its shapes are accepted, so the data text decides
+    module _ (accepted : Accepted) (accepts : Accepts limits base bytes refusals refusals' accepted) where
+      abbrev plan : Planned
+      plan = plan_of accepted.plan
+
+      abbrev reading : TextReading
+      reading = States accepts.document accepts.end
+
+      abbrev held : List Term
+      held = accepts.document.terms
+
+      shapes_told : IsToldAs limits base Shapes vocabulary shapes reading
+      shapes_told = told_bytes limits base Shapes vocabulary shapes rest bytes reading whole accepts.read
+
+      both_read : (other : TextReading) → IsToldAs limits base Data held data_text other
+          → AreRead limits base shapes data_text
+      both_read other told = record {
+        readings = record { shapes = reading; data_text = other };
+        shapes_read = shapes_told;
+        verdict = plans plan;
+        judged = judged_told limits reading (plans plan) accepts.plan.judged shapes;
+        data_read = data_told limits base accepts.document accepts.end other (plans plan) data_text told;
+      }
+
+      both_decide : (other : TextReading) → IsToldAs limits base Data held data_text other
+          → (P : Opening → Type 0) → P (with_data (passed_over (stated_graph accepts.document)) plan other)
+          → (readings : Readings) → ShapesAreRead limits base readings.shapes shapes
+          → DataIsRead limits base readings (plans plan) data_text
+          → IfSome (texts_opening readings (plans plan) shapes data_text) P
+      both_decide other told P holds readings right data_right =
+          opening_once limits base reading (plans plan) accepts.plan.judged readings P shapes data_text
+          shapes_told right
+          (λ same. opening_data limits base readings P accepts.document accepts.end plan data_text other same
+          data_right told holds)
+
+      data_refused : (other : TextReading) (answer : Answer) (pool : Pooled)
+          → IsToldAs limits base Data held data_text other → IsRefusalOf of_data other answer
+          → IsPrepared limits base shapes data_text refusals refusals' (Err (unopened.Told answer pool))
+      data_refused other answer pool told is = record {
+        due = λ uncut readings right. record {
+          verdict = plans plan;
+          judged = judged_once limits base reading (plans plan) accepts.plan.judged readings shapes
+              shapes_told right;
+          patterns = accepts.plan.patterns;
+          says = both_decide other told (λ opening. opening ≡ ends (refused pool.terms answer))
+              (data_ends (passed_over (stated_graph accepts.document)) plan other pool.terms answer is)
+              readings right;
+        };
+        read = λ uncut. both_read other told;
+      }
+
+      pub prepared_data_long : (pool : Pooled) (refusal : Refusal)
           → ((answer : Answer) → refusal ≡ Text answer
           → (answer ≡ TooLong of_data) × IsTooLong data_text limits.text)
-          → IsPrepared limits base shapes data_text (Err refusal)
-      prepared_data_long (Text answer) long =
+          → IsPrepared limits base shapes data_text refusals refusals' (Err (beside pool refusal))
+      prepared_data_long pool (Text answer) long =
           let (is, longer) = long answer refl in
-          data_refused Long answer (told_long limits base Data declared.pool.terms data_text longer) is
-      prepared_data_long (Cut stop) long = prepared_cut stop
+          data_refused Long answer pool (told_long limits base Data held data_text longer) is
+      prepared_data_long pool (Cut stop) long = prepared_cut stop
 
-      pub prepared_opened : (rest' : Option (List ℕ)) (bytes' : List ℕ) (prepared : Result Validation Refusal)
+      data_bytes : (rest' : Option (List ℕ)) (bytes' : List ℕ) (other : TextReading)
           → ReadsWhole data_text rest' limits.text bytes'
-          → IfOk prepared (Opens limits base declared.pool.terms declared.shapes.items bytes')
-          → IfErr prepared (RefusesData limits base declared.pool.terms bytes')
-          → IsPrepared limits base shapes data_text prepared
-      prepared_opened rest' bytes' (Ok validation) whole' (other, is, found) refuses =
-          let told = told_bytes limits base Data declared.pool.terms data_text rest' bytes' other whole' is in
+          → IsReadAs limits base Data accepted.pool.terms bytes' other
+          → IsToldAs limits base Data held data_text other
+      data_bytes rest' bytes' other whole' is =
+          told_bytes limits base Data held data_text rest' bytes' other whole'
+          (subst (λ (terms : List Term). IsReadAs limits base Data terms bytes' other) (sym accepts.terms) is)
+
+      pub prepared_opened : (rest' : Option (List ℕ)) (bytes' : List ℕ)
+          (prepared : Result Validation Unopened) → ReadsWhole data_text rest' limits.text bytes'
+          → IfOk prepared (Opens limits base accepted.pool.terms plan bytes')
+          → IfOk prepared (λ validation. validation.passed_over ≡ accepted.passed_over)
+          → IfErr prepared (RefusesData limits base accepted.pool.terms bytes')
+          → IsPrepared limits base shapes data_text refusals refusals' prepared
+      prepared_opened rest' bytes' (Ok validation) whole' (other, is, found) passed refuses =
+          let told = data_bytes rest' bytes' other whole' is in
+          let notices : passed_over (stated_graph accepts.document) ≡ validation.passed_over =
+          sym (passed ∙ accepts.passed) in
           record {
-            due = λ readings right. record {
-              state = _;
-              stored = found.stored;
-              due = both_decide other told (λ opening. opening ≡ opens _)
-                  (ap (with_data declared.shapes.items) found.is) readings right;
+            due = λ uncut readings right. record {
+              verdict = plans plan;
+              judged = judged_once limits base reading (plans plan) accepts.plan.judged readings shapes
+                  shapes_told right;
+              patterns = accepts.plan.patterns;
+              says = λ data_right. record {
+                state = _;
+                stored = found.stored;
+                due = both_decide other told (λ opening. opening ≡ opens validation.passed_over _)
+                    (λ i. with_data (notices i) plan (found.is i)) readings right data_right;
+              };
             };
-            read = both_read other told;
+            read = λ uncut. both_read other told;
           }
-      prepared_opened rest' bytes' (Err (Text answer)) whole' found (other, is, refuses) =
-          data_refused other answer
-          (told_bytes limits base Data declared.pool.terms data_text rest' bytes' other whole' is) refuses
-      prepared_opened rest' bytes' (Err (Cut stop)) whole' found refuses = prepared_cut stop
+      prepared_opened rest' bytes' (Err (unopened.Told answer pool)) whole' found passed
+          (other, is, refuses) =
+          data_refused other answer pool (data_bytes rest' bytes' other whole' is) refuses
+      prepared_opened rest' bytes' (Err (unopened.Cut stop)) whole' found passed refuses = prepared_cut stop

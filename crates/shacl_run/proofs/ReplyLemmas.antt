@@ -1,23 +1,28 @@
 -- Replies to the lines of a script.
 use Rattle.std.proofs.Common.{◌≡◌, ◌+◌, List, ap, ◌∙◌, append-nil}
 use Rattle.shx_term.specs.declared.limits.Limits.{Limits}
+use Rattle.shx_term.specs.declared.term.Term.{Term}
 use Rattle.shx_term.specs.declared.triple.TermTriple.{TermTriple}
 use Rattle.graph_view.specs.ListGraph.{PlainGraph, plain_graph}
 use Rattle.graph_view.specs.SameGraph.{SameGraph}
+use Rattle.graph_view.specs.Valid.{IsValidView}
+use Rattle.comp_core.specs.declared.row.ResultRow.{ResultRow}
+use Rattle.shape_eval.specs.Planned.{plan_of}
+use Rattle.shape_eval.specs.Report.{report}
 use Rattle.report_write.specs.declared.answer.Answer.{Answer}
+use Rattle.report_write.specs.Answers.{answer_text}
+use Rattle.report_write.specs.ReportLines.{report_text}
 use Rattle.shacl_run.specs.declared.edit.Edited.{Edited}
 use Rattle.shacl_run.specs.declared.reply.Reply.TheVariants.{Answers}
-use Rattle.shacl_run.specs.declared.result_row.ResultRow.{ResultRow}
 use Rattle.shacl_run.specs.declared.validation.Validation.{Validation}
 use Rattle.shacl_run.specs.Edits.{graph_after}
-use Rattle.shacl_run.specs.Evaluation.{report}
-use Rattle.shacl_run.specs.Report.{report_text}
 use Rattle.shacl_run.specs.inner.Reply.{Replies}
 use Rattle.shacl_run.specs.Script.{Said, answered, step_text, said_text}
 use Rattle.shacl_run.specs.Script.Said.{answers, reports}
 use Rattle.shacl_run.specs.ScriptState.{ScriptState}
-use Rattle.shacl_run.specs.inner.Validation.{IsValidation}
-use Rattle.shacl_run.proofs.ValidationLemmas.{report_text-validation, stores-validation}
+use Rattle.shacl_run.specs.inner.Validation.{IsValidation, Stands}
+use Rattle.shacl_run.proofs.StandsLemmas.{plan_known_edited}
+use Rattle.shacl_run.proofs.ValidationLemmas.{text-validation, stores-validation}
 
 module _ (limits : Limits) (s : ScriptState) (validation : Validation)
     (is : IsValidation limits s validation) where
@@ -30,7 +35,7 @@ module _ (limits : Limits) (s : ScriptState) (validation : Validation)
   IsValidation-edited outcome t graph after triple_limit term_limit = record {
     stores = stores-validation limits s validation is outcome t (plain_graph graph) after;
     names_are = is.names_are;
-    shapes_are = is.shapes_are;
+    plan_is = is.plan_is;
     line_is = is.line_is;
     refused_is = is.refused_is;
     limits_are = record {
@@ -45,7 +50,7 @@ module _ (limits : Limits) (s : ScriptState) (validation : Validation)
   IsValidation-answered said = record {
     stores = is.stores;
     names_are = is.names_are;
-    shapes_are = is.shapes_are;
+    plan_is = is.plan_is;
     line_is = ap (λ line. line + 1) is.line_is;
     refused_is = is.refused_is;
     limits_are = record { triples = is.limits_are.triples; terms = is.limits_are.terms };
@@ -56,14 +61,32 @@ module _ (limits : Limits) (s : ScriptState) (validation : Validation)
       → Replies limits (answered s (answers answer) s.graph) (Answers answer)
       (record validation { line = validation.line + 1 })
   Replies-answers answer = record {
-    text = append-nil (said_text s (answers answer));
+    text = append-nil (said_text s (answers answer))
+        ∙ ap (λ (terms : List Term). answer_text terms answer) is.stores.terms;
     stored = IsValidation-answered (answers answer);
   }
 
   -- or the report
-  pub reported : (rows : List ResultRow)
-      → rows ≡ report (plain_graph validation.graph) validation.shapes.items
+  pub reported : (rows : List ResultRow) → rows ≡ report s.plan s.graph
       → step_text (answered s reports s.graph)
-      ≡ report_text validation.graph.pool.terms validation.shapes.items rows
+      ≡ report_text validation.graph.pool.terms (plan_of validation.plan).shapes rows
   reported rows same =
-      append-nil (said_text s reports) ∙ report_text-validation limits s validation is rows same
+      append-nil (said_text s reports) ∙ text-validation limits s validation is rows same
+
+-- a plan may still be asked after an edit
+pub Stands-edited : (validation : Validation) → Stands validation → (outcome : Edited) (t : TermTriple)
+    (graph : PlainGraph)
+    → SameGraph (graph_after outcome (plain_graph validation.graph) t) (plain_graph graph)
+    → IsValidView (plain_graph graph) → Stands (record validation { graph = graph })
+Stands-edited validation stands outcome t graph after valid = record {
+  valid = valid;
+  known = plan_known_edited outcome (plain_graph validation.graph) (plain_graph graph) t
+      (plan_of validation.plan).shapes after stands.known;
+  refers = stands.refers;
+}
+
+-- and where a line is counted
+pub Stands-answered : (validation : Validation) → Stands validation
+    → Stands (record validation { line = validation.line + 1 })
+Stands-answered validation stands =
+    record { valid = stands.valid; known = stands.known; refers = stands.refers }

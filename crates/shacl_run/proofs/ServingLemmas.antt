@@ -18,17 +18,18 @@ use Rattle.text_input.specs.ScriptReader.{StopsInLine, GoesOn}
 use Rattle.text_input.specs.TextRead.{TakesWithin}
 use Rattle.text_input.proofs.CountLemmas.{IsCounted-start, IsCounted-within, GoesOn-then}
 use Rattle.text_input.proofs.LineLemmas.{fed_lines-first, fed_lines-none}
-use Rattle.report_write.specs.Writes.{Put, FellShort}
-use Rattle.report_write.specs.inner.AddedLaws.{Put-none}
+use Rattle.text_output.specs.Writes.{Put, FellShort}
+use Rattle.text_output.specs.inner.AddedLaws.{Put-none}
 use Rattle.shacl_run.specs.declared.reply.Reply.{Reply}
-use Rattle.shacl_run.specs.declared.result_row.ResultRow.{ResultRow}
+use Rattle.comp_core.specs.declared.row.ResultRow.{ResultRow}
+use Rattle.shape_eval.specs.Planned.{plan_of}
 use Rattle.shacl_run.specs.declared.validation.Validation.{Validation}
 use Rattle.shacl_run.specs.declared.status.Status.{Status}
 use Rattle.shacl_run.specs.declared.status.Status.TheVariants.{InputFault, WriteFault, LinesRefused}
 use Rattle.shacl_run.specs.declared.stop.Stop.{Stop}
 use Rattle.shacl_run.specs.declared.stop.Stop.TheVariants.{Input, Write, Memory}
 use Rattle.shacl_run.specs.inner.Ends.{Ends}
-use Rattle.shacl_run.specs.Evaluation.{report}
+use Rattle.shape_eval.specs.Report.{report}
 use Rattle.shacl_run.specs.inner.Stops.{StopCause}
 use Rattle.shacl_run.specs.inner.Reply.{Replies, reply_text}
 use Rattle.shacl_run.specs.inner.Stops.{stop_status, end_status}
@@ -49,7 +50,6 @@ behind_both : (front more : List ℕ) (o : Output) → behind (front ++ more) o 
 behind_both front more o = λ i. record {
   text = append_assoc front more o.text i;
   status = o.status;
-  pattern_refused = o.pattern_refused;
 }
 
 not_both : (b : Bool) → b ≡ true → b ≡ false → ⊥
@@ -120,7 +120,7 @@ step-too_long limits s line past =
 
 -- where no line was refused, the results decide how the run ends
 pub state-unrefused : (s : ScriptState) (refused : Bool) → refused ≡ s.refused → refused ≡ false
-    → status_of_rows (report s.graph s.shapes) ≡ status_of_state s
+    → status_of_rows (report s.plan s.graph) ≡ status_of_state s
 state-unrefused s refused same unrefused = rw (sym same ∙ unrefused) refl
 
 -- where there was no further line, the inputs have nothing left
@@ -216,7 +216,8 @@ module _ (limits : Limits) (s0 : ScriptState) (rest0 : Option (List ℕ)) (fault
         );
   }
 
-  pub Reached-step : Put sink sink' (reply_text validation'.graph.pool.terms validation'.shapes.items reply)
+  pub Reached-step : Put sink sink'
+      (reply_text validation'.graph.pool.terms (plan_of validation'.plan).shapes reply)
       → Reached limits s0 rest0 faults0 sink0 validation' reader' rest' faults1 sink'
   Reached-step put' =
       let put : Put sink sink' (step_text step) = subst (Put sink sink') (sym replies.text) put' in record {
@@ -231,7 +232,7 @@ module _ (limits : Limits) (s0 : ScriptState) (rest0 : Option (List ℕ)) (fault
       }
 
   pub Reached-short : FellShort sink sink'
-      (reply_text validation'.graph.pool.terms validation'.shapes.items reply)
+      (reply_text validation'.graph.pool.terms (plan_of validation'.plan).shapes reply)
       → Ends (due_at limits s0 limits.script rest0) WriteFault faults0 faults1 sink0 sink'
   Reached-short short = reached.onward WriteFault faults1 sink'
       (Ends-short (due_at limits reached.state reader.budget (left_of reader rest)) (step_text step)
@@ -245,9 +246,9 @@ rows_answered [] = tt
 rows_answered (row ∷ rows) = tt
 
 state_answered : (s : ScriptState) (refused : Bool)
-    → IsAnswered (if refused then LinesRefused else status_of_rows (report s.graph s.shapes))
+    → IsAnswered (if refused then LinesRefused else status_of_rows (report s.plan s.graph))
 state_answered s true = tt
-state_answered s false = rows_answered (report s.graph s.shapes)
+state_answered s false = rows_answered (report s.plan s.graph)
 
 -- the run ends after the last line
 pub Ends-last : (due : Option Output) (s : ScriptState) (faults faults' : ℕ) (sink : SinkState)

@@ -19,21 +19,29 @@ use Rattle.shx_term.specs.TripleTerms.{terms_of, numbered}
 use Rattle.shx_term.proofs.MemberLemmas.{Contains-test}
 use Rattle.graph_view.specs.Graph.{Graph}
 use Rattle.graph_view.specs.ListGraph.{plain_graph}
+use Rattle.graph_view.specs.Valid.{IsValidView}
+use Rattle.graph_view.proofs.ValidLemmas.{AllKnown-valid}
+use Rattle.comp_core.specs.declared.row.ResultRow.{ResultRow}
+use Rattle.shape_eval.specs.Laws.{ResultsDependOnReads, TargetsDependOnReads}
+use Rattle.shape_eval.specs.Plan.{IsKnownPlan, Planned, RefersLower}
+use Rattle.shape_eval.specs.Planned.{plan_of}
+use Rattle.shape_eval.specs.Report.{report}
+use Rattle.report_write.specs.ReportLines.{report_text}
 use Rattle.shx_term.specs.Members.{SameMembers}
 use Rattle.graph_view.specs.SameGraph.{SameGraph}
 use Rattle.shx_term.proofs.SetLemmas.{SameMembers-sym}
 use Rattle.graph_view.proofs.SameGraphLemmas.{SameMembers-also, SameGraph-then}
 use Rattle.shacl_run.specs.declared.edit.Edited.{Edited}
 use Rattle.shacl_run.specs.declared.edit.Edited.TheVariants.{Changed, Unchanged, Refused}
-use Rattle.shacl_run.specs.declared.result_row.ResultRow.{ResultRow}
 use Rattle.shacl_run.specs.declared.validation.Validation.{Validation}
 use Rattle.shacl_run.specs.Edits.{edited, graph_after, is_among, is_stated, terms_with}
-use Rattle.shacl_run.specs.Evaluation.{report}
-use Rattle.shacl_run.specs.Report.{report_text}
 use Rattle.shacl_run.specs.ScriptState.{ScriptState}
-use Rattle.shacl_run.specs.inner.Validation.{IsValidation}
+use Rattle.shacl_run.specs.Script.{said_text}
+use Rattle.shacl_run.specs.Script.Said.{reports}
+use Rattle.shacl_run.specs.inner.Validation.{IsValidation, Stands}
 use Rattle.shacl_run.proofs.EditLemmas.{HasAlso-push}
 use Rattle.shacl_run.proofs.SameReportLemmas.{report_same}
+use Rattle.shacl_run.proofs.StandsLemmas.{valid_members}
 
 -- a test for a triple finds it in both lists or in neither
 any_same : (triples others : List Triple) → SameMembers triples others → (t : Option Triple)
@@ -93,21 +101,27 @@ SameGraph-after Refused g h t same = same
 module _ (limits : Limits) (s : ScriptState) (validation : Validation)
     (is : IsValidation limits s validation) where
   -- the results on what is stored are those on the state
-  pub results-validation : (rows : List ResultRow)
-      → rows ≡ report (plain_graph validation.graph) validation.shapes.items
-      → rows ≡ report s.graph s.shapes
-  results-validation rows same =
-      same ∙ ap (report (plain_graph validation.graph)) is.shapes_are
-      ∙ sym (report_same s.graph (plain_graph validation.graph) is.stores s.shapes)
+  pub rows-validation : Stands validation → ResultsDependOnReads → TargetsDependOnReads
+      → (rows : List ResultRow) → rows ≡ report (plan_of validation.plan) (plain_graph validation.graph)
+      → rows ≡ report s.plan s.graph
+  rows-validation stands results_depend targets_depend rows same =
+      let stored = plain_graph validation.graph in
+      let valid : IsValidView s.graph =
+      valid_members stored s.graph (sym is.stores.terms) (SameMembers-sym is.stores.triples) stands.valid in
+      let refers : RefersLower s.plan.shapes =
+      subst (λ (plan : Planned). RefersLower plan.shapes) is.plan_is stands.refers in
+      let known : IsKnownPlan stored.terms s.plan.shapes =
+      subst (λ (plan : Planned). IsKnownPlan stored.terms plan.shapes) is.plan_is stands.known in
+      same ∙ ap (λ (plan : Planned). report plan stored) is.plan_is
+      ∙ sym (report_same results_depend targets_depend s.plan refers s.graph stored
+      (subst (λ terms. IsKnownPlan terms s.plan.shapes) (sym is.stores.terms) known)
+      (AllKnown-valid s.graph valid) (AllKnown-valid stored stands.valid) is.stores)
 
-  -- and so is their text
-  pub report_text-validation : (rows : List ResultRow)
-      → rows ≡ report (plain_graph validation.graph) validation.shapes.items
-      → report_text s.graph.terms s.shapes (report s.graph s.shapes)
-      ≡ report_text validation.graph.pool.terms validation.shapes.items rows
-  report_text-validation rows same =
-      let rows_same = results-validation rows same in
-      sym (λ i. report_text (sym is.stores.terms i) (is.shapes_are i) (rows_same i))
+  -- and their text is what is said of the state
+  pub text-validation : (rows : List ResultRow) → rows ≡ report s.plan s.graph
+      → said_text s reports ≡ report_text validation.graph.pool.terms (plan_of validation.plan).shapes rows
+  text-validation rows same =
+      sym (λ i. report_text (sym is.stores.terms i) (is.plan_is i).shapes (same i))
 
   -- what comes of an insertion into what is stored is what comes of one into the state
   pub edited-validation : (outcome : Edited) (t : TermTriple)

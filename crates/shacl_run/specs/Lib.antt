@@ -1,14 +1,11 @@
-pub mod Declarations
 pub mod Edits
-pub mod Evaluation
 pub mod Outside
 pub mod Readings
-pub mod Report
 pub mod Run
 pub mod RunClauses
 pub mod Script
 pub mod ScriptState
-pub mod Shapes
 pub mod Status
+pub mod Verdict
 pub mod Words
 pub mod inner

@@ -1,5 +1,6 @@
 -- What the two texts are read as: what each states over the numbers of its terms, or its fault.
-use Rattle.std.specs.Prelude.{◌≡◌, ℕ, ◌<◌, ◌≤◌, List, length, Option, None, IfSome}
+use Rattle.std.specs.Prelude.{◌≡◌, ℕ, ◌<◌, ◌≤◌, List, length, Option, None, Some, IfSome}
+use Rattle.shx_outside.specs.declared.flags.Flags.{Flags}
 use Rattle.shx_term.specs.declared.limits.Limits.{Limits}
 use Rattle.shx_term.specs.declared.term.Scope.{Scope}
 use Rattle.shx_term.specs.declared.term.Scope.TheVariants.{Shapes, Data}
@@ -8,11 +9,13 @@ use Rattle.shx_term.specs.declared.triple.TermTriple.{TermTriple}
 use Rattle.shx_term.specs.Pool.{with_terms}
 use Rattle.shx_term.specs.TripleTerms.{terms_of, numbered_all}
 use Rattle.shx_term.specs.Vocabulary.{vocabulary}
-use Rattle.graph_view.specs.Graph.{Graph, AllKnown}
+use Rattle.graph_view.specs.Graph.{Graph, AllKnown, graph_of}
 use Rattle.ttl_meaning.specs.State.{State}
 use Rattle.ttl_read.specs.Documents.{Setting, setting}
 use Rattle.ttl_read.specs.Unique.{IsOneDocument, IsOneFault}
-use Rattle.shacl_run.specs.Declarations.{Declarations, declared_by}
+use Rattle.shape_decl.specs.Declarations.{declarations}
+use Rattle.shape_compile.specs.Patterns.{AreAdmitted}
+use Rattle.shacl_run.specs.Verdict.{Verdict, IsVerdict, plans}
 
 -- a document: its graph, and the state at its end, with the base, the prefixes and the blank nodes that hold
 -- for what is read behind it; or a fault: its code, and the byte at which it stands; or a text that is longer
@@ -48,19 +51,43 @@ pub record Readings : Type 0 where
   pub shapes : TextReading
   pub data_text : TextReading
 
--- the shapes that a text declares, where it states a document of shapes that are built
-abbrev pub declarations_of : TextReading → Option Declarations
-declarations_of (States document end) = declared_by document
-declarations_of (Faulty code at) = None
-declarations_of Long = None
+-- the triples of a document, each once
+abbrev pub stated_graph : Graph → Graph
+stated_graph document = graph_of document.terms document.triples
 
--- the texts that are told are read so over a base: the data text where the terms are held that the shapes
--- text leaves
-pub record AreRight (limits : Limits) (base : List ℕ) (readings : Readings)
-    (shapes data_text : Option (List ℕ)) : Type 0 where
-  pub shapes_right : IfSome shapes (λ text. IsReadAs limits base Shapes vocabulary text readings.shapes)
-  pub data_right : IfSome data_text (λ text. IfSome (declarations_of readings.shapes) (λ declared.
-      IsReadAs limits base Data declared.terms text readings.data_text))
+-- ---- the shapes text
+
+-- the shapes text, where it is told, is read so
+abbrev pub ShapesAreRead : Limits → List ℕ → TextReading → Option (List ℕ) → Type 0
+ShapesAreRead limits base reading text =
+    IfSome text (λ bytes. IsReadAs limits base Shapes vocabulary bytes reading)
+
+-- the shapes that are stated come to this
+abbrev pub ComeTo : Limits → TextReading → Verdict → Type 0
+ComeTo limits (States document end) verdict = IsVerdict limits (stated_graph document) verdict
+ComeTo limits (Faulty code at) verdict = Unit {0}
+ComeTo limits Long verdict = Unit {0}
+
+-- and so do those of a text, where it is told
+abbrev pub AreJudged : Limits → TextReading → Option (List ℕ) → Verdict → Type 0
+AreJudged limits reading text verdict = IfSome text (λ bytes. ComeTo limits reading verdict)
+
+-- each pattern of the shapes text may be built with the flags of its shape; where the text is not told, each
+-- text may be
+abbrev pub PatternsAreAdmitted : Limits → List ℕ → Option (List ℕ) → (Flags → List ℕ → Type 0) → Type 0
+PatternsAreAdmitted limits base None admits = (flags : Flags) (text : List ℕ) → admits flags text
+PatternsAreAdmitted limits base (Some bytes) admits =
+    (document : Graph) (end : State)
+    → IsReadAs limits base Shapes vocabulary bytes (States document end)
+    → AreAdmitted admits document.terms (declarations limits (stated_graph document))
+
+-- ---- the data text
+
+-- the data text is read so, where it is told and the shapes have a plan: behind the terms of the shapes text
+abbrev pub DataIsRead : Limits → List ℕ → Readings → Verdict → Option (List ℕ) → Type 0
+DataIsRead limits base readings verdict text =
+    IfSome text (λ bytes. (document : Graph) (end : State) (plan : _) → readings.shapes ≡ States document end
+    → verdict ≡ plans plan → IsReadAs limits base Data document.terms bytes readings.data_text)
 
 -- every number has a term, and there are no more triples than this
 pub record IsKnownDocument (most : ℕ) (document : Graph) : Type 0 where

@@ -1,6 +1,7 @@
 -- What a run promises, in terms of the output that is due.
 use Rattle.std.specs.Prelude.{◌≡◌, ◌≢◌, ℕ, Bool, true, false, List, [], ◌++◌, Option, Some, None, length}
-use Rattle.std.specs.Prelude.{IsSome, IfSome}
+use Rattle.std.specs.Prelude.{IfSome, ◌⊎◌}
+use Rattle.shx_outside.specs.declared.flags.Flags.{Flags}
 use Rattle.shx_outside.specs.declared.role.Role.{Role}
 use Rattle.shx_outside.specs.declared.role.Role.TheVariants.{Shapes, Data, Script}
 use Rattle.shx_outside.specs.Counted.{Rose}
@@ -8,34 +9,52 @@ use Rattle.shx_outside.specs.Outside.{InputState, SinkState}
 use Rattle.shx_outside.specs.Told.{Grew, Fell, IsAtEnd}
 use Rattle.shx_term.specs.declared.limits.Limits.{Limits}
 use Rattle.text_input.specs.TextRead.{TakesWithin}
-use Rattle.report_write.specs.Writes.{Put}
+use Rattle.text_output.specs.Writes.{Put}
 use Rattle.shacl_run.specs.declared.status.Status.{Status}
 use Rattle.shacl_run.specs.declared.status.Status.TheVariants.{InputFault, WriteFault, Refused}
 use Rattle.shacl_run.specs.Outside.{Outside}
 use Rattle.shacl_run.specs.Run.{Output, run_output, opening, opening_fed, words_script}
-use Rattle.shacl_run.specs.Readings.{Readings, AreRight}
+use Rattle.shacl_run.specs.Readings.{Readings, TextReading, AreJudged, DataIsRead, PatternsAreAdmitted}
+use Rattle.shacl_run.specs.Readings.{ShapesAreRead}
+use Rattle.shacl_run.specs.Verdict.{Verdict, refuses_pattern}
 use Rattle.shacl_run.specs.Status.{IsAnswered, IsReported, IsCutShort}
 use Rattle.shacl_run.specs.Words.{Files, Asked, command_words}
 
 -- ---- what the texts are read as
 
--- the texts that the words name are read so, where they are told
-abbrev pub AreRightOf : Limits → Readings → Option Asked → (List ℕ → Option (List ℕ)) → Type 0
-AreRightOf limits readings None texts = Unit {0}
-AreRightOf limits readings (Some words) texts =
-    AreRight limits words.base readings (texts words.files.shapes_file) (texts words.files.data_file)
+-- the shapes text, where the words name one and it is told
+abbrev pub words_shapes : (List ℕ → Option (List ℕ)) → Option Asked → Option (List ℕ)
+words_shapes texts None = None
+words_shapes texts (Some words) = texts words.files.shapes_file
 
--- the texts have a reading
-abbrev pub IsRead : Limits → List (List ℕ) → (List ℕ → Option (List ℕ)) → Type 0
-IsRead limits words texts = (readings : Readings) × AreRightOf limits readings (command_words words) texts
+-- it is read so
+abbrev pub ShapesAreReadBy : Limits → Readings → Option Asked → (List ℕ → Option (List ℕ)) → Type 0
+ShapesAreReadBy limits readings None texts = Unit {0}
+ShapesAreReadBy limits readings (Some words) texts =
+    ShapesAreRead limits words.base readings.shapes (texts words.files.shapes_file)
+
+-- and so is the data text, where the shapes have a plan
+abbrev pub DataIsReadBy : Limits → Readings → Verdict → Option Asked → (List ℕ → Option (List ℕ)) → Type 0
+DataIsReadBy limits readings verdict None texts = Unit {0}
+DataIsReadBy limits readings verdict (Some words) texts =
+    DataIsRead limits words.base readings verdict (texts words.files.data_file)
+
+-- the texts have a reading, and the shapes a verdict
+pub record IsRead (limits : Limits) (words : List (List ℕ)) (texts : List ℕ → Option (List ℕ)) : Type 0 where
+  pub readings : Readings
+  pub shapes : ShapesAreReadBy limits readings (command_words words) texts
+  pub verdict : Verdict
+  pub judged : AreJudged limits readings.shapes (words_shapes texts (command_words words)) verdict
+  pub data_text : DataIsReadBy limits readings verdict (command_words words) texts
+
+-- each pattern of the shapes text that the words name may be built
+abbrev pub PatternsAreAdmittedBy : Limits → Option Asked → (List ℕ → Option (List ℕ))
+    → (Flags → List ℕ → Type 0) → Type 0
+PatternsAreAdmittedBy limits None texts admits = Unit {0}
+PatternsAreAdmittedBy limits (Some words) texts admits =
+    PatternsAreAdmitted limits words.base (texts words.files.shapes_file) admits
 
 -- ---- what is written
-
--- the outputs that are due of words and texts: so far the defined one alone
-pub data IsDue (limits : Limits) (readings : Readings) (words : List (List ℕ)) (texts : List ℕ
-    → Option (List ℕ))
-    (output : Output) : Type 0 where
-  defined : run_output limits readings words texts ≡ Some output → IsDue limits readings words texts output
 
 -- the bytes written and the status are those of the output
 pub record WritesWhole (output : Output) (before after : SinkState) (status : Status) : Type 0 where
@@ -65,10 +84,10 @@ pub record StopsFed (fed : List ℕ → List ℕ) (script left : Option (List �
 
 -- where an input failed after the script was opened, the answers to the lines that were taken whole stand
 -- written
-abbrev pub ScriptStops : Limits → Readings → List (List ℕ) → InputState → InputState → SinkState → SinkState
-    → Type 0
-ScriptStops limits readings words inputs inputs' before after =
-    IfSome (opening readings words inputs.text) (λ opening.
+abbrev pub ScriptStops : Limits → Readings → Verdict → List (List ℕ) → InputState → InputState → SinkState
+    → SinkState → Type 0
+ScriptStops limits readings verdict words inputs inputs' before after =
+    IfSome (opening readings verdict words inputs.text) (λ opening.
     StopsFed (opening_fed limits opening) (words_script inputs.text (command_words words))
     (inputs'.rest Script) before after)
 
@@ -77,25 +96,49 @@ pub record IsOpenedBy (before after : InputState) (role : Role) : Type 0 where
   pub closed_before : before.opened role ≡ false
   pub opened_after : after.opened role ≡ true
 
--- of one output, which is due where the texts are told that it depends on: where memory and the outside serve
--- it is written whole, and after a failure a front of it; where the script could not be read on, up to the
--- last line that was taken; and the pattern host's count rose where a pattern was refused with it
-pub record WritesDue (limits : Limits) (readings : Readings) (words : List (List ℕ))
+-- of one output, which is the defined one where the texts are told that it depends on: where memory and the
+-- outside serve it is written whole, and after a failure a front of it; where the script could not be read
+-- on, up to the last line that was taken
+pub record WritesDue (limits : Limits) (readings : Readings) (verdict : Verdict) (words : List (List ℕ))
     (before after : Outside) (status : Status) : Type 0 where
   pub output : Output
-  pub due : IsSome (run_output limits readings words before.inputs.text)
-      → IsDue limits readings words before.inputs.text output
+  pub due : IfSome (run_output limits readings verdict words before.inputs.text)
+      (λ defined. output ≡ defined)
   pub exact : IsAnswered status → WritesWhole output before.sink after.sink status
   pub prefix : IsCutShort status → WritesFront output before.sink after.sink status
   pub script_stops : status ≡ InputFault → IsOpenedBy before.inputs after.inputs Script
-      → ScriptStops limits readings words before.inputs after.inputs before.sink after.sink
-  pub patterns : RoseWhere output.pattern_refused before.patterns.faults after.patterns.faults
-  pub pattern_refused : output.pattern_refused ≡ true → output.status ≡ Refused
+      → ScriptStops limits readings verdict words before.inputs after.inputs before.sink after.sink
+
+-- the shapes come to one verdict, by which all is said; and the pattern host's count rose where the verdict
+-- is that a pattern was refused
+pub record ByVerdict (limits : Limits) (shapes : TextReading) (text : Option (List ℕ))
+    (refusals refusals' : ℕ) (Says : Verdict → Type 0) : Type 0 where
+  pub verdict : Verdict
+  pub judged : AreJudged limits shapes text verdict
+  pub patterns : RoseWhere (refuses_pattern verdict) refusals refusals'
+  pub says : Says verdict
+
+-- memory or the inputs failed before the shapes had a verdict: nothing was written
+pub record StopsEarly (opened opened' : Role → Bool) (before after : SinkState) (status : Status) : Type 0
+  where
+    pub cut : IsCutShort status
+    pub no_write_fault : status ≢ WriteFault
+    pub nothing_put : after ≡ before
+    pub no_script : opened' Script ≡ opened Script
+
+-- what is written, as the shapes text is read
+abbrev pub Writes : Limits → Readings → List (List ℕ) → Outside → Outside → Status → Type 0
+Writes limits readings words before after status =
+    ByVerdict limits readings.shapes (words_shapes before.inputs.text (command_words words))
+    before.patterns.faults after.patterns.faults (λ verdict.
+    DataIsReadBy limits readings verdict (command_words words) before.inputs.text
+    → WritesDue limits readings verdict words before after status)
+    ⊎ StopsEarly before.inputs.opened after.inputs.opened before.sink after.sink status
 
 -- ---- what failed
 
 -- whatever the texts are read as: bytes were put behind what the sink held; a failure comes only where its
--- count rose, and otherwise no count rose; no evaluation is counted so far
+-- count rose, and otherwise no count rose; no nested evaluation is counted so far
 pub record HasCauses (before after : Outside) (status : Status) : Type 0 where
   pub bytes : List ℕ
   pub grew : Grew before.sink.held after.sink.held bytes
@@ -107,7 +150,6 @@ pub record HasCauses (before after : Outside) (status : Status) : Type 0 where
   pub quiet_sink : status ≢ WriteFault → after.sink.faults ≡ before.sink.faults
   pub quiet_patterns : IsAnswered status → status ≢ Refused → after.patterns.faults ≡ before.patterns.faults
   pub nested_still : after.nested ≡ before.nested
-  pub steps_still : after.steps ≡ before.steps
 
 -- ---- what was read
 
@@ -136,10 +178,10 @@ pub record StaysWithin (limits : Limits) (before after : InputState) (files : Fi
 -- what a run promises that was given these words, of the outside before it and after it, and of its status
 pub record IsRun (limits : Limits) (words : List (List ℕ)) (before after : Outside) (status : Status) : Type 0
   where
-    -- what is written, as whatever the texts are read; and where it is written whole, they are read
+    -- what is written, whatever the texts are read as; and where it is written whole, they are read
     pub writes : (readings : Readings)
-        → AreRightOf limits readings (command_words words) before.inputs.text
-        → WritesDue limits readings words before after status
+        → ShapesAreReadBy limits readings (command_words words) before.inputs.text
+        → Writes limits readings words before after status
     pub read : IsAnswered status → IsRead limits words before.inputs.text
     -- each text was read to its end, where a report was given to its end
     pub read_to_end : IsReported status

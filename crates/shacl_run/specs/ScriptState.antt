@@ -1,24 +1,25 @@
 -- Where a script stands.
-use Rattle.std.specs.Prelude.{ℕ, Bool, false, List}
+use Rattle.std.specs.Prelude.{ℕ, Bool, false}
 use Rattle.graph_view.specs.Graph.{Graph}
+use Rattle.shape_eval.specs.Plan.{Planned}
 use Rattle.ttl_meaning.specs.State.{State}
-use Rattle.shacl_run.specs.declared.plan.Shape.{Shape}
 
--- where a script stands: the graph, the shapes, how many lines were answered, and whether one of them was
--- refused; and the state at the end of the data text, whose base, prefixes and blank nodes are those of lines
+-- where a script stands: the graph, the plan of the shapes, how many lines were answered, and whether one of
+-- them was refused; and the state at the end of the data text, whose base, prefixes and blank nodes are those
+-- of lines
 pub record ScriptState : Type 0 where
   pub graph : Graph
   pub data_end : State
-  pub shapes : List Shape
+  pub plan : Planned
   pub line : ℕ
   pub refused : Bool
 
 -- before the first line
-abbrev pub start_state : Graph → State → List Shape → ScriptState
-start_state g end shapes = record {
+abbrev pub start_state : Graph → State → Planned → ScriptState
+start_state g end plan = record {
   graph = g;
   data_end = end;
-  shapes = shapes;
+  plan = plan;
   line = 0;
   refused = false;
 }

@@ -5,6 +5,8 @@ ghost use Rattle.shx_term.specs.TermOrder.{same_term};
 ghost use Rattle.shx_term.specs.Pool.{with_term, with_terms};
 ghost use Rattle.shx_term.specs.TripleTerms.{terms_of, numbered};
 ghost use Rattle.graph_view.specs.Graph.{AllKnown};
+ghost use Rattle.graph_view.specs.Valid.{IsValidView};
+ghost use Rattle.shx_term.specs.ValidTriples.{IsValidTermTriple};
 ghost use Rattle.graph_view.specs.SameGraph.{SameGraph};
 ghost use Rattle.shacl_run.specs.declared.edit.Edited.TheVariants.{Changed};
 ghost use Rattle.shacl_run.specs.Edits.{edited, graph_after, is_stated, terms_with};
@@ -30,6 +32,8 @@ pub fn insert<E: GraphEdit>(graph: &mut E, stated: &TermTriple) -> Result<Edited
         ≡ edited (E.triple_limit graph.old) (E.term_limit graph.old) (E.graph graph.old) stated.now) }
     ensures after { IfOk result (λ outcome.
         SameGraph (graph_after outcome (E.graph graph.old) stated.now) (E.graph graph.new)) }
+    ensures valid { IsValidView (E.graph graph.old) → IsValidTermTriple stated.now
+        → IfOk result (λ outcome. IsValidView (E.graph graph.new)) }
     ensures term_limit { E.term_limit graph.new ≡ E.term_limit graph.old }
     ensures triple_limit { E.triple_limit graph.new ≡ E.triple_limit graph.old }
 {
@@ -85,6 +89,8 @@ fn add<E: GraphEdit>(graph: &mut E, stated: &TermTriple) -> Result<(), Memory>
     requires triple_room { length (E.graph graph.old).triples < E.triple_limit graph.old }
     ensures after { OnOk result
         (SameGraph (graph_after Changed (E.graph graph.old) stated.now) (E.graph graph.new)) }
+    ensures valid { IsValidView (E.graph graph.old) → IsValidTermTriple stated.now
+        → OnOk result (IsValidView (E.graph graph.new)) }
     ensures term_limit { E.term_limit graph.new ≡ E.term_limit graph.old }
     ensures triple_limit { E.triple_limit graph.new ≡ E.triple_limit graph.old }
 {

@@ -5,20 +5,21 @@ ghost use Rattle.shacl_run.specs.Run.{refused, status_of_rows};
 ghost use Rattle.shacl_run.specs.Status.{IsReported};
 ghost use Rattle.shacl_run.specs.inner.Stops.{end_status};
 
-use crate::result_row::ResultRow;
 use crate::status::Status;
 use crate::stop::Stop;
+use comp_core::ResultRow;
 use report_write::{Answer, write_answer};
 use shx_outside::Sink;
+use shx_term::Pool;
 
 /// Writes the answer by which a text is refused, with which the run ends.
-pub fn refuse<O: Sink>(answer: Answer, out: &mut O) -> Result<Status, Stop>
-    ensures ends { (faults : ℕ) → Ends (Some (refused answer)) (end_status result) faults faults
-        (O.state out.old) (O.state out.new) }
+pub fn refuse<O: Sink>(answer: &Answer, pool: &Pool, out: &mut O) -> Result<Status, Stop>
+    ensures ends { (faults : ℕ) → Ends (Some (refused pool.now.terms answer.now)) (end_status result)
+        faults faults (O.state out.old) (O.state out.new) }
     ensures unreported { IsReported (end_status result) → ⊥ }
     ensures output { end_status result ≡ Status.InputFault → ⊥ }
 {
-    write_answer(&answer, out)?;
+    write_answer(answer, pool, out)?;
     Ok(Status::Refused)
 }
 

@@ -1,150 +1,78 @@
-//! Validation: the results of shapes at their target nodes (SHACL, sections 2.1 and 3.4).
-ghost use Rattle.std.specs.Prelude.{◌≡◌, ◌++◌, map, IfOk, OnOk};
-ghost use Rattle.shacl_run.specs.Evaluation.{report, pair_of, pairs, results, target_nodes, node_of_target};
-ghost use Rattle.shacl_run.specs.Evaluation.{value_nodes, constraint_results, has_value_hits, row_of};
+//! All results of a graph.
+ghost use Rattle.std.specs.Prelude.{◌≡◌, ◌<◌, ◌++◌, flat_map, length, map, IfOk, OnOk};
+ghost use Rattle.graph_view.specs.Valid.{IsValidView};
+ghost use Rattle.shx_term.specs.declared.limits.Limits.{Limits as LimitsOf};
+ghost use Rattle.shape_eval.specs.Plan.{IsKnownPlan};
+ghost use Rattle.shape_eval.specs.Planned.{plan_of};
+ghost use Rattle.shape_eval.specs.Report.{at_shape, report};
+ghost use Rattle.shape_eval.specs.Results.{results};
+ghost use Rattle.shape_eval.specs.Targets.{target_nodes};
+ghost use Rattle.shacl_run.specs.ScriptState.{ScriptState};
+ghost use Rattle.shacl_run.specs.inner.Validation.{IsValidation, Stands};
 
-use crate::plan::{Constraint, HasValue, Shape, Target};
-use crate::result_row::{Component, Pair, ResultRow, ShapeNo};
+use crate::validation::Validation;
+use comp_core::{ResultRow, ShapeNo};
 use graph_view::{GraphView, Reads};
-use shx_term::{Id, Memory};
+use shape_eval::{Plan, eval_pair, eval_target, results_depend_on_reads, targets_depend_on_reads};
+use shx_term::{Memory, Steps};
 use std::alloc::Global;
+use std::sync::ledger::Ledger;
 
-/// The results of all shapes at their target nodes, in order. Each pair costs one look-up.
-pub fn evaluate<V: GraphView>(
+/// The results of a validation's graph in the order of a report. Each evaluation of a shape at a target node
+/// counts a step.
+pub fn report_of<L: Ledger>(
+    alloc: Global,
+    validation: &Validation,
+    steps: &mut Steps<L>,
+) -> Result<Vec<ResultRow>, Memory>
+    requires { Stands validation.now }
+    ensures { (limits : LimitsOf) (s : ScriptState) → IsValidation limits s validation.now
+        → IfOk result (λ rows. rows.items ≡ report s.plan s.graph) }
+{
+    // The graph is stored in an order of its own, which makes no difference.
+    results_depend_on_reads();
+    targets_depend_on_reads();
+    evaluate(alloc, &validation.graph, &validation.plan, steps)
+}
+
+// The results of a graph.
+fn evaluate<V: GraphView, L: Ledger>(
     alloc: Global,
     view: &V,
-    shapes: &[Shape],
+    plan: &Plan,
+    steps: &mut Steps<L>,
 ) -> Result<Vec<ResultRow>, Memory>
-    ensures { IfOk result (λ rows. rows.items ≡ report (V.graph view.now) shapes.now) }
+    requires valid { IsValidView (V.graph view.now) }
+    requires plan { IsKnownPlan (V.graph view.now).terms (plan_of plan.now).shapes }
+    ensures { IfOk result (λ rows. rows.items ≡ report (plan_of plan.now) (V.graph view.now)) }
 {
-    let pairs = list_pairs(alloc, view, shapes)?;
     let mut rows = Vec::new(alloc);
-    for pair in &pairs {
-        add_results(alloc, view, shapes, *pair, &mut rows)?;
+    for shape in plan.targeted() {
+        add_shape(alloc, view, plan, *shape, steps, &mut rows)?;
     }
     Ok(rows)
 }
 
-// Each shape with each of its target nodes.
-fn list_pairs<V: GraphView>(alloc: Global, view: &V, shapes: &[Shape]) -> Result<Vec<Pair>, Memory>
-    ensures { IfOk result (λ found. found.items ≡ pairs (V.graph view.now) shapes.now) }
-{
-    let mut pairs = Vec::new(alloc);
-    for (no, shape) in shapes.iter().enumerate() {
-        add_pairs(alloc, view, no, shape, &mut pairs)?;
-    }
-    Ok(pairs)
-}
-
-fn add_pairs<V: GraphView>(
+// Adds the results of a shape at each of its target nodes.
+fn add_shape<V: GraphView, L: Ledger>(
     alloc: Global,
     view: &V,
-    no: ShapeNo,
-    shape: &Shape,
-    pairs: &mut Vec<Pair>,
-) -> Result<(), Memory>
-    ensures { OnOk result (pairs.new.items
-        ≡ pairs.old.items ++ map (pair_of no) (target_nodes (V.graph view.now) shape.now)) }
-{
-    let nodes = nodes_of_targets(alloc, shape.targets.as_slice())?;
-    let ordered = view.pool().in_order(nodes);
-    for node in &ordered {
-        pairs.push(Pair {
-            shape: no,
-            node: *node,
-        })?;
-    }
-    Ok(())
-}
-
-fn nodes_of_targets(alloc: Global, targets: &[Target]) -> Result<Vec<Id>, Memory>
-    ensures { IfOk result (λ nodes. nodes.items ≡ map node_of_target targets.now) }
-{
-    targets
-        .iter()
-        .map(|target| node_of_target(target))
-        .collect(alloc)
-}
-
-fn node_of_target(target: &Target) -> Id
-    ensures { result ≡ node_of_target target.now }
-{
-    match target {
-        Target::Node(node) => *node,
-    }
-}
-
-// Appends the results of a pair.
-fn add_results<V: GraphView>(
-    alloc: Global,
-    view: &V,
-    shapes: &[Shape],
-    pair: Pair,
+    plan: &Plan,
+    shape: ShapeNo,
+    steps: &mut Steps<L>,
     rows: &mut Vec<ResultRow>,
 ) -> Result<(), Memory>
-    ensures { OnOk result (rows.new.items ≡ rows.old.items ++ results (V.graph view.now) shapes.now pair) }
-{
-    let Some(shape) = shapes.get(pair.shape) else {
-        return Ok(());
-    };
-    let values = list_value_nodes(alloc, view, shape.path, pair.node)?;
-    for constraint in shape.constraints.as_slice() {
-        check(constraint, pair, &values, rows)?;
-    }
-    Ok(())
-}
-
-// The value nodes of a path at a focus node, in term order.
-fn list_value_nodes<V: GraphView>(
-    alloc: Global,
-    view: &V,
-    path: Option<Id>,
-    focus: Id,
-) -> Result<Vec<Id>, Memory>
-    ensures { IfOk result (λ values. values.items ≡ value_nodes (V.graph view.now) path focus) }
-{
-    match path {
-        Some(path) => {
-            let mut reads = Reads::new(alloc);
-            Ok(view.objects(alloc, focus, path, &mut reads)?)
-        }
-        None => Ok(Vec::from_slice(alloc, &[focus])?),
-    }
-}
-
-// Appends what a constraint finds wrong with the value nodes.
-fn check(
-    constraint: &Constraint,
-    pair: Pair,
-    values: &[Id],
-    rows: &mut Vec<ResultRow>,
-) -> Result<(), Memory>
-    ensures { OnOk result
-        (rows.new.items ≡ rows.old.items ++ constraint_results pair values.now constraint.now) }
-{
-    match constraint {
-        Constraint::HasValue(has_value) => check_has_value(has_value, pair, values, rows),
-    }
-}
-
-fn check_has_value(
-    has_value: &HasValue,
-    pair: Pair,
-    values: &[Id],
-    rows: &mut Vec<ResultRow>,
-) -> Result<(), Memory>
+    requires valid { IsValidView (V.graph view.now) }
+    requires plan { IsKnownPlan (V.graph view.now).terms (plan_of plan.now).shapes }
+    requires shape { shape < length (plan_of plan.now).shapes }
     ensures { OnOk result (rows.new.items ≡ rows.old.items
-        ++ map (row_of pair Component.HasValue) (has_value_hits has_value.now values.now)) }
+        ++ flat_map (results (plan_of plan.now).shapes (V.graph view.now))
+        (map (at_shape shape) (target_nodes (plan_of plan.now).shapes (V.graph view.now) shape))) }
 {
-    if values.contains(&has_value.value) {
-        return Ok(());
+    let nodes = eval_target(alloc, view, plan, shape, &mut Reads::new(alloc))?;
+    for node in &nodes {
+        let mut found = eval_pair(alloc, view, plan, shape, *node, steps)?;
+        rows.append(&mut found.rows)?;
     }
-    rows.push(ResultRow {
-        focus: pair.node,
-        value: None,
-        predicate: None,
-        shape: pair.shape,
-        component: Component::HasValue,
-    })?;
     Ok(())
 }

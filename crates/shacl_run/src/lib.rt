@@ -6,42 +6,40 @@
 //! | `top.rt` | `run`: the whole run, with its theorem |
 //! | `status.rt`, `stop.rt`, `ending.rt` | how a run ends, and why it is cut short |
 //! | `words.rt` | the words of the command line: which files and which base they ask for |
-//! | `prepare.rt` | from the texts to a validation, or to why there is none |
-//! | `validation.rt` | `Validation`: shapes, the data text, and how far the script has come |
+//! | `prepare.rt`, `unopened.rt` | from the texts to a validation, or to why there is none |
+//! | `judge.rt`, `obstacle.rt` | from the shapes text to a plan, or to what stands in its way |
+//! | `validation.rt` | `Validation`: the plan, the data graph, and how far the script has come |
 //! | `open_validation.rt` | from the data text to a validation |
+//! | `evaluation.rt` | all results of a graph |
 //! | `run_validation.rt`, `serve.rt` | the report of a validation, and its script |
 //! | `take_line.rt`, `reply.rt`, `edit.rt` | one line of a script: taken, done, answered |
-//! | `report.rt` | the text of a report |
-//! | `turtle.rt`, `refusal.rt` | what a text of Turtle states; why no validation was opened |
+//! | `turtle.rt`, `refusal.rt` | what a text of Turtle states; why a text is not taken |
 //! | `stored_graph.rt` | the form in which graphs are stored |
-//! | `plan.rt`, `shapes.rt`, `declare.rt` | so far: the shapes that it declares |
-//! | `result_row.rt`, `evaluation.rt` | so far: the results of shapes in a graph |
 //!
-//! It stands on `shx_term`, `shx_outside`, `graph_view`, `triple_store`, `ttl_read` and the crates below it,
-//! `text_input`, `report_write` and `edit_script`. Start with `top.rt`; `specs/RunClauses.antt` says what a
-//! run promises, and `specs/Run.antt` what it writes.
+//! It stands on `ttl_read` and `text_input` for texts, on `shape_check` and `shape_compile` for shapes, on
+//! `triple_store` and `shape_eval` for results, and on `report_write` and `edit_script`. Start with `top.rt`;
+//! `specs/RunClauses.antt` says what a run promises, `specs/Run.antt` what it writes, and
+//! `specs/Verdict.antt` what shapes come to.
 #![tactic(auto)]
 
-mod declare;
 mod edit;
 mod ending;
 mod evaluation;
+mod judge;
+mod obstacle;
 mod open_validation;
-mod plan;
 mod prepare;
 mod refusal;
 mod reply;
-mod report;
-mod result_row;
 mod run_validation;
 mod serve;
-mod shapes;
 mod status;
 mod stop;
 mod stored_graph;
 mod take_line;
 mod top;
 mod turtle;
+mod unopened;
 mod validation;
 mod words;
 

@@ -8,38 +8,52 @@ ghost use Rattle.shx_outside.specs.Told.{StaysAdmitted, SameTexts, OthersStay};
 ghost use Rattle.shx_term.specs.Limits.{AreUsable};
 ghost use Rattle.text_input.specs.TextRead.{ReadsWhole, IsTooLong, TakesWithin};
 ghost use Rattle.shacl_run.specs.declared.refusal.Refusal.TheVariants.{Text};
-ghost use Rattle.shacl_run.specs.inner.Prepared.{IsPrepared, IsReadToEnd};
+ghost use Rattle.shacl_run.specs.inner.Prepared.{IsPrepared, IsReadToEnd, Stores};
+ghost use Rattle.shx_term.specs.Vocabulary.{vocabulary};
+ghost use Rattle.shacl_run.specs.Readings.{PatternsAreAdmitted};
 ghost use Rattle.shacl_run.specs.inner.Refusal.{RefusalCause};
-ghost use Rattle.shacl_run.specs.inner.Validation.{IsNew};
+ghost use Rattle.shacl_run.specs.inner.Unopened.{UnopenedCause};
+ghost use Rattle.shacl_run.specs.inner.Validation.{IsNew, Stands};
 
-use crate::declare::declare;
+use crate::judge::judge;
 use crate::open_validation::open_validation;
 use crate::refusal::Refusal;
 use crate::stop::Stop;
+use crate::unopened::Unopened;
 use crate::validation::Validation;
 use crate::words::Asked;
 use report_write::Answer;
-use shx_outside::{Inputs, Role};
-use shx_term::{IriText, Limits};
+use shx_outside::{Inputs, PatternHost, Role};
+use shx_term::{IriText, Limits, Pool};
 use std::alloc::Global;
 use text_input::{ReadFault, read_text};
 
 /// Reads the two texts and opens a validation over them, or answers why not. The data text is opened only
-/// where the shapes are declared.
-pub fn prepare<I: Inputs>(
+/// where the shapes have a plan. The pool holds no more than the vocabulary.
+pub fn prepare<I: Inputs, P: PatternHost>(
     alloc: Global,
     asked: &Asked<'_>,
     host: &mut I,
+    patterns: &mut P,
     limits: &Limits,
-) -> Result<Validation, Refusal>
+    pool: Pool,
+) -> Result<Validation, Unopened>
     requires limits { AreUsable limits.now }
     requires absolute { IsAbsolute asked.now.base.now }
     requires shapes_admitted { I.admits host.old Shapes asked.now.shapes_file.now }
     requires data_admitted { I.admits host.old Data asked.now.data_file.now }
+    requires patterns_admitted { PatternsAreAdmitted limits.now asked.now.base.now
+        ((I.state host.old).text asked.now.shapes_file.now) (P.admits patterns.old) }
+    requires fresh { pool.terms ≡ vocabulary }
+    requires limit { pool.limit ≡ limits.now.terms }
     ensures prepared { IsPrepared limits.now asked.now.base.now
         ((I.state host.old).text asked.now.shapes_file.now) ((I.state host.old).text asked.now.data_file.now)
-        result }
+        (P.state patterns.old).faults (P.state patterns.new).faults result }
+    ensures stored { IfOk result (Stores limits.now) }
     ensures fresh { IfOk result IsNew }
+    ensures stands { IfOk result Stands }
+    ensures quiet_patterns { IfOk result (λ validation.
+        (P.state patterns.new).faults ≡ (P.state patterns.old).faults) }
     ensures ends { IfOk result (IsReadToEnd (I.state host.new)) }
     ensures shapes_within { (I.state host.old).opened Shapes ≡ false → (I.state host.new).opened Shapes ≡ true
         → TakesWithin ((I.state host.old).text asked.now.shapes_file.now) ((I.state host.new).rest Shapes)
@@ -48,15 +62,20 @@ pub fn prepare<I: Inputs>(
         → TakesWithin ((I.state host.old).text asked.now.data_file.now) ((I.state host.new).rest Data)
         limits.now.text }
     ensures script { (I.state host.new).opened Script ≡ (I.state host.old).opened Script }
-    ensures cause { RefusalCause (I.state host.old).faults (I.state host.new).faults result }
+    ensures cause { UnopenedCause (I.state host.old).faults (I.state host.new).faults result }
     ensures admitted { StaysAdmitted (I.admits host.old) (I.admits host.new) }
     ensures texts { SameTexts (I.state host.old) (I.state host.new) }
 {
     let base = IriText::new(String::from_str(alloc, asked.base)?);
-    let shapes_text = read_within(alloc, host, Role::Shapes, asked.shapes_file, limits.text)?;
-    let declared = declare(alloc, &shapes_text, &base, limits)?;
-    let data_text = read_within(alloc, host, Role::Data, asked.data_file, limits.text)?;
-    open_validation(alloc, declared, &data_text, &base, limits)
+    let shapes_text = match read_within(alloc, host, Role::Shapes, asked.shapes_file, limits.text) {
+        Ok(text) => text,
+        Err(refusal) => return Err(Unopened::of(refusal, pool)),
+    };
+    let accepted = judge(alloc, pool, &shapes_text, &base, limits, patterns)?;
+    match read_within(alloc, host, Role::Data, asked.data_file, limits.text) {
+        Ok(text) => open_validation(alloc, accepted, &text, &base, limits),
+        Err(refusal) => Err(Unopened::of(refusal, accepted.pool)),
+    }
 }
 
 // A text, or that it is longer than it may be.

@@ -2,7 +2,7 @@ use crate::stop::Stop;
 use report_write::Answer;
 use std::alloc::AllocError;
 
-/// Why no validation was opened.
+/// Why a text is not taken.
 #[derive(Clone, Copy, Debug, PartialEq, Eq)]
 pub enum Refusal {
     /// A text is refused, by this answer.

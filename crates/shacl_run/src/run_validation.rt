@@ -1,5 +1,5 @@
 //! The report of a validation, and then its script.
-ghost use Rattle.std.specs.Prelude.{◌≡◌, true, false, IfSome};
+ghost use Rattle.std.specs.Prelude.{◌≡◌, ◌++◌, true, false, IfSome};
 ghost use Rattle.std.specs.Option.{option_map};
 ghost use Rattle.shx_outside.specs.declared.role.Role.TheVariants.{Script};
 ghost use Rattle.shx_outside.specs.Told.{OthersStay};
@@ -7,49 +7,55 @@ ghost use Rattle.shx_term.specs.declared.limits.Limits.{Limits as LimitsOf};
 ghost use Rattle.text_input.specs.TextRead.{TakesWithin};
 ghost use Rattle.shacl_run.specs.declared.status.Status.TheVariants.{InputFault};
 ghost use Rattle.shacl_run.specs.inner.Ends.{Ends};
-ghost use Rattle.shacl_run.specs.Run.{validation_output, opening_fed, script_text, status_of_rows};
+ghost use Rattle.report_write.specs.ReportLines.{report_text};
+ghost use Rattle.shape_eval.specs.Planned.{plan_of};
+ghost use Rattle.text_output.specs.Writes.{Writes};
+ghost use Rattle.shacl_run.specs.Run.{notice_text, opening_fed, script_text, validation_output};
 ghost use Rattle.shacl_run.specs.Run.Opening.{opens};
 ghost use Rattle.shacl_run.specs.RunClauses.{ScriptAtEnd, StopsFed};
-ghost use Rattle.shacl_run.specs.Script.{Said, said_text};
-ghost use Rattle.shacl_run.specs.Script.Said.{reports};
 ghost use Rattle.shacl_run.specs.ScriptState.{ScriptState};
 ghost use Rattle.shacl_run.specs.inner.Serving.{PutsReport};
-ghost use Rattle.shacl_run.specs.inner.Validation.{IsNew, IsValidation};
+ghost use Rattle.shacl_run.specs.inner.Validation.{IsNew, IsValidation, Stands};
 ghost use Rattle.shacl_run.specs.Status.{IsReported};
 ghost use Rattle.shacl_run.specs.inner.Stops.{end_status};
 ghost use Rattle.shacl_run.specs.Words.{AdmitsScript};
 
 use crate::ending::status_of_rows;
-use crate::evaluation::evaluate;
-use crate::report::write_report;
+use crate::evaluation::report_of;
 use crate::serve::serve;
 use crate::status::Status;
 use crate::stop::Stop;
 use crate::validation::Validation;
+use comp_core::ResultRow;
 use graph_view::GraphView;
+use report_write::{Answer, add_answer, add_report};
 use shx_outside::{Inputs, Role, Sink};
-use shx_term::Limits;
+use shx_term::{Limits, Pieces, Pool, Steps};
 use std::alloc::Global;
+use std::sync::ledger::Ledger;
+use text_output::{WriteFault, Writer};
 
 /// Writes the report, and then answers the script where the words name one.
-pub fn run_validation<I: Inputs, O: Sink>(
+pub fn run_validation<I: Inputs, O: Sink, L: Ledger>(
     alloc: Global,
     validation: &mut Validation,
     script: Option<&str>,
     host: &mut I,
     out: &mut O,
     limits: &Limits,
+    steps: &mut Steps<L>,
 ) -> Result<Status, Stop>
+    requires stands { Stands validation.old }
     requires admitted { AdmitsScript (I.admits host.old) (option_map (λ name. name.now) script) }
     requires fresh { IsNew validation.old }
     ensures ends { (s : ScriptState) → IsValidation limits.now s validation.old
-        → Ends (option_map (validation_output limits.now s)
+        → Ends (option_map (validation_output limits.now validation.old.passed_over s)
         (script_text (I.state host.old).text (option_map (λ name. name.now) script.entry)))
         (end_status result) (I.state host.old).faults (I.state host.new).faults
         (O.state out.old) (O.state out.new) }
     ensures fed { (s : ScriptState) → IsValidation limits.now s validation.old
         → end_status result ≡ InputFault → (I.state host.new).opened Script ≡ true
-        → StopsFed (opening_fed limits.now (opens s))
+        → StopsFed (opening_fed limits.now (opens validation.old.passed_over s))
         (script_text (I.state host.old).text (option_map (λ name. name.now) script.entry))
         ((I.state host.new).rest Script) (O.state out.old) (O.state out.new) }
     ensures read_to_end { IsReported (end_status result)
@@ -59,20 +65,52 @@ pub fn run_validation<I: Inputs, O: Sink>(
         TakesWithin ((I.state host.old).text name) ((I.state host.new).rest Script) limits.now.script) }
     ensures others { OthersStay Script (I.state host.old) (I.state host.new) }
 {
-    let status = put_report(alloc, validation, out)?;
+    let status = put_report(alloc, validation, out, steps)?;
     let Some(name) = script else {
         return Ok(status);
     };
     host.open(Role::Script, name)?;
-    serve(alloc, validation, host, out, limits)
+    serve(alloc, validation, host, out, limits, steps)
 }
 
-// Writes the report, and answers how the run ends with it.
-fn put_report<O: Sink>(alloc: Global, validation: &Validation, out: &mut O) -> Result<Status, Stop>
+// Writes the report behind its notice, and answers how the run ends with it.
+fn put_report<O: Sink, L: Ledger>(
+    alloc: Global,
+    validation: &Validation,
+    out: &mut O,
+    steps: &mut Steps<L>,
+) -> Result<Status, Stop>
+    requires { Stands validation.now }
     ensures { (limits : LimitsOf) (s : ScriptState) → IsValidation limits s validation.now
-        → PutsReport s (O.state out.old) (O.state out.new) result }
+        → PutsReport validation.now.passed_over s (O.state out.old) (O.state out.new) result }
 {
-    let rows = evaluate(alloc, &validation.graph, &validation.shapes)?;
-    write_report(&rows, &validation.shapes, validation.graph.pool(), out)?;
+    let rows = report_of(alloc, validation, steps)?;
+    write_first(&rows, validation, out)?;
     Ok(status_of_rows(&rows))
+}
+
+// Puts the notice and the report.
+fn write_first<O: Sink>(
+    rows: &[ResultRow],
+    validation: &Validation,
+    out: &mut O,
+) -> Result<(), WriteFault>
+    ensures { Writes (O.state out.old) (O.state out.new) (notice_text validation.now.passed_over
+        ++ report_text validation.now.graph.pool.terms (plan_of validation.now.plan).shapes rows.now) result }
+{
+    let pool = validation.graph.pool();
+    let mut writer = Writer::new(out);
+    add_notice(validation.passed_over, pool, &mut writer);
+    add_report(rows, &validation.plan, pool, &mut writer);
+    writer.finish()
+}
+
+// Adds that so many triples were passed over, where there are any.
+fn add_notice<W: Pieces>(count: u64, pool: &Pool, out: &mut W)
+    ensures { W.added out.old out.new (notice_text count) }
+{
+    if count == 0 {
+        return;
+    }
+    add_answer(&Answer::Notice { count }, pool, out);
 }

@@ -1,40 +1,45 @@
 //! Answering the lines of a script.
-ghost use Rattle.std.specs.Prelude.{◌≡◌, true};
+ghost use Rattle.std.specs.Prelude.{◌≡◌, ℕ, true, Some};
 ghost use Rattle.shx_outside.specs.declared.role.Role.TheVariants.{Script};
 ghost use Rattle.shx_outside.specs.Told.{IsAtEnd, OthersStay};
 ghost use Rattle.shx_term.specs.declared.limits.Limits.{Limits as LimitsOf};
 ghost use Rattle.text_input.specs.TextRead.{TakesWithin};
 ghost use Rattle.shacl_run.specs.declared.status.Status.TheVariants.{InputFault};
 ghost use Rattle.shacl_run.specs.inner.Ends.{Ends};
-ghost use Rattle.shacl_run.specs.Run.{fed_text, status_of_state};
+ghost use Rattle.report_write.specs.declared.answer.Answer.TheVariants.{NotBuilt};
+ghost use Rattle.shacl_run.specs.Run.{fed_text, refused};
 ghost use Rattle.shacl_run.specs.RunClauses.{StopsFed};
 ghost use Rattle.shacl_run.specs.ScriptState.{ScriptState};
 ghost use Rattle.shacl_run.specs.inner.Serving.{due_at, LastStatus};
-ghost use Rattle.shacl_run.specs.inner.Validation.{IsNew, IsValidation};
+ghost use Rattle.shacl_run.specs.inner.Validation.{IsNew, IsValidation, Stands};
 ghost use Rattle.shacl_run.specs.Status.{IsReported};
 ghost use Rattle.shacl_run.specs.inner.Stops.{end_status};
 
 use crate::ending::{refuse, status_of_rows};
-use crate::evaluation::evaluate;
+use crate::evaluation::report_of;
 use crate::reply::write_reply;
 use crate::status::Status;
 use crate::stop::Stop;
 use crate::take_line::{Taken, take_line};
 use crate::validation::Validation;
+use graph_view::GraphView;
 use report_write::Answer;
 use shx_outside::{Inputs, Role, Sink};
-use shx_term::Limits;
+use shx_term::{Limits, Steps};
 use std::alloc::Global;
+use std::sync::ledger::Ledger;
 use text_input::ScriptReader;
 
 /// Answers the lines of an opened script, each before the next is taken.
-pub fn serve<I: Inputs, O: Sink>(
+pub fn serve<I: Inputs, O: Sink, L: Ledger>(
     alloc: Global,
     validation: &mut Validation,
     host: &mut I,
     out: &mut O,
     limits: &Limits,
+    steps: &mut Steps<L>,
 ) -> Result<Status, Stop>
+    requires stands { Stands validation.old }
     requires opened { (I.state host.old).opened Script ≡ true }
     requires fresh { IsNew validation.old }
     ensures ends { (s : ScriptState) → IsValidation limits.now s validation.old
@@ -51,23 +56,42 @@ pub fn serve<I: Inputs, O: Sink>(
 {
     let mut reader = ScriptReader::new(limits.script);
     loop {
-        let taken = take_line(alloc, &mut reader, validation, host, limits)?;
+        let taken = take_line(alloc, &mut reader, validation, host, limits, steps)?;
         match &taken {
             Taken::Replied(reply) => write_reply(reply, validation, out)?,
-            Taken::End => return last_status(alloc, validation),
-            Taken::PastLimit => return refuse(Answer::NotBuilt { role: Role::Script }, out),
+            Taken::End => return last_status(alloc, validation, steps),
+            Taken::PastLimit => return refuse_script(validation, out),
         }
     }
 }
 
 // How the run ends after the last line.
-fn last_status(alloc: Global, validation: &Validation) -> Result<Status, Stop>
+fn last_status<L: Ledger>(
+    alloc: Global,
+    validation: &Validation,
+    steps: &mut Steps<L>,
+) -> Result<Status, Stop>
+    requires { Stands validation.now }
     ensures { (limits : LimitsOf) (s : ScriptState) → IsValidation limits s validation.now
         → LastStatus s result }
 {
     if validation.refused {
         return Ok(Status::LinesRefused);
     }
-    let rows = evaluate(alloc, &validation.graph, &validation.shapes)?;
+    let rows = report_of(alloc, validation, steps)?;
     Ok(status_of_rows(&rows))
+}
+
+// Writes that the script goes on past its limit.
+fn refuse_script<O: Sink>(validation: &Validation, out: &mut O) -> Result<Status, Stop>
+    ensures ends { (faults : ℕ) → Ends (Some (refused validation.now.graph.pool.terms (NotBuilt Script)))
+        (end_status result) faults faults (O.state out.old) (O.state out.new) }
+    ensures unreported { IsReported (end_status result) → ⊥ }
+    ensures output { end_status result ≡ InputFault → ⊥ }
+{
+    refuse(
+        &Answer::NotBuilt { role: Role::Script },
+        validation.graph.pool(),
+        out,
+    )
 }

@@ -2,9 +2,9 @@ ghost use Rattle.std.specs.Prelude.{◌≡◌};
 ghost use Rattle.shacl_run.specs.inner.Stops.{stop_status};
 
 use crate::status::Status;
-use report_write::WriteFault;
 use shx_outside::Failed;
 use std::alloc::AllocError;
+use text_output::WriteFault;
 
 /// Why a run was cut short.
 #[derive(Clone, Copy, Debug, PartialEq, Eq)]

@@ -5,15 +5,16 @@ ghost use Rattle.text_input.specs.ScriptReader.{left_of, GoesOn, MetEnd, ReadsLi
 ghost use Rattle.shacl_run.specs.inner.Stops.{StopCause};
 ghost use Rattle.shacl_run.specs.ScriptState.{ScriptState};
 ghost use Rattle.shacl_run.specs.inner.Serving.{TakesLine, TakesBytes};
-ghost use Rattle.shacl_run.specs.inner.Validation.{IsValidation};
+ghost use Rattle.shacl_run.specs.inner.Validation.{IsValidation, Stands};
 
 use crate::reply::{Reply, refuse_line, reply_to};
 use crate::stop::Stop;
 use crate::validation::Validation;
 use shx_outside::Inputs;
-use shx_term::Limits;
 use shx_term::fault_codes::NOT_BUILT;
+use shx_term::{Limits, Steps};
 use std::alloc::Global;
+use std::sync::ledger::Ledger;
 use text_input::{Line, ReadFault, ScriptReader};
 
 /// What came of a line.
@@ -35,16 +36,19 @@ impl Drop for Taken {
 }
 
 /// Takes the next line of the script and does what it asks for.
-pub fn take_line<I: Inputs>(
+pub fn take_line<I: Inputs, L: Ledger>(
     alloc: Global,
     reader: &mut ScriptReader,
     validation: &mut Validation,
     host: &mut I,
     limits: &Limits,
+    steps: &mut Steps<L>,
 ) -> Result<Taken, Stop>
+    requires stands { Stands validation.old }
     requires opened { (I.state host.old).opened Script ≡ true }
     requires met { MetEnd reader.old.ended ((I.state host.old).rest Script) }
     requires few { validation.old.line + reader.old.budget < 2 ^ 64 }
+    ensures stands { IfOk result (λ taken. Stands validation.new) }
     ensures taken { (s : ScriptState) → IsValidation limits.now s validation.old
         → IfOk result (TakesLine limits.now s validation.new reader.old reader.new
         ((I.state host.old).rest Script) ((I.state host.new).rest Script)) }
@@ -61,7 +65,7 @@ pub fn take_line<I: Inputs>(
     let line = next_line(alloc, reader, host, limits)?;
     match &line {
         Line::Is(bytes) => {
-            let reply = reply_to(alloc, validation, bytes, limits)?;
+            let reply = reply_to(alloc, validation, bytes, limits, steps)?;
             Ok(Taken::Replied(reply))
         }
         Line::TooLong => Ok(Taken::Replied(refuse_line(validation, NOT_BUILT))),

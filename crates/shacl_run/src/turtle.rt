@@ -1,9 +1,11 @@
 //! What a text of Turtle states.
 ghost use Rattle.std.specs.Prelude.{◌≡◌, ◌≤◌, length, IfOk, IfErr};
 ghost use Rattle.iri_resolve.specs.Resolution.{IsAbsolute};
+ghost use Rattle.graph_view.specs.Valid.{IsValidView};
 ghost use Rattle.shacl_run.specs.Readings.{IsKnownDocument, IsReadAs};
 ghost use Rattle.shacl_run.specs.inner.Refusal.{IsQuiet, RefusesAs};
 ghost use Rattle.shacl_run.specs.inner.Turtle.{StatesDocument, role_of};
+ghost use Rattle.shacl_run.specs.inner.Validation.{HasNoWide};
 
 use crate::refusal::Refusal;
 use crate::stop::Stop;
@@ -30,6 +32,8 @@ pub fn read_turtle(
     ensures limit { pool.new.limit ≡ pool.old.limit }
     ensures states { IfOk result
         (StatesDocument limits.now base.now scope pool.old.terms text.now pool.new.terms) }
+    ensures valid { HasNoWide pool.old.terms → IfOk result (λ document.
+        IsValidView (record { terms = pool.new.terms; triples = document.triples.items })) }
     ensures known { IfOk result (λ document. IsKnownDocument limits.now.triples
         (record { terms = pool.new.terms; triples = document.triples.items })) }
     ensures refused { IfErr result

@@ -1,14 +1,16 @@
-use crate::plan::Shape;
 use crate::stored_graph::StoredGraph;
+use shape_eval::Plan;
 use ttl_read::Document;
 
-/// Declared shapes, the data graph that they are asked of, and how far the script has come.
+/// The plan of the shapes, the data graph that it is asked of, and how far the script has come.
 #[derive(Drop)]
 pub struct Validation {
     pub graph: StoredGraph,
     /// The data text without its triples: the base, the prefixes and the blank nodes at its end.
     pub document: Document,
-    pub shapes: Vec<Shape>,
+    pub plan: Plan,
+    /// How many triples of the shapes text were passed over.
+    pub passed_over: u64,
     /// How many lines of the script were answered.
     pub line: u64,
     /// Whether one of them was refused.

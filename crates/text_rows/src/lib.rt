@@ -1,4 +1,4 @@
-//! What is read and written, as tests alone: inputs and sinks, patterns, texts and scripts, lines, answers.
+//! What is read and written, as tests alone: inputs and sinks, patterns, texts and scripts, lines, output.
 //!
 //! | file | what it holds |
 //! |---|---|
@@ -6,9 +6,9 @@
 //! | `tests/patterns.rt` | patterns with their flags, hard ones, and what is refused |
 //! | `tests/texts.rt` | whole texts and the lines of a script, within their limits |
 //! | `tests/lines.rt` | lines of a script as commands, by the tables beside it |
-//! | `tests/answers.rt` | answers, numbers and terms that are put into a sink |
+//! | `tests/output.rt` | texts, numbers and terms that are put into a sink |
 //!
-//! It stands on `shx_outside`, `text_input`, `edit_script`, `report_write`, `shx_term` and `row_tools`. A
+//! It stands on `shx_outside`, `text_input`, `edit_script`, `text_output`, `shx_term` and `row_tools`. A
 //! table is a text of lines, and a test asks for the first line that is met otherwise.
 #![tactic(auto)]
 

@@ -1,5 +1,5 @@
-mod answers;
 mod lines;
+mod output;
 mod outside;
 mod patterns;
 mod texts;

@@ -8,5 +8,6 @@ pub mod limits;
 pub mod lists;
 pub mod order;
 pub mod paths;
+pub mod plans;
 pub mod several;
 pub mod shapes;

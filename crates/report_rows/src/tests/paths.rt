@@ -1,13 +1,13 @@
 use super::rows::PATHS;
 use super::terms::{all_terms, id_of, spelled_out};
 use path_eval::Path;
-use report_lines::add_path;
-use report_write::Writer;
+use report_write::add_path;
 use row_tools::{RowFault, cut, first_other, number};
 use shx_outside::MemorySink;
 use shx_term::Pool;
 use std::alloc::Global;
 use std::test::Fail;
+use text_output::Writer;
 
 // The last of the paths, around which the mark stands.
 fn marked(alloc: Global, paths: &mut Vec<Path>, mark: &str) -> Result<Path, RowFault> {

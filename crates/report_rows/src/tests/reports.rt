@@ -3,14 +3,14 @@ use super::results::results_of;
 use super::rows::REPORTS;
 use super::terms::{all_terms, spelled_out};
 use comp_core::ResultRow;
-use report_lines::{add_report, write_report};
-use report_write::Writer;
+use report_write::{add_report, write_report};
 use row_tools::{RowFault, cut, first_other_block, in_three};
 use shape_eval::Plan;
 use shx_outside::MemorySink;
 use shx_term::{Memory, Pieces, Pool};
 use std::alloc::Global;
 use std::test::Fail;
+use text_output::Writer;
 
 // Whether a report is put as this text.
 fn is_put(alloc: Global, rows: &[ResultRow], plan: &Plan, pool: &Pool, text: &str) -> bool {

@@ -40,9 +40,13 @@ pub(super) fn id_of(alloc: Global, pool: &Pool, word: &str) -> Result<Id, RowFau
     }
 }
 
-/// A text with its IRIs spelled out: `{a}` is `http://e/a`, and `{xsd:date}` one of XML Schema.
+/// A text with its IRIs spelled out: `{a}` is `http://e/a`, `{xsd:date}` one of XML Schema, and `{sh:in}` one
+/// of SHACL.
 pub(super) fn spelled_out(alloc: Global, text: &str) -> Result<String, Memory> {
     let text = text.replace(alloc, "{xsd:", "<http://www.w3.org/2001/XMLSchema#")?;
+    let text = text
+        .as_str()
+        .replace(alloc, "{sh:", "<http://www.w3.org/ns/shacl#")?;
     let text = text.as_str().replace(alloc, "{", "<http://e/")?;
     text.as_str().replace(alloc, "}", ">")
 }

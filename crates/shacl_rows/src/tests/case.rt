@@ -5,10 +5,11 @@ use row_tools::{RowFault, number};
 use shx_term::Limits;
 
 // The marks of the parts of a block, behind `== `.
-const MARKS: [&str; 8] = [
+const MARKS: [&str; 9] = [
     "words\n",
     "limits\n",
     "outside\n",
+    "prefixes\n",
     "shapes\n",
     "data\n",
     "script\n",
@@ -16,18 +17,34 @@ const MARKS: [&str; 8] = [
     "status ",
 ];
 
+// The names of limits.
+const LIMITS: [&str; 10] = [
+    "text ",
+    "script ",
+    "line ",
+    "triples ",
+    "terms ",
+    "depth ",
+    "path depth ",
+    "path parts ",
+    "references ",
+    "shapes ",
+];
+
 /// A run, and how it has to end.
 ///
 /// It is written as a block of text, in parts that begin with marks: `== run NAME`, `== words` (one a line),
-/// `== limits` and `== outside` (a name and a number a line), `== shapes`, `== data`, `== script`,
-/// `== output` and `== status N`. A part that a block leaves out is that of the block that its table shares,
-/// and is else empty. A text that ends in `$` has no line feed at its end, and U+FFFF in it stands for the
-/// byte 255. A block with another mark or another name cannot be read.
+/// `== limits` and `== outside` (a name and a number a line), `== prefixes` (what the shapes and the data
+/// begin with), `== shapes`, `== data`, `== script`, `== output` and `== status N`. A part that a block
+/// leaves out is that of the block that its table shares, and is else empty. A text that ends in `$` has no
+/// line feed at its end, and U+FFFF in it stands for the byte 255. An output may have its IRIs in braces, as
+/// `spelled_out` says. A block with another mark or another name cannot be read.
 #[derive(Clone, Copy)]
 pub(super) struct Case<'a> {
     pub words: &'a str,
     pub limits: Limits,
     pub outside: &'a str,
+    pub prefixes: &'a str,
     pub shapes: &'a str,
     pub data: &'a str,
     pub script: &'a str,
@@ -47,6 +64,7 @@ impl<'a> Case<'a> {
             words: words_of(block, shared),
             limits: limits_of(part(block, shared, "== limits\n"))?,
             outside: part(block, shared, "== outside\n"),
+            prefixes: part(block, shared, "== prefixes\n"),
             shapes: part(block, shared, "== shapes\n"),
             data: part(block, shared, "== data\n"),
             script: part(block, shared, "== script\n"),
@@ -119,8 +137,7 @@ fn status_of(digits: &str) -> Result<u8, RowFault> {
 fn limits_of(lines: &str) -> Result<Limits, RowFault>
     ensures { IfOk result AreUsable }
 {
-    let names = ["text ", "script ", "line ", "triples ", "terms ", "depth "];
-    are_named(lines, &names)?;
+    are_named(lines, &LIMITS)?;
     let mut limits = Limits::program();
     limits.text = number_behind(lines, "text ", limits.text)?.max(1);
     limits.script = number_behind(lines, "script ", limits.script)?.max(1);
@@ -128,6 +145,10 @@ fn limits_of(lines: &str) -> Result<Limits, RowFault>
     limits.triples = number_behind(lines, "triples ", limits.triples)?.max(1);
     limits.terms = number_behind(lines, "terms ", 16_000_000)?.clamp(62, 16_000_000) as u32;
     limits.turtle_depth = number_behind(lines, "depth ", 128)?.clamp(1, 128) as u32;
+    limits.path_depth = number_behind(lines, "path depth ", 64)?.clamp(1, 64) as u32;
+    limits.path_parts = number_behind(lines, "path parts ", 4_096)?.clamp(1, 4_096) as u32;
+    limits.reference_depth = number_behind(lines, "references ", 64)?.clamp(1, 64) as u32;
+    limits.shapes = number_behind(lines, "shapes ", 100_000)?.clamp(1, 100_000) as u32;
     Ok(limits)
 }
 

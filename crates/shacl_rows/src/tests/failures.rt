@@ -79,6 +79,7 @@ fn with_failing_call(read_bytes: u64, failing_call: u64) -> Outside {
         failing_call,
         put_bytes: 4096,
         failing_put: 0,
+        failing_pattern: 0,
     }
 }
 
@@ -142,6 +143,7 @@ fn with_failing_put(put_bytes: u64, failing_put: u64) -> Outside {
         failing_call: 0,
         put_bytes,
         failing_put,
+        failing_pattern: 0,
     }
 }
 

@@ -88,20 +88,11 @@ report conforms=true results=0
     all_end_as_due(&rt, shared, table)
 }
 
-// It refuses a run that opens the data before it knows that the shapes have no fault and are built, or a text
-// before the words are read.
+// It refuses a run that opens the data before it knows that the shapes' text has no fault, or a text before
+// the words are read.
 #[test]
 fn nothing_is_opened_behind_a_refusal(rt: HostRuntime) -> Result<(), Fail> {
     let table = "\
-== run the shapes are not built, and no data is held
-== words
-shapes
-other
-== shapes
-<e:S> a <e:T> .
-== output
-fault shapes: 59 NotBuilt
-== status 3
 == run the shapes have a fault, and no data is held
 == words
 shapes
@@ -199,6 +190,158 @@ faul$
 count
 == output
 faul$
+";
+    all_end_as_due(&rt, shared, table)
+}
+
+const JUDGED: &str = r#"== run a rule of shapes
+== shapes
+e:A sh:pattern "a" . e:S sh:in "x" .
+== output
+fault shapes: 20 BadList shape {S} predicate {sh:in} term "x"
+== run more shapes than the limit
+== limits
+shapes 1
+== shapes
+e:A sh:pattern "a" . e:S sh:pattern "b" .
+== output
+fault shapes: 28 TooManyShapes shape {S}
+== run shapes that refer to themselves
+== shapes
+e:A sh:pattern "a" . e:S sh:not e:S .
+== output
+fault shapes: 30 Recursive shape {S}
+== run shapes that refer too deep
+== limits
+references 1
+== shapes
+e:A sh:pattern "a" . e:S sh:not [ sh:not [] ] .
+== output
+fault shapes: 33 ReferencesTooDeep shape {S}
+== run a pattern that is none
+== outside
+failing pattern 2
+== shapes
+e:A sh:pattern "(" . e:S sh:pattern "b" .
+== output
+fault shapes: 31 BadPattern shape {A}
+== run a pattern that the host refuses
+== shapes
+e:A sh:pattern "a" . e:S sh:pattern "(" .
+== output
+fault shapes: 32 PatternRefused shape {A}
+"#;
+
+// It refuses a run that opens the data before the shapes are compiled, one that builds a pattern before all
+// shapes are judged by what they state and by what they refer to, and one that builds on behind a refusal.
+#[test]
+fn shapes_are_judged_before_patterns_and_the_data(rt: HostRuntime) -> Result<(), Fail> {
+    let shared = "\
+== words
+shapes
+other
+== outside
+failing pattern 1
+== prefixes
+@prefix sh: <http://www.w3.org/ns/shacl#> .
+@prefix e: <http://e/> .
+== status 3
+";
+    all_end_as_due(&rt, shared, JUDGED)
+}
+
+const BUILT: &str = r#"== run the first is of the least shape, which is deactivated
+== outside
+failing pattern 1
+== output
+fault shapes: 32 PatternRefused shape {A}
+== status 3
+== run the second
+== outside
+failing pattern 2
+== output
+fault shapes: 32 PatternRefused shape {B}
+== status 3
+== run the third
+== outside
+failing pattern 3
+== output
+fault shapes: 32 PatternRefused shape _:s-a
+== status 3
+== run the last
+== outside
+failing pattern 4
+== output
+fault shapes: 32 PatternRefused shape _:t-1
+== status 3
+== run no fifth
+== outside
+failing pattern 5
+== output
+report conforms=false results=1
+result Pattern Violation {B} "x" - "x"
+report conforms=false results=1
+result Pattern Violation {B} "x" - "x"
+== status 1
+"#;
+
+// It refuses a run that builds a pattern again, or one that none of its shapes has, or that leaves one out
+// whose shape is not asked, or takes the shapes in another order.
+#[test]
+fn patterns_are_built_once_in_the_order_of_shapes(rt: HostRuntime) -> Result<(), Fail> {
+    let shared = "\
+== prefixes
+@prefix sh: <http://www.w3.org/ns/shacl#> .
+@prefix e: <http://e/> .
+== shapes
+[] sh:pattern \"a\" ; sh:flags \"i\" .
+_:a sh:pattern \"a\" .
+e:S sh:flags \"x\" ; sh:not _:a .
+e:B sh:pattern \"a\" ; sh:targetNode \"x\" , \"a\" .
+e:A sh:pattern \"a\" ; sh:targetNode \"x\" ; sh:deactivated true .
+== script
+report
+";
+    all_end_as_due(&rt, shared, BUILT)
+}
+
+// It refuses a run that writes the notice before the data is read.
+#[test]
+fn the_notice_is_put_behind_the_data(rt: HostRuntime) -> Result<(), Fail> {
+    let shared = "\
+== shapes
+<e:S> <http://www.w3.org/ns/shacl#sparql> <e:q> , <e:r> .
+";
+    let table = "\
+== run the data has a fault
+== data
+count
+== output
+fault data: 2 Syntax at 0
+== status 3
+== run no data is held
+== words
+shapes
+other
+== output
+== status 4
+== run the script can't be opened
+== words
+shapes
+data
+other
+== output
+notice: 2 sh:sparql triples ignored
+report conforms=true results=0
+== status 4
+== run a script is answered without it
+== script
+report
+== output
+notice: 2 sh:sparql triples ignored
+report conforms=true results=0
+report conforms=true results=0
+== status 0
 ";
     all_end_as_due(&rt, shared, table)
 }

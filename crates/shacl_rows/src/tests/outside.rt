@@ -2,30 +2,42 @@ ghost use Rattle.std.specs.Prelude.{◌<◌};
 
 use super::case::{Case, are_named, number_behind};
 use row_tools::RowFault;
-use shx_outside::{Bytes, Memory, MemoryInputs, MemorySink, Name, NamedText};
+use shx_outside::{
+    Bytes, FailingHost, Memory, MemoryInputs, MemorySink, Name, NamedText, RegexHost,
+};
 use std::alloc::Global;
 
+// The names of what the outside does.
+const NAMES: [&str; 5] = [
+    "read bytes ",
+    "failing call ",
+    "put bytes ",
+    "failing put ",
+    "failing pattern ",
+];
+
 /// What the outside does in a run: a read gives and a put takes so many bytes at most, and a call of the
-/// inputs and a put fail, each counted from 1, where 0 fails none.
+/// inputs, a put and a pattern fail, each counted from 1, where 0 fails none.
 #[derive(Clone, Copy)]
 pub(super) struct Outside {
     pub read_bytes: u64,
     pub failing_call: u64,
     pub put_bytes: u64,
     pub failing_put: u64,
+    pub failing_pattern: u64,
 }
 
 impl Outside {
     /// The outside that lines describe: pieces of 64 bytes in, 4,096 out and no failures, but for what they
     /// name.
     pub fn of(lines: &str) -> Result<Outside, RowFault> {
-        let names = ["read bytes ", "failing call ", "put bytes ", "failing put "];
-        are_named(lines, &names)?;
+        are_named(lines, &NAMES)?;
         Ok(Outside {
             read_bytes: number_behind(lines, "read bytes ", 64)?,
             failing_call: number_behind(lines, "failing call ", 0)?,
             put_bytes: number_behind(lines, "put bytes ", 4096)?,
             failing_put: number_behind(lines, "failing put ", 0)?,
+            failing_pattern: number_behind(lines, "failing pattern ", 0)?,
         })
     }
 
@@ -41,26 +53,34 @@ impl Outside {
         let failing = only(alloc, self.failing_put)?;
         Ok(MemorySink::new(alloc, piece(self.put_bytes), failing))
     }
+
+    /// A host that builds patterns.
+    pub fn patterns(&self, alloc: Global) -> Result<FailingHost<RegexHost>, Memory> {
+        let failing = only(alloc, self.failing_pattern)?;
+        Ok(FailingHost::new(RegexHost::new(), failing))
+    }
 }
 
 fn files_of(alloc: Global, case: &Case) -> Result<Vec<NamedText>, Memory> {
     let mut files = Vec::new(alloc);
-    files.push(named(alloc, "shapes", case.shapes)?)?;
-    files.push(named(alloc, "data", case.data)?)?;
-    files.push(named(alloc, "script", case.script)?)?;
+    files.push(named(alloc, "shapes", case.prefixes, case.shapes)?)?;
+    files.push(named(alloc, "data", case.prefixes, case.data)?)?;
+    files.push(named(alloc, "script", "", case.script)?)?;
     Ok(files)
 }
 
-fn named(alloc: Global, name: &str, text: &str) -> Result<NamedText, Memory> {
+// A text behind its prefixes.
+fn named(alloc: Global, name: &str, prefixes: &str, text: &str) -> Result<NamedText, Memory> {
     Ok(NamedText {
         name: Name::new(String::from_str(alloc, name)?),
-        bytes: Bytes::new(bytes_of(alloc, text)?),
+        bytes: Bytes::new(bytes_of(alloc, prefixes, text)?),
     })
 }
 
-// The bytes of a text, in which U+FFFF stands for the byte 255.
-fn bytes_of(alloc: Global, text: &str) -> Result<Vec<u8>, Memory> {
+// The bytes of two texts, in the second of which U+FFFF stands for the byte 255.
+fn bytes_of(alloc: Global, prefixes: &str, text: &str) -> Result<Vec<u8>, Memory> {
     let mut bytes = Vec::new(alloc);
+    bytes.extend_from_slice(prefixes.as_bytes())?;
     let mut is_later = false;
     for piece in text.split("\u{ffff}") {
         if is_later {

@@ -57,17 +57,6 @@ e:S sh:targetNode e:a ; sh:path e:p ; sh:hasValue e:b .
     all_end_as_due(&rt, FIRST_RUN, table)
 }
 
-// A literal in the data is read, and the data does not conform until the script is answered.
-#[test]
-fn literal_not_built(rt: HostRuntime) -> Result<(), Fail> {
-    let table = "\
-== run a literal
-== data
-<http://e/a> <http://e/p> \"x\" .$
-";
-    all_end_as_due(&rt, FIRST_RUN, table)
-}
-
 #[test]
 fn count_not_built(rt: HostRuntime) -> Result<(), Fail> {
     let table = "\

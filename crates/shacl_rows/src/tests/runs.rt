@@ -2,10 +2,11 @@ ghost use Rattle.std.specs.Prelude.{◌≡◌};
 ghost use Rattle.shx_term.specs.Limits.{AreUsable};
 
 use super::case::{Case, name_of};
+use super::due::spelled_out;
 use super::outside::Outside;
 use row_tools::RowFault;
 use shacl_run::{Status, run};
-use shx_outside::{Memory, MemoryInputs, MemorySink, RegexHost};
+use shx_outside::{FailingHost, Memory, MemoryInputs, MemorySink, RegexHost};
 use shx_term::{Limits, Steps, Text};
 use std::alloc::{AllocError, Global};
 use std::marker::Brand;
@@ -34,11 +35,13 @@ pub(super) fn run_in(alloc: Global, case: &Case, outside: Outside) -> Result<End
     let words = texts_of(alloc, case.words)?;
     let mut host = outside.inputs(alloc, case)?;
     let mut sink = outside.sink(alloc)?;
+    let mut patterns = outside.patterns(alloc)?;
     let status = run_counted::<Brand, Brand>(
         alloc,
         &words,
         &mut host,
         &mut sink,
+        &mut patterns,
         &case.limits,
         Blank::new(1),
         Blank::new(1),
@@ -60,6 +63,7 @@ fn run_counted<L: Ledger, M: Ledger>(
     words: &[Text],
     host: &mut MemoryInputs,
     sink: &mut MemorySink,
+    patterns: &mut FailingHost<RegexHost>,
     limits: &Limits,
     steps: Blank,
     nested: Blank,
@@ -74,13 +78,12 @@ fn run_counted<L: Ledger, M: Ledger>(
 {
     let mut steps: Steps<L> = Steps::open(steps);
     let mut nested: Steps<M> = Steps::open(nested);
-    let mut patterns = RegexHost::new();
     run(
         alloc,
         words,
         host,
         sink,
-        &mut patterns,
+        patterns,
         limits,
         &mut nested,
         &mut steps,
@@ -92,7 +95,8 @@ pub(super) fn ends_as_due(alloc: Global, case: &Case) -> Result<bool, RowFault>
     requires { AreUsable case.now.limits }
 {
     let ended = run_in(alloc, case, Outside::of(case.outside)?)?;
-    Ok(ended.is(case.output, case.status))
+    let output = spelled_out(alloc, case.output)?;
+    Ok(ended.is(output.as_str(), case.status))
 }
 
 // Whether the run of a block, with the parts that it leaves out from another, ends as it has to.

@@ -2,107 +2,6 @@ use super::rows::CONFORMS;
 use super::runs::all_end_as_due;
 use std::test::Fail;
 
-const REFUSED: &str = "\
-== output
-fault shapes: 59 NotBuilt
-== status 3
-";
-
-const NOT_BUILT: &str = "\
-== run another predicate
-== shapes
-<e:S> <http://www.w3.org/ns/shacl#path> <e:p> .
-<e:S> <http://www.w3.org/ns/shacl#minCount> <e:b> .
-== run a type
-== shapes
-<e:S> <http://www.w3.org/1999/02/22-rdf-syntax-ns#type> <http://www.w3.org/ns/shacl#PropertyShape> .
-<e:S> <http://www.w3.org/ns/shacl#path> <e:p> .
-== run two paths
-== shapes
-<e:S> <http://www.w3.org/ns/shacl#path> <e:p> .
-<e:S> <http://www.w3.org/ns/shacl#path> <e:q> .
-== run a target and no path
-== shapes
-<e:S> <http://www.w3.org/ns/shacl#targetNode> <e:a> .
-== run a value and no path
-== shapes
-<e:S> <http://www.w3.org/ns/shacl#hasValue> <e:a> .
-== run the second shape has no path
-== shapes
-<e:S> <http://www.w3.org/ns/shacl#path> <e:p> .
-<e:T> <http://www.w3.org/ns/shacl#targetNode> <e:a> .
-== run a type, in Turtle
-== shapes
-PREFIX sh: <http://www.w3.org/ns/shacl#>
-<e:S> a sh:PropertyShape ; sh:path <e:p> ; sh:targetNode <e:a> ; sh:hasValue <e:b> .
-== run a predicate of another vocabulary
-== shapes
-PREFIX sh: <http://www.w3.org/ns/shacl#>
-<e:S> sh:path <e:p> ; <e:q> <e:b> .
-== run a path that is a labelled blank node
-== shapes
-PREFIX sh: <http://www.w3.org/ns/shacl#>
-<e:S> sh:path _:p ; sh:targetNode <e:a> .
-== run a path that is an anonymous blank node
-== shapes
-PREFIX sh: <http://www.w3.org/ns/shacl#>
-<e:S> sh:path [] ; sh:targetNode <e:a> .
-== run a path that is a literal
-== shapes
-PREFIX sh: <http://www.w3.org/ns/shacl#>
-<e:S> sh:path \"p\" ; sh:targetNode <e:a> .
-== run a path that is a list
-== shapes
-PREFIX sh: <http://www.w3.org/ns/shacl#>
-<e:S> sh:path ( <e:p> <e:q> ) ; sh:targetNode <e:a> .
-== run an inverse path
-== shapes
-PREFIX sh: <http://www.w3.org/ns/shacl#>
-<e:S> sh:path [ sh:inversePath <e:p> ] ; sh:targetNode <e:a> .
-== run an IRI and a blank node as paths
-== shapes
-PREFIX sh: <http://www.w3.org/ns/shacl#>
-<e:S> sh:path <e:p> , _:p ; sh:targetNode <e:a> .
-== run two paths of an anonymous shape
-== shapes
-PREFIX sh: <http://www.w3.org/ns/shacl#>
-[ sh:path <e:p> , <e:q> ] .
-== run an anonymous shape without a path
-== shapes
-PREFIX sh: <http://www.w3.org/ns/shacl#>
-<e:S> sh:path <e:p> .
-[] sh:targetNode <e:a> .
-== run a target that is a labelled blank node
-== shapes
-PREFIX sh: <http://www.w3.org/ns/shacl#>
-<e:S> sh:path <e:p> ; sh:targetNode _:a .
-== run a target that is an anonymous blank node
-== shapes
-PREFIX sh: <http://www.w3.org/ns/shacl#>
-<e:S> sh:path <e:p> ; sh:targetNode <e:a> , [] .
-== run a target that is a shape by a label
-== shapes
-PREFIX sh: <http://www.w3.org/ns/shacl#>
-_:S sh:path <e:p> ; sh:targetNode _:S .
-== run a shape that is nested in another
-== shapes
-PREFIX sh: <http://www.w3.org/ns/shacl#>
-<e:S> sh:path <e:p> ; sh:property [ sh:path <e:q> ] .
-== run a list of values
-== shapes
-PREFIX sh: <http://www.w3.org/ns/shacl#>
-<e:S> sh:path <e:p> ; sh:hasValue ( <e:b> ) .
-== run a value that states something
-== shapes
-PREFIX sh: <http://www.w3.org/ns/shacl#>
-<e:S> sh:path <e:p> ; sh:hasValue [ <e:q> <e:b> ] .
-";
-
-#[test]
-fn shapes_not_built(rt: HostRuntime) -> Result<(), Fail> {
-    all_end_as_due(&rt, REFUSED, NOT_BUILT)
-}
-
 const FAULTY: &str = "\
 == run the last line is cut
 == shapes
@@ -110,13 +9,13 @@ const FAULTY: &str = "\
 <e:S> <http://www.w3.org/ns/shacl#targetNode> <e:a>
 == output
 fault shapes: 2 Syntax at 48
-== run a fault behind what is not built
+== run a fault behind shapes that are refused
 == shapes
 <e:S> <http://www.w3.org/ns/shacl#minCount> 1 .
 <e:S> <http://www.w3.org/ns/shacl#path> e:p .
 == output
 fault shapes: 3 UnknownPrefix at 88
-== run a wide literal that is not built either
+== run a wide literal
 == shapes
 <e:S> <http://www.w3.org/ns/shacl#minCount> 999999999999999999999999999999999999999 .
 == output
@@ -126,7 +25,7 @@ fault shapes: 6 WideValue at 44
 // The fault of a text is told before anything is said of its shapes.
 #[test]
 fn shapes_with_faults(rt: HostRuntime) -> Result<(), Fail> {
-    all_end_as_due(&rt, REFUSED, FAULTY)
+    all_end_as_due(&rt, "== status 3\n", FAULTY)
 }
 
 const CONFORMING: &str = "\
@@ -146,6 +45,29 @@ const CONFORMING: &str = "\
 == shapes
 <e:S> <http://www.w3.org/ns/shacl#path> <e:p> .
 <e:S> <http://www.w3.org/ns/shacl#targetNode> <e:a> .
+== run a type and a path
+== shapes
+<e:S> <http://www.w3.org/1999/02/22-rdf-syntax-ns#type> <http://www.w3.org/ns/shacl#PropertyShape> .
+<e:S> <http://www.w3.org/ns/shacl#path> <e:p> .
+== run two paths of what is no shape
+== shapes
+<e:S> <http://www.w3.org/ns/shacl#path> <e:p> , <e:q> .
+[] <http://www.w3.org/ns/shacl#path> _:p , \"q\" .
+== run a target and no path
+== shapes
+<e:S> <http://www.w3.org/ns/shacl#targetNode> <e:a> .
+== run a value and no path
+== shapes
+<e:S> <http://www.w3.org/ns/shacl#hasValue> <e:a> .
+[] <http://www.w3.org/ns/shacl#hasValue> ( <e:b> ) , [ <e:q> <e:b> ] .
+== run a predicate of another vocabulary
+== shapes
+PREFIX sh: <http://www.w3.org/ns/shacl#>
+<e:S> sh:path <e:p> ; sh:targetNode <e:a> ; <e:q> <e:b> .
+== run a path of several predicates
+== shapes
+PREFIX sh: <http://www.w3.org/ns/shacl#>
+<e:S> sh:path ( <e:p> [ sh:inversePath <e:q> ] ) ; sh:targetNode <e:a> .
 == run a last line without a line feed
 == shapes
 <e:S> <http://www.w3.org/ns/shacl#targetNode> <e:a> .

@@ -3,7 +3,7 @@ use Rattle.std.specs.Prelude.{◌≡◌, ◌≢◌, ℕ, List, [], ◌++◌, Opt
 use Rattle.shx_outside.specs.Counted.{Rose}
 use Rattle.shx_outside.specs.Outside.{SinkState}
 use Rattle.shx_outside.specs.Told.{Grew, Fell}
-use Rattle.report_write.specs.Writes.{Put}
+use Rattle.text_output.specs.Writes.{Put}
 use Rattle.shacl_run.specs.declared.status.Status.{Status}
 use Rattle.shacl_run.specs.declared.status.Status.TheVariants.{InputFault, WriteFault}
 use Rattle.shacl_run.specs.Run.{Output}

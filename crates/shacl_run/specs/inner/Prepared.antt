@@ -4,42 +4,62 @@ use Rattle.shx_outside.specs.declared.role.Role.TheVariants.{Shapes, Data}
 use Rattle.shx_outside.specs.Outside.{InputState}
 use Rattle.shx_outside.specs.Told.{IsAtEnd}
 use Rattle.shx_term.specs.declared.limits.Limits.{Limits}
-use Rattle.shacl_run.specs.declared.refusal.Refusal.{Refusal}
-use Rattle.shacl_run.specs.declared.refusal.Refusal.TheVariants.{Text, Cut}
+use Rattle.shacl_run.specs.declared.unopened.Unopened.{Unopened}
+use Rattle.shacl_run.specs.declared.unopened.Unopened.TheVariants.{Told, Cut}
 use Rattle.shacl_run.specs.declared.validation.Validation.{Validation}
 use Rattle.shacl_run.specs.Run.{texts_opening, refused}
 use Rattle.shacl_run.specs.Run.Opening.{ends, opens}
-use Rattle.shacl_run.specs.Readings.{Readings, AreRight}
+use Rattle.shacl_run.specs.Readings.{Readings, AreJudged, DataIsRead, ShapesAreRead}
+use Rattle.shacl_run.specs.RunClauses.{ByVerdict}
 use Rattle.shacl_run.specs.ScriptState.{ScriptState}
+use Rattle.shacl_run.specs.Verdict.{Verdict}
 use Rattle.shacl_run.specs.inner.Validation.{IsValidation}
 
--- the validation is what the two texts open
-pub record Opened (limits : Limits) (readings : Readings) (shapes data_text : Option (List ℕ))
-    (validation : Validation) : Type 0 where
+-- the validation is what the two texts open, behind a notice
+pub record Opened (limits : Limits) (readings : Readings) (verdict : Verdict)
+    (shapes data_text : Option (List ℕ)) (validation : Validation) : Type 0 where
   pub state : ScriptState
   pub stored : IsValidation limits state validation
-  pub due : IfSome (texts_opening readings shapes data_text) (λ opening. opening ≡ opens state)
+  pub due : IfSome (texts_opening readings verdict shapes data_text)
+      (λ opening. opening ≡ opens validation.passed_over state)
 
-abbrev pub Prepares : Limits → Readings → Option (List ℕ) → Option (List ℕ) → Result Validation Refusal
-    → Type 0
-Prepares limits readings shapes data_text (Ok validation) =
-    Opened limits readings shapes data_text validation
-Prepares limits readings shapes data_text (Err (Text answer)) =
-    IfSome (texts_opening readings shapes data_text) (λ opening. opening ≡ ends (refused answer))
-Prepares limits readings shapes data_text (Err (Cut stop)) = Unit
+-- the validation stores some state
+pub record Stores (limits : Limits) (validation : Validation) : Type 0 where
+  pub state : ScriptState
+  pub stored : IsValidation limits state validation
 
--- the two texts have a reading, unless the run was cut short
-abbrev pub AreRead : Limits → List ℕ → Option (List ℕ) → Option (List ℕ) → Result Validation Refusal → Type 0
-AreRead limits base shapes data_text (Err (Cut stop)) = Unit
-AreRead limits base shapes data_text prepared =
-    (readings : Readings) × AreRight limits base readings shapes data_text
+-- what the texts come to by a verdict is opened, or refused as it is to be
+abbrev pub Prepares : Limits → Readings → Verdict → Option (List ℕ) → Option (List ℕ)
+    → Result Validation Unopened → Type 0
+Prepares limits readings verdict shapes data_text (Ok validation) =
+    Opened limits readings verdict shapes data_text validation
+Prepares limits readings verdict shapes data_text (Err (Told answer pool)) =
+    IfSome (texts_opening readings verdict shapes data_text)
+    (λ opening. opening ≡ ends (refused pool.terms answer))
+Prepares limits readings verdict shapes data_text (Err (Cut stop)) = Unit
 
--- the run opens what the two texts come to, or refuses them as they are to be
+-- the run was cut short
+abbrev pub IsCut : {T : Type 0} → Result T Unopened → Type 0
+IsCut (Ok value) = ⊥
+IsCut (Err (Told answer pool)) = ⊥
+IsCut (Err (Cut stop)) = Unit {0}
+
+-- the two texts have a reading, and the shapes a verdict
+pub record AreRead (limits : Limits) (base : List ℕ) (shapes data_text : Option (List ℕ)) : Type 0 where
+  pub readings : Readings
+  pub shapes_read : ShapesAreRead limits base readings.shapes shapes
+  pub verdict : Verdict
+  pub judged : AreJudged limits readings.shapes shapes verdict
+  pub data_read : DataIsRead limits base readings verdict data_text
+
+-- unless it was cut short, the run opens what the two texts come to, or refuses them as they are to be
 pub record IsPrepared (limits : Limits) (base : List ℕ) (shapes data_text : Option (List ℕ))
-    (prepared : Result Validation Refusal) : Type 0 where
-  pub due : (readings : Readings) → AreRight limits base readings shapes data_text
-      → Prepares limits readings shapes data_text prepared
-  pub read : AreRead limits base shapes data_text prepared
+    (refusals refusals' : ℕ) (prepared : Result Validation Unopened) : Type 0 where
+  pub due : (IsCut prepared → ⊥) → (readings : Readings) → ShapesAreRead limits base readings.shapes shapes
+      → ByVerdict limits readings.shapes shapes refusals refusals' (λ verdict.
+      DataIsRead limits base readings verdict data_text
+      → Prepares limits readings verdict shapes data_text prepared)
+  pub read : (IsCut prepared → ⊥) → AreRead limits base shapes data_text
 
 -- both texts were read to their ends
 abbrev pub IsReadToEnd : InputState → Validation → Type 0

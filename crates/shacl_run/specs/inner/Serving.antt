@@ -6,16 +6,17 @@ use Rattle.shx_outside.specs.Outside.{SinkState}
 use Rattle.shx_term.specs.declared.limits.Limits.{Limits}
 use Rattle.text_input.specs.Lines.{HasNoFeed}
 use Rattle.text_input.specs.ScriptReader.{ReaderState, left_of}
-use Rattle.report_write.specs.Writes.{Put, FellShort}
+use Rattle.text_output.specs.Writes.{Put, FellShort}
 use Rattle.shacl_run.specs.declared.validation.Validation.{Validation}
 use Rattle.shacl_run.specs.declared.status.Status.{Status}
 use Rattle.shacl_run.specs.declared.stop.Stop.{Stop}
 use Rattle.shacl_run.specs.declared.stop.Stop.TheVariants.{Input, Write, Memory}
 use Rattle.shacl_run.specs.declared.take_line.Taken.{Taken}
 use Rattle.shacl_run.specs.declared.take_line.Taken.TheVariants.{Replied, End, PastLimit}
-use Rattle.shacl_run.specs.Evaluation.{report}
+use Rattle.shape_eval.specs.Report.{report}
 use Rattle.shacl_run.specs.inner.Reply.{Replies}
-use Rattle.shacl_run.specs.Run.{Output, behind, output_from, ending, status_of_rows, status_of_state}
+use Rattle.shacl_run.specs.Run.{Output, behind, ending, notice_text, output_from, status_of_rows}
+use Rattle.shacl_run.specs.Run.{status_of_state}
 use Rattle.shacl_run.specs.Script.{Step, said_text, step_text, script_step}
 use Rattle.shacl_run.specs.Script.Said.{reports}
 use Rattle.shacl_run.specs.ScriptState.{ScriptState}
@@ -67,14 +68,16 @@ TakesBytes line line' budget budget' (Replied reply) = (budget' < budget) × (li
 TakesBytes line line' budget budget' End = Unit {0}
 TakesBytes line line' budget budget' PastLimit = Unit {0}
 
--- a report was put whole, and the run may end with this status; or it was cut short, or memory was wanted
--- before it
-abbrev pub PutsReport : ScriptState → SinkState → SinkState → Result Status Stop → Type 0
-PutsReport s before after (Ok status) =
-    Put before after (said_text s reports) × (status ≡ status_of_rows (report s.graph s.shapes))
-PutsReport s before after (Err Input) = ⊥
-PutsReport s before after (Err Write) = FellShort before after (said_text s reports)
-PutsReport s before after (Err Memory) = after ≡ before
+-- a report was put whole behind a notice, and the run may end with this status; or it was cut short, or
+-- memory was wanted before it
+abbrev pub PutsReport : ℕ → ScriptState → SinkState → SinkState → Result Status Stop → Type 0
+PutsReport notices s before after (Ok status) =
+    Put before after (notice_text notices ++ said_text s reports)
+    × (status ≡ status_of_rows (report s.plan s.graph))
+PutsReport notices s before after (Err Input) = ⊥
+PutsReport notices s before after (Err Write) =
+    FellShort before after (notice_text notices ++ said_text s reports)
+PutsReport notices s before after (Err Memory) = after ≡ before
 
 abbrev pub LastStatus : ScriptState → Result Status Stop → Type 0
 LastStatus s (Ok status) = status ≡ status_of_state s

@@ -1,5 +1,5 @@
 use Rattle.std.proofs.Common.{rules}
-use Rattle.report_write.proofs.WriterLemmas.{Writes-finished}
+use Rattle.text_output.proofs.WriterLemmas.{Writes-finished}
 use Rattle.report_write.proofs.answer.write_answer.Goals as goal
 
 pub returns : goal.returns

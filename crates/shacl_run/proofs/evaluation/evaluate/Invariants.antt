@@ -1,8 +1,15 @@
-use Rattle.std.proofs.Common.{◌≡◌, take}
+use Rattle.std.proofs.Common.{◌≡◌, map, take}
 use Rattle.std.specs.Prelude.{flat_map}
-use Rattle.shacl_run.specs.Evaluation.{results}
+use Rattle.shape_eval.specs.Planned.{plan_of}
+use Rattle.shape_eval.specs.Report.{at_shape}
+use Rattle.shape_eval.specs.Results.{results}
+use Rattle.shape_eval.specs.Targets.{target_nodes}
 use Rattle.shacl_run.proofs.evaluation.evaluate.Given as goal
 
-abbrev pub invariant-loop-pair : goal.invariant-loop-pair
-invariant-loop-pair g l =
-    l.rows.items ≡ flat_map (results (g.V.GraphView.graph l.view) l.shapes) (take l.pair-index l.pair-items)
+abbrev pub invariant-loop-shape : goal.invariant-loop-shape
+invariant-loop-shape g l =
+    let graph = g.V.GraphView.graph l.view in
+    let shapes = (plan_of l.plan).shapes in
+    l.rows.items
+    ≡ flat_map (results shapes graph)
+    (flat_map (λ n. map (at_shape n) (target_nodes shapes graph n)) (take l.shape-index l.shape-items))

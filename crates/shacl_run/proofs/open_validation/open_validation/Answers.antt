@@ -1,12 +1,17 @@
-use Rattle.std.proofs.Common.{refl, ◌∙◌}
+use Rattle.std.proofs.Common.{refl, sym, ◌∙◌, subst}
+use Rattle.shx_term.specs.TripleTerms.{terms_of}
+use Rattle.graph_view.specs.Graph.{Graph}
+use Rattle.shape_eval.specs.Plan.{IsKnownPlan}
+use Rattle.shape_eval.specs.Planned.{plan_of}
 use Rattle.shacl_run.specs.Readings.{States}
 use Rattle.shacl_run.proofs.ReadingLemmas.{graph}
+use Rattle.shacl_run.proofs.StandsLemmas.{plan_known_entered}
 use Rattle.shacl_run.proofs.open_validation.open_validation.Goals as goal
 
 pub returns-clause-opened : goal.returns-clause-opened
 returns-clause-opened c =
-    let document = graph c.read_turtle.new.pool.terms c.in_ok-document.document.triples.items in
-    let (end, is, names) = c.in_ok-document.ensures.states in
+    let document = graph c.read_turtle.new.pool.terms c.in-Ok.document.triples.items in
+    let (end, is, names) = c.in-Ok.ensures.states in
     let made = c.in_ok-validation_over.ensures in (
       States document end,
       is,
@@ -17,7 +22,7 @@ returns-clause-opened c =
         stored = record {
           stores = made.stores;
           names_are = made.names end names;
-          shapes_are = made.shapes;
+          plan_is = made.plan;
           line_is = made.line;
           refused_is = made.refused;
           limits_are = record {
@@ -27,3 +32,11 @@ returns-clause-opened c =
         };
       },
     )
+
+pub validation_over-requires-clause-plan : goal.validation_over-requires-clause-plan
+validation_over-requires-clause-plan c =
+    let (end, is, names) = c.in-Ok.ensures.states in
+    let held = c.args.accepted.pool.terms in
+    let shapes = (plan_of c.args.accepted.plan).shapes in
+    subst (λ (g : Graph). IsKnownPlan g.terms shapes) (sym is.2)
+    (plan_known_entered held (terms_of end.triples) shapes c.requires.known)

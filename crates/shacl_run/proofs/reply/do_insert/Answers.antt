@@ -1,5 +1,5 @@
 use Rattle.shacl_run.specs.declared.edit.Edited.TheVariants.{Changed, Unchanged, Refused}
-use Rattle.shacl_run.proofs.ReplyLemmas.{IsValidation-edited, Replies-answers}
+use Rattle.shacl_run.proofs.ReplyLemmas.{IsValidation-edited, Replies-answers, Stands-answered, Stands-edited}
 use Rattle.shacl_run.proofs.ValidationLemmas.{edited-validation}
 use Rattle.shacl_run.proofs.reply.do_insert.Goals as goal
 
@@ -34,3 +34,24 @@ returns-in-Refused-clause-replies c = λ limits s is.
     c.insert.new.graph outcome.after c.insert.ensures.triple_limit c.insert.ensures.term_limit in
     rw (← edited-validation limits s c.args.validation.now is Refused c.args.triple.now outcome.edited)
     (c.refuse_line.ensures.replies limits s after)
+
+pub returns-in-Changed-clause-stands : goal.returns-in-Changed-clause-stands
+returns-in-Changed-clause-stands c =
+    let outcome = rw c.in-Changed.is at c.in_ok-insert.ensures in
+    rw c.answered.ensures.validation (Stands-answered _
+    (Stands-edited c.args.validation.now c.requires.stands Changed c.args.triple.now c.insert.new.graph
+    outcome.after (outcome.valid c.requires.stands.valid c.requires.valid)))
+
+pub returns-in-Unchanged-clause-stands : goal.returns-in-Unchanged-clause-stands
+returns-in-Unchanged-clause-stands c =
+    let outcome = rw c.in-Unchanged.is at c.in_ok-insert.ensures in
+    rw c.answered-in-Unchanged.ensures.validation (Stands-answered _
+    (Stands-edited c.args.validation.now c.requires.stands Unchanged c.args.triple.now c.insert.new.graph
+    outcome.after (outcome.valid c.requires.stands.valid c.requires.valid)))
+
+pub returns-in-Refused-clause-stands : goal.returns-in-Refused-clause-stands
+returns-in-Refused-clause-stands c =
+    let outcome = rw c.in-Refused.is at c.in_ok-insert.ensures in
+    c.refuse_line.ensures.stands
+    (Stands-edited c.args.validation.now c.requires.stands Refused c.args.triple.now c.insert.new.graph
+    outcome.after (outcome.valid c.requires.stands.valid c.requires.valid))

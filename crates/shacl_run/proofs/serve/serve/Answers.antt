@@ -20,6 +20,7 @@ loop-taken-init g c =
     let inputs = g.I.Inputs.state c.args.host.now in
     rw c.new-reader.ensures (record {
       goes_on = search rules;
+      stands = c.requires.stands;
       few = omega (arith, c.requires.fresh.0);
       reached = λ s is. Reached-start c.args.limits.now s (inputs.rest Script) inputs.faults
           (g.O.Sink.state c.args.out.now) c.args.validation.now is;
@@ -112,18 +113,18 @@ returns-in-PastLimit-clause-ends g c = λ s is.
     let inputs = g.I.Inputs.state at.host in
     let after = g.I.Inputs.state c.take_line.new.host in
     let sink = g.O.Sink.state at.out in
-    let sink' = g.O.Sink.state c.refuse.new.out in
-    let status = end_status c.refuse.result in
+    let sink' = g.O.Sink.state c.refuse_script.new.out in
+    let status = end_status c.refuse_script.result in
     let reached = at.invariant.reached s is in
     let due = due_at c.args.limits.now reached.state at.reader.budget
     (left_of at.reader (inputs.rest Script)) in
-    let last = Some (refused (NotBuilt Script)) in
+    let last = Some (refused c.take_line.new.validation.graph.pool.terms (NotBuilt Script)) in
     let taken = (rw c.in-PastLimit.is at c.in_ok-taken.ensures.taken) reached.state reached.stored in
     reached.onward status after.faults sink'
     (Ends-told due last status inputs.faults after.faults sink sink'
     (IfSome_then due taken.due (λ told same. ap Some (sym same)))
     (subst (λ n. Ends last status inputs.faults n sink sink') (sym c.in_ok-taken.ensures.cause)
-    (c.refuse.ensures.ends inputs.faults)))
+    (c.refuse_script.ensures.ends inputs.faults)))
 
 pub returns-in-PastLimit-clause-within : goal.returns-in-PastLimit-clause-within
 returns-in-PastLimit-clause-within g c =
@@ -138,6 +139,7 @@ loop-taken-preserved g c =
     let bytes = rw c.in-Replied.is at c.in_ok-taken.ensures.bytes in
     record {
       goes_on = GoesOn-then at.invariant.goes_on c.take_line.ensures.goes_on;
+      stands = c.in_ok-taken.ensures.stands;
       few = omega (arith, at.invariant.few, bytes.0, bytes.1);
       reached = λ s is.
           let reached = at.invariant.reached s is in

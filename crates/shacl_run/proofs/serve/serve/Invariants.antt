@@ -2,7 +2,7 @@ use Rattle.std.proofs.Common.{◌+◌, ◌<◌, ◌^◌}
 use Rattle.shx_outside.specs.declared.role.Role.TheVariants.{Script}
 use Rattle.text_input.specs.ScriptReader.{new_reader, GoesOn}
 use Rattle.shacl_run.specs.ScriptState.{ScriptState}
-use Rattle.shacl_run.specs.inner.Validation.{IsValidation}
+use Rattle.shacl_run.specs.inner.Validation.{IsValidation, Stands}
 use Rattle.shacl_run.proofs.ServingLemmas.{Reached}
 use Rattle.shacl_run.proofs.serve.serve.Given as goal
 
@@ -12,6 +12,7 @@ invariant-loop-taken g l =
     let inputs = g.I.Inputs.state l.host in
     record {
       goes_on : GoesOn (new_reader l.limits.script) inputs0 l.reader inputs;
+      stands : Stands l.validation;
       few : l.validation.line + l.reader.budget < 2 ^ 64;
       reached : (s : ScriptState) → IsValidation l.limits s l.fn.validation
           → Reached l.limits s (inputs0.rest Script) inputs0.faults (g.O.Sink.state l.fn.out)

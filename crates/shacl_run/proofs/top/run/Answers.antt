@@ -7,22 +7,20 @@ use Rattle.shacl_run.proofs.top.run.Goals as goal
 pub returns-in-Ok : goal.returns-in-Ok
 returns-in-Ok g c =
     let run = c.in-Ok.ensures in
-    let patterns = g.P.PatternHost.state c.args.patterns.now in
-    let before = outside (g.H.Inputs.state c.args.host.now) (g.O.Sink.state c.args.out.now) patterns
-    c.args.nested.now c.args.steps.now in
-    let after = outside (g.H.Inputs.state c.run_words.new.host) (g.O.Sink.state c.run_words.new.out) patterns
-    c.args.nested.now c.args.steps.now in
-    IsRun-ended c.args.limits.now c.args.words.now before after c.in-Ok.status refl refl refl
-    run.ends run.causes run.read run.read_to_end run.script_stops run.within
+    let before = outside (g.H.Inputs.state c.args.host.now) (g.O.Sink.state c.args.out.now)
+    (g.P.PatternHost.state c.args.patterns.now) c.args.nested.now c.args.steps.now in
+    let after = outside (g.H.Inputs.state c.run_words.new.host) (g.O.Sink.state c.run_words.new.out)
+    (g.P.PatternHost.state c.run_words.new.patterns) c.args.nested.now c.run_words.new.steps in
+    IsRun-ended c.args.limits.now c.args.words.now before after c.in-Ok.status refl
+    run.runs run.causes run.quiet_patterns run.read run.read_to_end run.within
 
 pub returns-in-Err : goal.returns-in-Err
 returns-in-Err g c =
     let run = c.in-Err.ensures in
-    let patterns = g.P.PatternHost.state c.args.patterns.now in
-    let before = outside (g.H.Inputs.state c.args.host.now) (g.O.Sink.state c.args.out.now) patterns
-    c.args.nested.now c.args.steps.now in
-    let after = outside (g.H.Inputs.state c.run_words.new.host) (g.O.Sink.state c.run_words.new.out) patterns
-    c.args.nested.now c.args.steps.now in
+    let before = outside (g.H.Inputs.state c.args.host.now) (g.O.Sink.state c.args.out.now)
+    (g.P.PatternHost.state c.args.patterns.now) c.args.nested.now c.args.steps.now in
+    let after = outside (g.H.Inputs.state c.run_words.new.host) (g.O.Sink.state c.run_words.new.out)
+    (g.P.PatternHost.state c.run_words.new.patterns) c.args.nested.now c.run_words.new.steps in
     rw c.status.ensures
-    (IsRun-ended c.args.limits.now c.args.words.now before after (stop_status c.in-Err.stop) refl refl refl
-    run.ends run.causes run.read run.read_to_end run.script_stops run.within)
+    (IsRun-ended c.args.limits.now c.args.words.now before after (stop_status c.in-Err.stop) refl
+    run.runs run.causes run.quiet_patterns run.read run.read_to_end run.within)

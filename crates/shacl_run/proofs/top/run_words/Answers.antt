@@ -1,23 +1,46 @@
-use Rattle.std.proofs.Common.{None}
+use Rattle.std.proofs.Common.{None, refl, inl}
+use Rattle.shacl_run.specs.declared.stop.Stop.TheVariants.{Memory}
 use Rattle.shacl_run.specs.Readings.{Long}
-use Rattle.shacl_run.proofs.EndLemmas.{Ends-told}
+use Rattle.shacl_run.specs.Verdict.{stops}
+use Rattle.shacl_run.specs.Verdict.Obstacle.{recurs}
+use Rattle.shacl_run.proofs.EndLemmas.{Ends-memory, Ends-told, passed_on}
 use Rattle.shacl_run.proofs.top.run_words.Goals as goal
 
-pub returns-in-Some-clause-ends : goal.returns-in-Some-clause-ends
-returns-in-Some-clause-ends g c =
-    let asked = rw c.in-Some.is at c.read_words.ensures.asked in
-    rw (← asked) c.run_files.ensures.ends
+pub returns-in_err-pool-clause-causes : goal.returns-in_err-pool-clause-causes
+returns-in_err-pool-clause-causes g c =
+    let faults = (g.H.Inputs.state c.args.host.now).faults in
+    rw (passed_on c.from_residual.result Memory c.from_residual.ensures.1)
+    (Ends-memory None faults faults (g.O.Sink.state c.args.out.now) refl)
 
-pub returns-in-None-clause-ends : goal.returns-in-None-clause-ends
-returns-in-None-clause-ends g c = λ readings right.
+pub returns-in-Some-clause-runs : goal.returns-in-Some-clause-runs
+returns-in-Some-clause-runs g c =
+    let asked = rw c.in-Some.is at c.read_words.ensures.asked in
+    rw (← asked) c.run_files.ensures.runs
+
+pub returns-in-None-clause-runs : goal.returns-in-None-clause-runs
+returns-in-None-clause-runs g c = λ readings right.
     let none = rw c.in-None.is at c.read_words.ensures.asked in
-    rw (← none) (c.refuse_words.ensures.ends (g.H.Inputs.state c.args.host.now).faults)
+    rw (← none) (inl (record {
+      verdict = stops (recurs 0);
+      judged = tt;
+      patterns = refl;
+      says = λ data_right. record {
+        run_ends = c.refuse_words.ensures.ends (g.H.Inputs.state c.args.host.now).faults;
+        script_stops = λ failed opened. absurd (c.refuse_words.ensures.output failed);
+      };
+    }))
 
 pub returns-in-None-clause-causes : goal.returns-in-None-clause-causes
 returns-in-None-clause-causes g c =
     Ends-told None _ _ _ _ _ _ tt (c.refuse_words.ensures.ends (g.H.Inputs.state c.args.host.now).faults)
 
 pub returns-in-None-clause-read : goal.returns-in-None-clause-read
-returns-in-None-clause-read g c =
+returns-in-None-clause-read g c = λ answered.
     let none = rw c.in-None.is at c.read_words.ensures.asked in
-    rw (← none) (λ answered. (record { shapes = Long; data_text = Long }, tt))
+    record {
+      readings = record { shapes = Long; data_text = Long };
+      shapes = rw (← none) tt;
+      verdict = stops (recurs 0);
+      judged = rw (← none) tt;
+      data_text = rw (← none) tt;
+    }

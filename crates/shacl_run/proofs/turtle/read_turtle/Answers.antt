@@ -1,6 +1,14 @@
+use Rattle.ttl_read.specs.Documents.{setting}
 use Rattle.shacl_run.specs.inner.Turtle.{role_of}
 use Rattle.shacl_run.proofs.ReadingLemmas.{document_known, fault_read}
+use Rattle.shacl_run.proofs.StandsLemmas.{valid_document}
 use Rattle.shacl_run.proofs.turtle.read_turtle.Goals as goal
+
+pub returns-in-Ok-clause-valid : goal.returns-in-Ok-clause-valid
+returns-in-Ok-clause-valid c = λ narrow.
+    let states = c.in-Ok.ensures.document in
+    let bounds = (setting c.args.text.now c.args.limits.now c.args.pool.now).bounds in
+    valid_document bounds states.0 c.in-Ok.document c.read_document.new.pool states.2 narrow
 
 pub returns-in-Ok-clause-known : goal.returns-in-Ok-clause-known
 returns-in-Ok-clause-known c =

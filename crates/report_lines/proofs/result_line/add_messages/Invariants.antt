@@ -1,8 +1,0 @@
-use Rattle.std.proofs.Common.{flat_map, take}
-use Rattle.report_lines.specs.ReportLines.{message_text}
-use Rattle.report_lines.proofs.result_line.add_messages.Given as goal
-
-abbrev pub invariant-loop-message : goal.invariant-loop-message
-invariant-loop-message g l =
-    g.W.Pieces.added l.fn.out l.out
-    (flat_map (message_text l.pool.terms) (take l.message-index l.messages))

@@ -1,5 +1,0 @@
-pub mod Names
-pub mod PathLines
-pub mod ReportLines
-pub mod TermTexts
-pub mod inner

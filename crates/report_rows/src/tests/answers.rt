@@ -1,0 +1,113 @@
+ghost use Rattle.std.specs.Prelude.{◌<◌};
+
+use super::terms::all_terms;
+use report_write::{Answer, write_answer};
+use row_tools::{RowFault, cut, first_other, number};
+use shx_outside::{MemorySink, Role};
+use shx_term::Pool;
+use shx_term::fault_codes::{NOT_BUILT, TEXT_TOO_LONG};
+use std::alloc::Global;
+use std::test::Fail;
+
+const LAST_LINE: u64 = 18446744073709551615;
+
+// A word for an answer, and its line between two marks.
+const ANSWERS: &str = "\
+changed=ok changed=
+unchanged=ok unchanged=
+refused=refused line 18446744073709551615: 59 NotBuilt=
+unknown=refused line 18446744073709551615: 11 =
+fault=fault data: 10 TextTooLong at 0=
+last=fault script: 4294967295  at 18446744073709551615=
+long shapes=fault shapes: 10 TextTooLong=
+long data=fault data: 10 TextTooLong=
+long script=fault script: 58 ScriptTooLong=
+not built=fault shapes: 59 NotBuilt=
+usage=usage: shacl_keep [--format lines|turtle] [--base IRI] SHAPES DATA [SCRIPT]=
+";
+
+fn answer_of(word: &str) -> Result<Answer, RowFault> {
+    match word {
+        "changed" => Ok(Answer::Changed),
+        "unchanged" => Ok(Answer::Unchanged),
+        "refused" => Ok(refusal(NOT_BUILT)),
+        "unknown" => Ok(refusal(11)),
+        "fault" => Ok(fault(Role::Data, TEXT_TOO_LONG, 0)),
+        "last" => Ok(fault(Role::Script, u32::MAX, u64::MAX)),
+        "long shapes" => Ok(Answer::TooLong { role: Role::Shapes }),
+        "long data" => Ok(Answer::TooLong { role: Role::Data }),
+        "long script" => Ok(Answer::TooLong { role: Role::Script }),
+        "not built" => Ok(Answer::NotBuilt { role: Role::Shapes }),
+        "usage" => Ok(Answer::Usage),
+        _ => Err(RowFault::Unread),
+    }
+}
+
+fn refusal(code: u32) -> Answer {
+    Answer::RefusedLine {
+        line: LAST_LINE,
+        code,
+    }
+}
+
+fn fault(role: Role, code: u32, at: u64) -> Answer {
+    Answer::TextFault { role, code, at }
+}
+
+fn puts_in_pieces(alloc: Global, answer: &Answer, pool: &Pool, text: &str, piece: usize) -> bool
+    requires { 0 < piece }
+{
+    let mut sink = MemorySink::new(alloc, piece, Vec::new(alloc));
+    let written = write_answer(answer, pool, &mut sink);
+    written.is_ok() && sink.bytes() == text.as_bytes()
+}
+
+/// Whether an answer is put as this text, whole, in threes and byte by byte.
+pub(super) fn puts_text(alloc: Global, answer: &Answer, pool: &Pool, text: &str) -> bool {
+    puts_in_pieces(alloc, answer, pool, text, 1)
+        && puts_in_pieces(alloc, answer, pool, text, 3)
+        && puts_in_pieces(alloc, answer, pool, text, 4096)
+}
+
+// Whether the answer of a row is put as its line.
+fn puts_answer(alloc: Global, row: &str) -> Result<bool, RowFault> {
+    let (word, line) = cut(row, "=")?;
+    let answer = answer_of(word)?;
+    let text = format!(in alloc; "{}\n", line.trim_end_matches('='))?;
+    Ok(puts_text(alloc, &answer, &all_terms(alloc)?, &text))
+}
+
+#[test]
+fn answers_are_put_whole(rt: HostRuntime) -> Result<(), Fail> {
+    assert_eq!(rt; first_other(rt.alloc(), ANSWERS, puts_answer)?, "");
+    Ok(())
+}
+
+// Each code with its name.
+const NAMES: &str = "\
+1 NotUtf8
+2 Syntax
+3 UnknownPrefix
+4 BadIri
+5 FloatLiteral
+6 WideValue
+7 TooDeep
+8 TooManyTriples
+9 TooManyTerms
+10 TextTooLong
+59 NotBuilt
+";
+
+// Whether a fault of the data with the code of a row is put with its name.
+fn puts_name(alloc: Global, row: &str) -> Result<bool, RowFault> {
+    let (code, _) = cut(row, " ")?;
+    let text = format!(in alloc; "fault data: {row} at 120\n")?;
+    let fault = fault(Role::Data, number(code)?, 120);
+    Ok(puts_text(alloc, &fault, &all_terms(alloc)?, &text))
+}
+
+#[test]
+fn codes_are_put_with_their_names(rt: HostRuntime) -> Result<(), Fail> {
+    assert_eq!(rt; first_other(rt.alloc(), NAMES, puts_name)?, "");
+    Ok(())
+}

@@ -1,0 +1,4 @@
+use Rattle.report_write.proofs.answer.add_shape_fault.Goals as goal
+
+pub returns : goal.returns
+returns g c = g.met.W.Pieces.added_in_turn _ _ _ _ _ c.add_shape_fault_head.ensures c.add.ensures

@@ -1,0 +1,28 @@
+-- Why a shapes text is refused whose shapes make no plan.
+use Rattle.std.proofs.Common.{◌≡◌, ℕ, List}
+use Rattle.shx_term.specs.declared.limits.Limits.{Limits}
+use Rattle.shx_term.specs.declared.term.Scope.TheVariants.{Shapes}
+use Rattle.shx_term.specs.Pool.{Pooled}
+use Rattle.shx_term.specs.Vocabulary.{vocabulary}
+use Rattle.graph_view.specs.Graph.{Graph}
+use Rattle.graph_view.specs.SameGraph.{SameGraph}
+use Rattle.ttl_meaning.specs.State.{State}
+use Rattle.shacl_run.specs.declared.refusal.Refusal.{Refusal}
+use Rattle.shacl_run.specs.declared.refusal.Refusal.TheVariants.{Text, Cut}
+use Rattle.shacl_run.specs.inner.Judging.{IsUnplanned, RefusesShapes}
+use Rattle.shacl_run.specs.inner.Unopened.{beside}
+use Rattle.shacl_run.specs.Readings.{States, IsReadAs, stated_graph}
+use Rattle.shacl_run.proofs.VerdictLemmas.{StopsAs-same}
+
+module _ (limits : Limits) (base text : List ℕ) (pool : Pooled) where
+  -- its shapes make no plan
+  pub shapes_unplanned : (refusals refusals' : ℕ) (refusal : Refusal) (document g : Graph) (end : State)
+      → IsReadAs limits base Shapes vocabulary text (States document end) → pool.terms ≡ document.terms
+      → SameGraph (stated_graph document) g → IsUnplanned limits g refusals refusals' refusal
+      → RefusesShapes limits base text refusals refusals' (beside pool refusal)
+  shapes_unplanned refusals refusals' (Text answer) document g end read terms same unplanned = (
+    States document end,
+    read,
+    (terms, StopsAs-same limits (stated_graph document) g same refusals refusals' answer unplanned),
+  )
+  shapes_unplanned refusals refusals' (Cut stop) document g end read terms same unplanned = tt

@@ -1,0 +1,192 @@
+-- What may be asked of a graph: views stay valid and plans known where terms and valid triples are added, and
+-- what a text states is valid.
+use Rattle.std.proofs.Common.{◌≡◌, ℕ, ◌<◌, Bool, true, false, List, [], ◌∷◌, ◌++◌, length, None, Some}
+use Rattle.std.proofs.Common.{refl, sym, subst, arith, length-append}
+use Rattle.std.specs.Prelude.{All, flat_map, map}
+use Rattle.std.specs.Cmp.{first_so, second_so}
+use Rattle.std.specs.List.{list_all}
+use Rattle.std.proofs.lemmas.List.Elements.{All-cons, All-head, All-nil, All-tail, All-weaker}
+use Rattle.shx_term.specs.declared.term.Term.{Term}
+use Rattle.shx_term.specs.declared.term.Term.TheVariants.{Iri, Blank, Lit}
+use Rattle.shx_term.specs.declared.triple.Triple.{Triple}
+use Rattle.shx_term.specs.declared.triple.TermTriple.{TermTriple}
+use Rattle.shx_term.specs.Members.{SameMembers}
+use Rattle.shx_term.specs.Pool.{Pooled, with_term, with_terms}
+use Rattle.shx_term.specs.TripleTerms.{numbered, numbered_all, terms_of}
+use Rattle.shx_term.specs.ValidTriples.{IsIri, IsNoLiteral, IsNotWide, IsValidTermTriple}
+use Rattle.shx_term.specs.Vocabulary.{vocabulary}
+use Rattle.shx_term.proofs.HeldLemmas.{with_terms_grow}
+use Rattle.shx_term.proofs.MemberLemmas.{All_of_each, each_of_All}
+use Rattle.graph_view.specs.Graph.{Graph, HasAlso, graph_of}
+use Rattle.graph_view.specs.SameGraph.{SameGraph}
+use Rattle.graph_view.specs.Valid.{IsValidTriple, IsValidView}
+use Rattle.graph_view.proofs.SameGraphLemmas.{first_places_same}
+use Rattle.shx_term.proofs.SetLemmas.{SameMembers-sym}
+use Rattle.graph_view.proofs.ValidLemmas.{IsValidTriple-numbered, IsValidView-entered, IsValidView-inserted}
+use Rattle.shape_eval.specs.declared.shape.PlanShape.{PlanShape}
+use Rattle.shape_eval.specs.Constraint.{constraint_numbers}
+use Rattle.shape_eval.specs.Plan.{HasTermsOf, IsKnownPlan, path_numbers, target_number}
+use Rattle.ttl_meaning.specs.declared.document.Document.{Document}
+use Rattle.ttl_meaning.specs.inner.DocumentOf.{IsDocumentOf}
+use Rattle.ttl_meaning.specs.IsStated.{Bounds}
+use Rattle.ttl_meaning.specs.State.{State}
+use Rattle.shacl_run.specs.declared.edit.Edited.{Edited}
+use Rattle.shacl_run.specs.declared.edit.Edited.TheVariants.{Changed, Unchanged, Refused}
+use Rattle.shacl_run.specs.Edits.{graph_after, terms_with}
+use Rattle.shacl_run.specs.inner.Validation.{HasNoWide}
+
+-- ---- terms that are no wide literals
+
+narrow_subject : (t : Term) → IsNoLiteral t → IsNotWide t
+narrow_subject (Iri iri) is = tt
+narrow_subject (Blank blank) is = tt
+narrow_subject (Lit literal) is = absurd is
+
+narrow_predicate : (t : Term) → IsIri t → IsNotWide t
+narrow_predicate (Iri iri) is = tt
+narrow_predicate (Blank blank) is = absurd is
+narrow_predicate (Lit literal) is = absurd is
+
+-- those of valid triples
+narrow_terms : (ts : List TermTriple) → All IsValidTermTriple ts → HasNoWide (terms_of ts)
+narrow_terms [] all = All-nil IsNotWide
+narrow_terms (t ∷ ts) all =
+    let valid = All-head IsValidTermTriple t ts all in
+    let rest = narrow_terms ts (All-tail IsValidTermTriple t ts all) in
+    All-cons IsNotWide t.s (t.p ∷ (t.o ∷ terms_of ts)) (narrow_subject t.s valid.subject)
+    (All-cons IsNotWide t.p (t.o ∷ terms_of ts) (narrow_predicate t.p valid.predicate)
+    (All-cons IsNotWide t.o (terms_of ts) valid.object rest))
+
+abbrev is_iri_term : Term → Bool
+is_iri_term (Iri iri) = true
+is_iri_term (Blank blank) = false
+is_iri_term (Lit literal) = false
+
+narrow_iri : (t : Term) → is_iri_term t ≡ true → IsNotWide t
+narrow_iri (Iri iri) is = tt
+narrow_iri (Blank blank) is = tt
+narrow_iri (Lit literal) is = absurd (cc)
+
+narrow_iris : (ts : List Term) → list_all is_iri_term ts ≡ true → HasNoWide ts
+narrow_iris [] is = All-nil IsNotWide
+narrow_iris (t ∷ ts) is =
+    All-cons IsNotWide t ts (narrow_iri t (first_so (is_iri_term t) (list_all is_iri_term ts) is))
+    (narrow_iris ts (second_so (is_iri_term t) (list_all is_iri_term ts) is))
+
+-- those of the vocabulary
+pub narrow_vocabulary : HasNoWide vocabulary
+unfolding vocabulary
+narrow_vocabulary = narrow_iris vocabulary refl
+
+-- ---- valid views
+
+-- a view stays valid where terms are entered that are no wide literals
+valid_entered : (g : Graph) (ts : List Term) → IsValidView g → HasNoWide ts
+    → IsValidView (record g { terms = with_terms g.terms ts })
+valid_entered g [] valid narrow = valid
+valid_entered g (t ∷ ts) valid narrow =
+    let one : Graph = record g { terms = with_term g.terms t } in
+    valid_entered one ts (IsValidView-entered g one t valid (All-head IsNotWide t ts narrow) refl refl)
+    (All-tail IsNotWide t ts narrow)
+
+-- ... and where a valid triple is added behind its terms
+pub valid_stated : (g h : Graph) (t : TermTriple) (u : Triple) (old : List Triple) → IsValidView g
+    → IsValidTermTriple t → h.terms ≡ terms_with g t → numbered h.terms t ≡ Some u → old ≡ g.triples
+    → HasAlso old h.triples u → IsValidView h
+valid_stated g h t u old valid fit terms number same also =
+    let k : Graph = record g { terms = terms_with g t } in
+    let entered = valid_entered g (terms_of (t ∷ [])) valid
+    (narrow_terms (t ∷ []) (All-cons IsValidTermTriple t [] fit (All-nil IsValidTermTriple))) in
+    IsValidView-inserted k h u entered
+    (subst (λ ts. IsValidTriple ts u) terms (IsValidTriple-numbered h.terms t u number fit)) terms
+    (subst (λ us. HasAlso us h.triples u) same also)
+
+-- ... and where the same triples stand in another order
+pub valid_members : (g h : Graph) → g.terms ≡ h.terms → SameMembers g.triples h.triples → IsValidView g
+    → IsValidView h
+valid_members g h terms same valid = record {
+  triples = All_of_each (IsValidTriple h.terms) h.triples (λ t c.
+      subst (λ ts. IsValidTriple ts t) terms
+      (each_of_All (IsValidTriple g.terms) g.triples valid.triples t ((same.each t).1 c)));
+  terms = subst HasNoWide terms valid.terms;
+}
+
+-- what is stored of valid triples is a valid view
+pub valid_stored : (terms : List Term) (triples : List Triple) (h : Graph)
+    → SameGraph (graph_of terms triples) h → IsValidView (record { terms = terms; triples = triples })
+    → IsValidView h
+valid_stored terms triples h same valid =
+    valid_members (graph_of terms triples) h same.terms same.triples
+    (valid_members (record { terms = terms; triples = triples }) (graph_of terms triples) refl
+    (SameMembers-sym (first_places_same triples)) valid)
+
+-- ---- documents
+
+valid_numbered : (terms : List Term) (ts : List TermTriple) → All IsValidTermTriple ts
+    → All (IsValidTriple terms) (numbered_all terms ts)
+valid_numbered terms [] all = All-nil (IsValidTriple terms)
+valid_numbered terms (t ∷ ts) all =
+    let rest = valid_numbered terms ts (All-tail IsValidTermTriple t ts all) in
+    let fit = All-head IsValidTermTriple t ts all in
+    elim (numbered terms t) as
+    (λ o. numbered terms t ≡ o → All (IsValidTriple terms) (numbered_all terms (t ∷ ts))) [
+      | None ↦ λ e. rw e rest
+      | Some u ↦ λ e. rw e (All-cons (IsValidTriple terms) u (numbered_all terms ts)
+          (IsValidTriple-numbered terms t u e fit) rest)
+    ] refl
+
+-- a document is a valid view, where no wide literal was held before it
+pub valid_document : (bounds : Bounds) (s : State) (document : Document) (pool : Pooled)
+    → IsDocumentOf bounds s document pool → HasNoWide bounds.held
+    → IsValidView (record { terms = pool.terms; triples = document.triples.items })
+valid_document bounds s document pool is narrow =
+    let held : Graph = record { terms = bounds.held; triples = [] } in
+    let entered = valid_entered held (terms_of s.triples)
+    (record { triples = All-nil (IsValidTriple bounds.held); terms = narrow })
+    (narrow_terms s.triples is.valid) in
+    record {
+      triples = subst (All (IsValidTriple pool.terms)) (sym is.triples)
+          (valid_numbered pool.terms s.triples is.valid);
+      terms = subst HasNoWide (sym is.terms) entered.terms;
+    }
+
+-- ---- plans
+
+module _ (terms more : List Term) where
+  below_more : (ids : List ℕ) → All (λ id. id < length terms) ids
+      → All (λ id. id < length (terms ++ more)) ids
+  below_more ids all =
+      All-weaker (λ id. id < length terms) (λ id. id < length (terms ++ more))
+      (λ id below. omega (arith, length-append terms more)) ids all
+
+  shape_known_more : (sh : PlanShape) → HasTermsOf terms sh → HasTermsOf (terms ++ more) sh
+  shape_known_more sh has = record {
+    node = omega (arith, has.node, length-append terms more);
+    severity = omega (arith, has.severity, length-append terms more);
+    messages = below_more sh.messages.items has.messages;
+    path = below_more (path_numbers sh.path) has.path;
+    targets = below_more (map target_number sh.targets.items) has.targets;
+    constraints = below_more (flat_map constraint_numbers sh.constraints.items) has.constraints;
+  }
+
+  -- a plan stays known where there are more terms
+  plan_known_more : (shapes : List PlanShape) → IsKnownPlan terms shapes → IsKnownPlan (terms ++ more) shapes
+  plan_known_more shapes known = record {
+    each = All-weaker (HasTermsOf terms) (HasTermsOf (terms ++ more)) shape_known_more shapes known.each;
+  }
+
+-- where terms are entered
+pub plan_known_entered : (terms ts : List Term) (shapes : List PlanShape) → IsKnownPlan terms shapes
+    → IsKnownPlan (with_terms terms ts) shapes
+plan_known_entered terms ts shapes known =
+    let grown = with_terms_grow terms ts in
+    subst (λ ts. IsKnownPlan ts shapes) (sym grown.1) (plan_known_more terms grown.0 shapes known)
+
+-- and so by an edit
+pub plan_known_edited : (outcome : Edited) (g h : Graph) (t : TermTriple) (shapes : List PlanShape)
+    → SameGraph (graph_after outcome g t) h → IsKnownPlan g.terms shapes → IsKnownPlan h.terms shapes
+plan_known_edited Changed g h t shapes same known =
+    subst (λ ts. IsKnownPlan ts shapes) same.terms
+    (plan_known_entered g.terms (terms_of (t ∷ [])) shapes known)
+plan_known_edited Unchanged g h t shapes same known = subst (λ ts. IsKnownPlan ts shapes) same.terms known
+plan_known_edited Refused g h t shapes same known = subst (λ ts. IsKnownPlan ts shapes) same.terms known

@@ -1,0 +1,21 @@
+use Rattle.shape_eval.specs.declared.plan.Plan.{Plan}
+use Rattle.shacl_run.specs.Verdict.{BreaksNone}
+use Rattle.shacl_run.proofs.VerdictLemmas.{unplanned_broken, unplanned_stopped}
+use Rattle.shacl_run.proofs.judge.plan_shapes.Goals as goal
+
+pub returns-in-Err-clause-refused : goal.returns-in-Err-clause-refused
+returns-in-Err-clause-refused g c =
+    rw c.check_refusal.ensures
+    (unplanned_broken c.args.limits.now (g.V.GraphView.graph c.args.graph.now)
+    (g.P.PatternHost.state c.args.patterns.now).faults c.in-Err.fault c.in-Err.ensures.refused)
+
+pub returns-clause-refused : goal.returns-clause-refused
+returns-clause-refused g c =
+    let none : BreaksNone c.args.limits.now (g.V.GraphView.graph c.args.graph.now) =
+    record { faultless = c.in-Ok.ensures.accepted } in
+    let tells = rw (c.pool.ensures.terms, c.deref.ensures.value, c.in-Ok.ensures.declared)
+    at c.in-Err-compile.ensures.fault in
+    rw c.compile_refusal.ensures
+    (unplanned_stopped Plan c.args.limits.now (g.V.GraphView.graph c.args.graph.now)
+    (g.P.PatternHost.state c.args.patterns.now).faults (g.P.PatternHost.state c.compile.new.patterns).faults
+    c.in-Err-compile.fault none tells c.in-Err-compile.ensures.cause)

@@ -1,8 +1,0 @@
-use Rattle.shx_term.proofs.PieceLemmas.{three_in_turn, four_in_turn}
-use Rattle.shacl_run.proofs.report.add_row.Goals as goal
-
-pub returns : goal.returns
-returns g c =
-    let in_turn = g.met.W.Pieces.added_in_turn in
-    let front = three_in_turn in_turn c.add_source.ensures c.add.ensures c.add_path.ensures in
-    four_in_turn in_turn front c.add-2.ensures c.add_optional.ensures c.add-3.ensures

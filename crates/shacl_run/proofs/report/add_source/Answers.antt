@@ -1,9 +1,0 @@
-use Rattle.shx_term.proofs.PieceLemmas.{three_in_turn, four_in_turn}
-use Rattle.shacl_run.proofs.report.add_source.Goals as goal
-
-pub returns : goal.returns
-returns g c =
-    let in_turn = g.met.W.Pieces.added_in_turn in
-    let name = rw (c.as_bytes.ensures.value, c.component_name.ensures) at c.add-2.ensures in
-    let front = three_in_turn in_turn c.add.ensures name c.add-3.ensures in
-    four_in_turn in_turn front c.add_shape.ensures c.add-4.ensures c.add_id.ensures

@@ -1,9 +1,0 @@
-use Rattle.std.proofs.Common.{rules}
-use Rattle.report_write.proofs.WriterLemmas.{Writes-finished}
-use Rattle.shacl_run.proofs.report.write_report.Goals as goal
-
-pub returns : goal.returns
-returns g c =
-    let (same, written) =
-    Writes-finished _ _ c.finish.result c.new-writer.ensures c.add_report.ensures c.finish.ensures in
-    search rules

@@ -1,0 +1,82 @@
+-- What the shapes text and the data text are made into, in terms of what they are read as.
+use Rattle.std.specs.Prelude.{◌≡◌, ℕ, List}
+use Rattle.shx_outside.specs.declared.role.Role.TheVariants.{Shapes as of_shapes, Data as of_data}
+use Rattle.shx_term.specs.declared.limits.Limits.{Limits}
+use Rattle.shx_term.specs.declared.term.Scope.TheVariants.{Shapes, Data}
+use Rattle.shx_term.specs.declared.term.Term.{Term}
+use Rattle.shx_term.specs.Vocabulary.{vocabulary}
+use Rattle.graph_view.specs.Graph.{Graph}
+use Rattle.ttl_meaning.specs.State.{State}
+use Rattle.shape_eval.specs.Plan.{Planned, IsPlan}
+use Rattle.shape_eval.specs.Planned.{plan_of}
+use Rattle.report_write.specs.declared.answer.Answer.{Answer}
+use Rattle.shacl_run.specs.declared.judge.Accepted.{Accepted}
+use Rattle.shacl_run.specs.declared.refusal.Refusal.{Refusal}
+use Rattle.shacl_run.specs.declared.refusal.Refusal.TheVariants.{Text, Cut}
+use Rattle.shacl_run.specs.declared.unopened.Unopened.{Unopened}
+use Rattle.shacl_run.specs.declared.unopened.Unopened.TheVariants as unopened
+use Rattle.shacl_run.specs.declared.validation.Validation.{Validation}
+use Rattle.shacl_run.specs.Readings.{TextReading, States, Faulty, Long, IsReadAs, stated_graph}
+use Rattle.shacl_run.specs.Run.{passed_over}
+use Rattle.shacl_run.specs.RunClauses.{RoseWhere}
+use Rattle.shacl_run.specs.Verdict.{IsVerdict, Obstacle, obstacle_answer, plans, refuses_pattern, stops}
+use Rattle.shacl_run.specs.inner.Refusal.{IsRefusalOf, RefusesAs}
+use Rattle.shacl_run.specs.inner.Validation.{OpensFor}
+
+-- ---- the shapes of a graph
+
+-- the graph's shapes come to this plan, or to what is answered in its place; want of memory says nothing
+pub record PlansAs (limits : Limits) (g : Graph) (refusals refusals' : ℕ) (plan : Planned) : Type 0 where
+  pub judged : IsVerdict limits g (plans plan)
+  pub fits : IsPlan g.terms plan.shapes
+  pub patterns : refusals' ≡ refusals
+
+pub record StopsAs (limits : Limits) (g : Graph) (refusals refusals' : ℕ) (answer : Answer) : Type 0 where
+  pub obstacle : Obstacle
+  pub judged : IsVerdict limits g (stops obstacle)
+  pub told : answer ≡ obstacle_answer obstacle
+  pub patterns : RoseWhere (refuses_pattern (stops obstacle)) refusals refusals'
+
+abbrev pub IsUnplanned : Limits → Graph → ℕ → ℕ → Refusal → Type 0
+IsUnplanned limits g refusals refusals' (Text answer) = StopsAs limits g refusals refusals' answer
+IsUnplanned limits g refusals refusals' (Cut stop) = Unit {0}
+
+-- ---- the shapes text
+
+-- the text states a document whose shapes come to this plan
+pub record Accepts (limits : Limits) (base text : List ℕ) (refusals refusals' : ℕ) (accepted : Accepted)
+    : Type 0 where
+  pub document : Graph
+  pub end : State
+  pub read : IsReadAs limits base Shapes vocabulary text (States document end)
+  pub plan : PlansAs limits (stated_graph document) refusals refusals' (plan_of accepted.plan)
+  pub terms : document.terms ≡ accepted.pool.terms
+  pub passed : accepted.passed_over ≡ passed_over (stated_graph document)
+
+-- the text has a fault of Turtle or is too long, or its shapes come to no plan
+abbrev pub IsShapesRefusal : Limits → TextReading → ℕ → ℕ → List Term → Answer → Type 0
+IsShapesRefusal limits (States document end) refusals refusals' terms answer =
+    (terms ≡ document.terms) × StopsAs limits (stated_graph document) refusals refusals' answer
+IsShapesRefusal limits (Faulty code at) refusals refusals' terms answer =
+    IsRefusalOf of_shapes (Faulty code at) answer × (refusals' ≡ refusals)
+IsShapesRefusal limits Long refusals refusals' terms answer =
+    IsRefusalOf of_shapes Long answer × (refusals' ≡ refusals)
+
+abbrev pub RefusesShapes : Limits → List ℕ → List ℕ → ℕ → ℕ → Unopened → Type 0
+RefusesShapes limits base text refusals refusals' (unopened.Told answer pool) =
+    (reading : TextReading) × IsReadAs limits base Shapes vocabulary text reading
+    × IsShapesRefusal limits reading refusals refusals' pool.terms answer
+RefusesShapes limits base text refusals refusals' (unopened.Cut stop) = Unit {0}
+
+-- ---- the data text
+
+-- the data text is read as what this validation is opened for, where these terms are held
+abbrev pub Opens : Limits → List ℕ → List Term → Planned → List ℕ → Validation → Type 0
+Opens limits base held plan text validation =
+    (reading : TextReading) × IsReadAs limits base Data held text reading
+    × OpensFor limits plan reading validation
+
+abbrev pub RefusesData : Limits → List ℕ → List Term → List ℕ → Unopened → Type 0
+RefusesData limits base held text (unopened.Told answer pool) =
+    RefusesAs of_data (IsReadAs limits base Data held text) (Text answer)
+RefusesData limits base held text (unopened.Cut stop) = Unit {0}

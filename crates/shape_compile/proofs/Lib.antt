@@ -1,0 +1,12 @@
+pub mod ContentLemmas
+pub mod FaultlessLemmas
+pub mod NamedLemmas
+pub mod NumberLemmas
+pub mod OrderedLemmas
+pub mod PatternLemmas
+pub mod PlaceLemmas
+pub mod PlanLemmas
+pub mod PlannedLemmas
+pub mod RouteLemmas
+pub mod SayingLemmas
+pub mod StatedLemmas

@@ -1,0 +1,12 @@
+use Rattle.std.specs.Prelude.{◌≡◌, map, take}
+use Rattle.shape_decl.specs.Declarations.{told_decl}
+use Rattle.shape_refs.specs.References.{references_of}
+use Rattle.shape_refs.specs.inner.Places.{places_of}
+use Rattle.shape_refs.proofs.references.find_references.Given as goal
+
+abbrev pub invariant-loop-at : goal.invariant-loop-at
+invariant-loop-at l =
+    map (λ row. row.items) l.rows.items
+    ≡ map (λ d. places_of (map told_decl l.declared.decls.now)
+    (references_of l.declared.pool.now.terms (map told_decl l.declared.decls.now) d))
+    (map told_decl (take l.at l.declared.decls.now))

@@ -1,0 +1,3 @@
+pub mod TermTexts
+pub mod Writes
+pub mod inner

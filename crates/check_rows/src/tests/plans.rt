@@ -151,9 +151,6 @@ fn comes_to(alloc: Global, row: &str) -> Result<bool, RowFault> {
 
 #[test]
 fn plans(rt: HostRuntime) -> Result<(), Fail> {
-    assert_eq!(rt;
-        first_other_block(rt.alloc(), plans::ROWS, comes_to)?,
-        ""
-    );
+    assert_eq!(rt; first_other_block(rt.alloc(), plans::ROWS, comes_to)?, "");
     Ok(())
 }

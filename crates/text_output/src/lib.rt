@@ -4,6 +4,7 @@
 //! |---|---|
 //! | `writer.rt` | `Writer`: gathers texts, puts them in large pieces, and remembers its first failure |
 //! | `pending.rt`, `put_all.rt` | the bytes that it gathers; a text put whole |
+//! | `format.rt` | `Format`: lines, or Turtle |
 //! | `write_fault.rt` | `WriteFault`: the one error of a text that is written whole |
 //! | `number.rt`, `term.rt` | numbers and terms; terms by their numbers |
 //!
@@ -12,6 +13,7 @@
 //! is written by a function over `shx_term::Pieces`, which adds the parts in turn.
 #![tactic(auto)]
 
+mod format;
 mod number;
 mod pending;
 mod put_all;
@@ -19,6 +21,7 @@ mod term;
 mod write_fault;
 mod writer;
 
+pub use format::Format;
 pub use number::add_number;
 pub use term::{add_optional, add_term, write_term};
 pub use write_fault::WriteFault;

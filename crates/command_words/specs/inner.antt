@@ -1,0 +1,4 @@
+-- Words by which only the inside of this crate is proved: nothing that a caller relies on cites them.
+pub mod Allowed
+pub mod Command
+pub mod Found

@@ -1,5 +1,5 @@
 -- What belongs to a string, and what is answered of a term.
-use Rattle.std.proofs.Common.{◌≡◌, ◌≢◌, ℕ, true, List, Result, Ok, Err, subst}
+use Rattle.std.proofs.Common.{◌≡◌, ◌≢◌, ℕ, true, List, Result, Ok, Err, ap, ◌∙◌, subst}
 use Rattle.std.specs.Prelude.{IfOk}
 use Rattle.std.specs.Str.{IsUtf8}
 use Rattle.ttl_tokens.specs.declared.token.Token.{Token}
@@ -11,10 +11,10 @@ use Rattle.ttl_meaning.specs.declared.document.Document.{Document}
 use Rattle.ttl_read.specs.declared.fault.TtlFault.{TtlFault}
 use Rattle.ttl_read.specs.declared.fault.TtlFault.TheVariants.{At, Memory}
 use Rattle.ttl_read.specs.declared.term.Reading.{Reading}
-use Rattle.ttl_read.specs.declared.term.Suffix.TheVariants.{Nothing}
+use Rattle.ttl_read.specs.declared.suffix.Suffix.TheVariants.{Nothing}
 use Rattle.ttl_read.specs.Found.{Answers, HasSuffix}
 use Rattle.ttl_read.specs.Grammar.{is_iri}
-use Rattle.ttl_read.specs.ReadTerm.{Found, A, No, IsFound}
+use Rattle.ttl_read.specs.ReadTerm.{Found, A, No, IsFound, HasTag, HasDatatype}
 
 -- ---- answers
 
@@ -45,6 +45,19 @@ pub tag_or_carets : {k : TokenKind} → k ≡ LangTag → k ≡ Carets → ⊥
 tag_or_carets tag carets = absurd (cc)
 
 module _ (text : List ℕ) (string : Token) (utf8 : IsUtf8 text) where
+  pub one_tag : (t u : Token) → HasTag text string t → HasTag text string u → t ≡ u
+  one_tag t u has also = one_token text string.end t u utf8 has.0 also.0
+
+  pub one_datatype : (t u : Token) → HasDatatype text string t → HasDatatype text string u → t ≡ u
+  one_datatype t u has also =
+      let same : has.0 ≡ also.0 = one_token text string.end has.0 also.0 utf8 has.1 also.1 in
+      one_token text also.0.end t u utf8 (subst (λ (c : Token). IsTokenAt text c.end t) same has.3) also.3
+
+  pub tag_or_datatype : (t u : Token) → HasTag text string t → HasDatatype text string u → ⊥
+  tag_or_datatype t u tag datatype =
+      let same : t ≡ datatype.0 = one_token text string.end t datatype.0 utf8 tag.0 datatype.1 in
+      tag_or_carets tag.1 (ap (λ (t : Token). t.kind) same ∙ datatype.2)
+
   -- no token comes next
   pub nothing_at_none : (fault : ℕ) → IsNoTokenAt text string.end fault → HasSuffix text string Nothing
   nothing_at_none fault none = (

@@ -1,6 +1,7 @@
 -- With which tokens a form begins: the kind of the next one decides.
 use Rattle.std.proofs.Common.{◌≡◌, ◌≢◌, ℕ, ◌-◌, ◌<◌, zero, suc, Bool, true, false, ◌&&◌, ◌||◌, List, refl}
 use Rattle.std.proofs.Common.{sym, true≢false, arith}
+use Rattle.std.proofs.lemmas.Bool.{or_right}
 use denote.Enum.Bare.{same_true, same_false, false_same}
 use Rattle.ttl_tokens.specs.contracts.token.TokenKind.{the_type}
 use Rattle.ttl_tokens.specs.declared.token.Token.{Token}
@@ -41,6 +42,25 @@ iri_or_blank_node k = refl
 pub string_or_bare : (k : TokenKind) → is_string k && is_bare_literal k ≡ false
 string_or_bare End = refl
 string_or_bare k = refl
+
+pub iri_or_string : (k : TokenKind) → is_iri k && is_string k ≡ false
+iri_or_string End = refl
+iri_or_string k = refl
+
+pub iri_or_bare : (k : TokenKind) → is_iri k && is_bare_literal k ≡ false
+iri_or_bare End = refl
+iri_or_bare k = refl
+
+-- a token that is a term by itself
+abbrev pub is_term : TokenKind → Bool
+is_term k = is_iri k || (is_kind BlankLabel k || is_bare_literal k)
+
+pub term_or_string : (k : TokenKind) → is_term k && is_string k ≡ false
+term_or_string End = refl
+term_or_string k = refl
+
+pub bare_is_term : (k : TokenKind) → is_bare_literal k ≡ true → is_term k ≡ true
+bare_is_term k h = or_right (is_iri k) _ (or_right (is_kind BlankLabel k) (is_bare_literal k) h)
 
 -- ---- objects without brackets
 

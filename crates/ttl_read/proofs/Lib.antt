@@ -6,6 +6,7 @@ pub mod DocumentLemmas
 pub mod FitLemmas
 pub mod FollowLemmas
 pub mod FoundLemmas
+pub mod GoesToLemmas
 pub mod HereLemmas
 pub mod KeepsTermsLemmas
 pub mod KindLemmas
@@ -19,5 +20,6 @@ pub mod SoundLemmas
 pub mod StartLemmas
 pub mod StatementLemmas
 pub mod StepLemmas
+pub mod TokenTermLemmas
 pub mod TriplesLemmas
 pub mod UniqueLemmas

@@ -1,5 +1,5 @@
 -- At a token one thing is found.
-use Rattle.std.proofs.Common.{◌≡◌, ◌≢◌, ℕ, Bool, true, false, List, sym, ap, ◌∙◌, subst, inl, inr}
+use Rattle.std.proofs.Common.{◌≡◌, ◌≢◌, ℕ, Bool, true, false, List, sym, ap, ◌∙◌, inl, inr}
 use Rattle.std.proofs.Common.{true≢false, drop}
 use Rattle.std.specs.Bool.{MatchBool}
 use Rattle.std.specs.Str.{IsUtf8}
@@ -11,9 +11,7 @@ use Rattle.ttl_tokens.specs.declared.token.TokenKind.TheVariants.{IriRef, PnameL
 use Rattle.ttl_tokens.specs.declared.token.TokenKind.TheVariants.{Integer, Decimal, Double, WordTrue}
 use Rattle.ttl_tokens.specs.declared.token.TokenKind.TheVariants.{WordFalse, StringQuote, StringSingleQuote}
 use Rattle.ttl_tokens.specs.declared.token.TokenKind.TheVariants.{StringLongQuote, StringLongSingleQuote}
-use Rattle.ttl_tokens.specs.Tokens.{IsTokenAt}
 use Rattle.ttl_tokens.specs.Unescaped.{token_text}
-use Rattle.ttl_tokens.proofs.OneTokenLemmas.{one_token}
 use Rattle.ttl_meaning.specs.declared.document.Document.{Document}
 use Rattle.ttl_meaning.specs.InForce.{in_force}
 use Rattle.ttl_meaning.specs.Terms.{said, iri_of, judged, typed, tagged, datatype_of}
@@ -21,8 +19,8 @@ use Rattle.ttl_meaning.proofs.NodeLemmas.{one_node}
 use Rattle.ttl_read.specs.Grammar.{is_iri, is_bare_literal, is_string, is_kind}
 use Rattle.ttl_read.specs.ReadTerm.{Found, A, No, found, found_iri, found_typed}
 use Rattle.ttl_read.specs.ReadTerm.{IsFound, AnIri, ANode, ALiteral, AString, Other, IsNodeFound}
-use Rattle.ttl_read.specs.ReadTerm.{IsStringFound, HasTag, HasDatatype}
-use Rattle.ttl_read.proofs.FoundLemmas.{tag_or_carets}
+use Rattle.ttl_read.specs.ReadTerm.{IsStringFound}
+use Rattle.ttl_read.proofs.FoundLemmas.{one_tag, one_datatype, tag_or_datatype}
 use Rattle.ttl_read.proofs.KindLemmas.{not_of_kind}
 
 -- one answer alone
@@ -92,26 +90,13 @@ module _ (text : List ℕ) (token : Token) (document : Document) (utf8 : IsUtf8 
   abbrev with_datatype : Token → Found
   with_datatype iri = found_typed text token iri (iri_of text iri (in_force document))
 
-  one_tag : (t u : Token) → HasTag text token t → HasTag text token u → t ≡ u
-  one_tag t u has also = one_token text token.end t u utf8 has.0 also.0
-
-  one_datatype : (t u : Token) → HasDatatype text token t → HasDatatype text token u → t ≡ u
-  one_datatype t u has also =
-      let same : has.0 ≡ also.0 = one_token text token.end has.0 also.0 utf8 has.1 also.1 in
-      one_token text also.0.end t u utf8 (subst (λ (c : Token). IsTokenAt text c.end t) same has.3) also.3
-
-  tag_or_datatype : (t u : Token) → HasTag text token t → HasDatatype text token u → ⊥
-  tag_or_datatype t u tag datatype =
-      let same : t ≡ datatype.0 = one_token text token.end t datatype.0 utf8 tag.0 datatype.1 in
-      tag_or_carets tag.1 (ap (λ (t : Token). t.kind) same ∙ datatype.2)
-
   string_once : IsOnce (IsStringFound text token document)
-  string_once a b (inl t) (inl u) = t.2 ∙ ap with_tag (one_tag t.0 u.0 t.1 u.1) ∙ sym u.2
-  string_once a b (inl t) (inr (inl d)) = absurd (tag_or_datatype t.0 d.0 t.1 d.1)
+  string_once a b (inl t) (inl u) = t.2 ∙ ap with_tag (one_tag text token utf8 t.0 u.0 t.1 u.1) ∙ sym u.2
+  string_once a b (inl t) (inr (inl d)) = absurd (tag_or_datatype text token utf8 t.0 d.0 t.1 d.1)
   string_once a b (inl t) (inr (inr none)) = absurd (none.0 t.0 t.1)
-  string_once a b (inr (inl d)) (inl t) = absurd (tag_or_datatype t.0 d.0 t.1 d.1)
+  string_once a b (inr (inl d)) (inl t) = absurd (tag_or_datatype text token utf8 t.0 d.0 t.1 d.1)
   string_once a b (inr (inl d)) (inr (inl e)) =
-      d.2 ∙ ap with_datatype (one_datatype d.0 e.0 d.1 e.1) ∙ sym e.2
+      d.2 ∙ ap with_datatype (one_datatype text token utf8 d.0 e.0 d.1 e.1) ∙ sym e.2
   string_once a b (inr (inl d)) (inr (inr none)) = absurd (none.1 d.0 d.1)
   string_once a b (inr (inr none)) (inl t) = absurd (none.0 t.0 t.1)
   string_once a b (inr (inr none)) (inr (inl d)) = absurd (none.1 d.0 d.1)

@@ -6,8 +6,8 @@ use Rattle.ttl_meaning.specs.declared.fault.NoTerm.TheVariants.{Fault, Memory as
 use Rattle.ttl_read.specs.declared.fault.TtlFault.{TtlFault}
 use Rattle.ttl_read.specs.declared.fault.TtlFault.TheVariants.{At, Memory}
 use Rattle.ttl_read.specs.declared.term.Reading.{Reading}
-use Rattle.ttl_read.specs.declared.term.Suffix.{Suffix}
-use Rattle.ttl_read.specs.declared.term.Suffix.TheVariants.{Tag, Datatype, Nothing}
+use Rattle.ttl_read.specs.declared.suffix.Suffix.{Suffix}
+use Rattle.ttl_read.specs.declared.suffix.Suffix.TheVariants.{Tag, Datatype, Nothing}
 use Rattle.ttl_read.specs.Documents.{code_of_term}
 use Rattle.ttl_read.specs.ReadTerm.{Found, A, No, HasTag, HasDatatype}
 

@@ -1,6 +1,6 @@
 -- The term that begins at a token, for whoever knows what the text before it states (Turtle 1.1, sections
 -- 6.5 and 7.2).
-use Rattle.std.specs.Prelude.{◌≡◌, ◌≢◌, ℕ, ◌⊎◌, List, drop, Result, Ok, Err, true, false}
+use Rattle.std.specs.Prelude.{◌≡◌, ◌≢◌, ℕ, ◌||◌, ◌⊎◌, List, drop, Result, Ok, Err, true, false}
 use Rattle.shx_term.specs.declared.fault_codes.TheConstants.{SYNTAX, UNKNOWN_BLANK}
 use Rattle.shx_term.specs.declared.term.BlankName.{BlankName}
 use Rattle.shx_term.specs.declared.term.Term.{Term}
@@ -17,7 +17,7 @@ use Rattle.ttl_meaning.specs.Terms.{said, iri_of, judged, typed, tagged, datatyp
 use Rattle.ttl_read.specs.declared.fault.TtlFault.{TtlFault}
 use Rattle.ttl_read.specs.declared.fault.TtlFault.TheVariants.{At, Memory}
 use Rattle.ttl_read.specs.Documents.{code_of_term}
-use Rattle.ttl_read.specs.Grammar.{is_iri, is_string, is_bare_literal}
+use Rattle.ttl_read.specs.Grammar.{is_iri, is_kind, is_string, is_bare_literal}
 
 -- ---- what is found at a token: a term that goes to a byte, or a fault with its code and its byte
 
@@ -86,3 +86,15 @@ pub data IsFound (text : List ℕ) (token : Token) (document : Document) (answer
 abbrev pub IsFaultFound : List ℕ → Token → Document → TtlFault → Type 0
 IsFaultFound text token document (At code at) = IsFound text token document (No code at)
 IsFaultFound text token document Memory = Unit
+
+-- ---- where a term ends that begins at a token, by the tokens alone, with a fault or without
+
+pub data GoesTo (text : List ℕ) (token : Token) (end : ℕ) : Type 0 where
+  OneToken : (is_iri token.kind || (is_kind BlankLabel token.kind || is_bare_literal token.kind)) ≡ true
+      → end ≡ token.end → GoesTo text token end
+  WithTag : is_string token.kind ≡ true → (tag : Token) → HasTag text token tag → end ≡ tag.end
+      → GoesTo text token end
+  WithDatatype : is_string token.kind ≡ true → (iri : Token) → HasDatatype text token iri → end ≡ iri.end
+      → GoesTo text token end
+  AsString : is_string token.kind ≡ true → ((other : Token) → HasTag text token other → ⊥)
+      → ((other : Token) → HasDatatype text token other → ⊥) → end ≡ token.end → GoesTo text token end

@@ -1,11 +1,13 @@
 //! Groups of tokens.
 ghost use Rattle.std.specs.Prelude.{◌≡◌, ◌||◌};
 ghost use Rattle.ttl_read.specs.Depth.{is_dot_or_end, is_open, is_close, is_prefix_or_base};
-ghost use Rattle.ttl_read.specs.Grammar.{begins_verb, is_bare_literal, is_iri, is_string};
+ghost use Rattle.ttl_read.specs.Grammar.{begins_verb, is_bare_literal, is_iri, is_kind, is_string};
+ghost use Rattle.ttl_tokens.specs.declared.token.TokenKind.TheVariants.{BlankLabel};
 
 use ttl_tokens::TokenKind;
 
-pub(crate) fn is_iri(kind: TokenKind) -> bool
+/// Tokens that stand for an IRI: a reference, a prefixed name, or a prefix alone.
+pub fn is_iri(kind: TokenKind) -> bool
     ensures { result ≡ is_iri kind }
 {
     matches!(
@@ -39,10 +41,18 @@ pub(crate) fn is_bare_literal(kind: TokenKind) -> bool
     )
 }
 
-pub(crate) fn begins_verb(kind: TokenKind) -> bool
+/// Tokens with which a verb begins: those of an IRI, and the word `a`.
+pub fn begins_verb(kind: TokenKind) -> bool
     ensures { result ≡ begins_verb kind }
 {
     is_iri(kind) || kind == TokenKind::WordA
+}
+
+// Tokens that are a term by themselves.
+pub(crate) fn is_term(kind: TokenKind) -> bool
+    ensures { result ≡ (is_iri kind || (is_kind BlankLabel kind || is_bare_literal kind)) }
+{
+    is_iri(kind) || kind == TokenKind::BlankLabel || is_bare_literal(kind)
 }
 
 pub(crate) fn begins_literal(kind: TokenKind) -> bool

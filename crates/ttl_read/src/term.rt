@@ -1,28 +1,25 @@
 //! The term that begins at a token.
-ghost use Rattle.std.specs.Prelude.{◌≡◌, ◌≤◌, ◌⊎◌, length, true, IfOk, IfErr, MatchOption, Result};
-ghost use Rattle.std.specs.Str.{IsCharBoundary};
+ghost use Rattle.std.specs.Prelude.{◌≡◌, IfOk, IfErr, Result};
 ghost use Rattle.shx_term.specs.declared.term.Term.{Term as term};
-ghost use Rattle.ttl_tokens.specs.declared.token.Token.{Token as token_type};
-ghost use Rattle.ttl_tokens.specs.Tokens.{IsTokenAt};
 ghost use Rattle.ttl_tokens.specs.Unescaped.{IsGiven};
 ghost use Rattle.ttl_meaning.specs.declared.fault.TermFaultKind.{TermFaultKind};
 ghost use Rattle.ttl_meaning.specs.InForce.{in_force};
 ghost use Rattle.ttl_meaning.specs.inner.Meant.{IsMeant};
 ghost use Rattle.ttl_meaning.specs.Terms.{iri_of};
-ghost use Rattle.ttl_read.specs.Found.{Answers, HasSuffix, IsFaultOf};
-ghost use Rattle.ttl_read.specs.Grammar.{is_iri, is_string};
+ghost use Rattle.ttl_read.specs.Found.{Answers, IsFaultOf};
 ghost use Rattle.ttl_read.specs.ReadTerm.{A, IsFaultFound, IsFound, IsNodeFound, IsStringFound};
 ghost use Rattle.ttl_read.specs.ReadTerm.{found, found_iri, found_typed};
 
 use crate::fault::{TtlFault, code_of};
 use crate::groups::{is_bare_literal, is_iri, is_string};
+use crate::suffix::{Suffix, behind_string};
 use shx_term::Term;
 use shx_term::fault_codes::{SYNTAX, UNKNOWN_BLANK};
 use std::alloc::Global;
 use ttl_meaning::{
     Document, NoNode, NoTerm, bare_literal, plain_string, tagged_string, typed_string,
 };
-use ttl_tokens::{Token, TokenKind, next_token};
+use ttl_tokens::{Token, TokenKind};
 
 /// What is found at a token.
 #[derive(Debug, Drop)]
@@ -153,51 +150,6 @@ fn typed(
             typed_string(alloc, text, token, datatype),
         ),
         Err(none) => Err(fault_of(none, iri.start)),
-    }
-}
-
-// What belongs to a string: its tag, the IRI of its datatype, or neither.
-#[derive(Clone, Copy, Debug)]
-enum Suffix {
-    Tag(Token),
-    Datatype(Token),
-    Nothing,
-}
-
-fn behind_string(text: &str, string: &Token) -> Suffix
-    requires { IsGiven text.now string.now }
-    ensures { HasSuffix text.now string.now result }
-{
-    let Ok(next) = next_token(text, string.end) else {
-        return Suffix::Nothing;
-    };
-    match next.kind {
-        TokenKind::LangTag => Suffix::Tag(next),
-        TokenKind::Carets => match next_iri(text, next.end) {
-            Some(iri) => Suffix::Datatype(iri),
-            None => Suffix::Nothing,
-        },
-        _ => Suffix::Nothing,
-    }
-}
-
-// The IRI that comes next.
-fn next_iri(text: &str, at: usize) -> Option<Token>
-    requires within { at ≤ length text.now }
-    requires boundary { IsCharBoundary text.now at }
-    ensures { MatchOption result
-        ((other : token_type) → IsTokenAt text.now at other → is_iri other.kind ≡ true → ⊥)
-        (λ iri. IsTokenAt text.now at iri × (is_iri iri.kind ≡ true)) }
-{
-    match next_token(text, at) {
-        Ok(token) => {
-            if is_iri(token.kind) {
-                Some(token)
-            } else {
-                None
-            }
-        }
-        Err(_) => None,
     }
 }
 

@@ -2,7 +2,7 @@ use Rattle.std.proofs.Common.{◌≡◌, true, true≢false, sym, ◌∙◌}
 use Rattle.ttl_tokens.proofs.OneTokenLemmas.{token_or_none}
 use Rattle.ttl_read.specs.Grammar.{is_iri}
 use Rattle.ttl_read.proofs.FoundLemmas.{other_next}
-use Rattle.ttl_read.proofs.term.next_iri.Goals as goal
+use Rattle.ttl_read.proofs.suffix.next_iri.Goals as goal
 
 pub returns-else-is_iri : goal.returns-else-is_iri
 returns-else-is_iri c =

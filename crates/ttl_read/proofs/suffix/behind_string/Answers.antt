@@ -1,5 +1,5 @@
 use Rattle.ttl_read.proofs.FoundLemmas.{nothing_at_none, nothing_at_other, nothing_at_carets}
-use Rattle.ttl_read.proofs.term.behind_string.Goals as goal
+use Rattle.ttl_read.proofs.suffix.behind_string.Goals as goal
 
 pub returns-in_default : goal.returns-in_default
 returns-in_default c =

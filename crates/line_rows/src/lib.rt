@@ -1,0 +1,16 @@
+//! Lines of a script at work, as tests alone: lines behind data texts, with what they ask for or their fault.
+//!
+//! | file | what it holds |
+//! |---|---|
+//! | `tests/seen.rt` | what a line is read as behind a data text, as a text |
+//! | `tests/forms.rt` | lines of each form, and lines that have none, by the tables beside it |
+//! | `tests/terms.rt` | the terms of lines and their faults, by the tables beside it |
+//! | `tests/bytes.rt` | lines that are too long or no UTF-8, by the table beside it |
+//! | `tests/told.rt` | how a fault is told |
+//!
+//! It stands on `script_lines`, `ttl_read` and `row_tools`. A table is a text of rows, and a test asks for the
+//! first row that is met otherwise.
+#![tactic(auto)]
+
+#[cfg(test)]
+mod tests;

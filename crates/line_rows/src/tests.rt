@@ -1,0 +1,5 @@
+mod bytes;
+mod forms;
+mod seen;
+mod terms;
+mod told;

@@ -1,0 +1,40 @@
+mod accepted;
+mod edits;
+mod refused;
+
+use super::seen::is_read_as_said;
+use row_tools::first_other;
+use std::test::Fail;
+
+#[test]
+fn blank_lines_and_words(rt: HostRuntime) -> Result<(), Fail> {
+    assert_eq!(rt;
+        first_other(rt.alloc(), accepted::WORDS, is_read_as_said)?,
+        ""
+    );
+    Ok(())
+}
+
+#[test]
+fn triples(rt: HostRuntime) -> Result<(), Fail> {
+    assert_eq!(rt;
+        first_other(rt.alloc(), accepted::TRIPLES, is_read_as_said)?,
+        ""
+    );
+    Ok(())
+}
+
+#[test]
+fn no_word(rt: HostRuntime) -> Result<(), Fail> {
+    assert_eq!(rt;
+        first_other(rt.alloc(), refused::ROWS, is_read_as_said)?,
+        ""
+    );
+    Ok(())
+}
+
+#[test]
+fn no_triple(rt: HostRuntime) -> Result<(), Fail> {
+    assert_eq!(rt; first_other(rt.alloc(), edits::ROWS, is_read_as_said)?, "");
+    Ok(())
+}

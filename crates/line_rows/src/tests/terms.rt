@@ -1,0 +1,73 @@
+mod behind;
+mod blanks;
+mod iris;
+mod literals;
+mod order;
+
+use super::seen::{is_read_as_said, is_read_behind};
+use row_tools::{RowFault, cut, first_other};
+use std::alloc::Global;
+use std::test::Fail;
+
+#[test]
+fn unknown_prefixes(rt: HostRuntime) -> Result<(), Fail> {
+    assert_eq!(rt;
+        first_other(rt.alloc(), iris::PREFIXES, is_read_as_said)?,
+        ""
+    );
+    Ok(())
+}
+
+#[test]
+fn bad_iris(rt: HostRuntime) -> Result<(), Fail> {
+    assert_eq!(rt;
+        first_other(rt.alloc(), iris::REFERENCES, is_read_as_said)?,
+        ""
+    );
+    Ok(())
+}
+
+#[test]
+fn floats(rt: HostRuntime) -> Result<(), Fail> {
+    assert_eq!(rt;
+        first_other(rt.alloc(), literals::FLOATS, is_read_as_said)?,
+        ""
+    );
+    Ok(())
+}
+
+#[test]
+fn wide_values(rt: HostRuntime) -> Result<(), Fail> {
+    assert_eq!(rt;
+        first_other(rt.alloc(), literals::WIDE, is_read_as_said)?,
+        ""
+    );
+    Ok(())
+}
+
+#[test]
+fn unknown_blank_nodes(rt: HostRuntime) -> Result<(), Fail> {
+    assert_eq!(rt; first_other(rt.alloc(), blanks::ROWS, is_read_as_said)?, "");
+    Ok(())
+}
+
+#[test]
+fn one_fault_of_several(rt: HostRuntime) -> Result<(), Fail> {
+    assert_eq!(rt; first_other(rt.alloc(), order::ROWS, is_read_as_said)?, "");
+    Ok(())
+}
+
+// Whether the row's line is read as the row says, behind the row's data text.
+fn is_read_behind_its_own(alloc: Global, row: &str) -> Result<bool, RowFault> {
+    let (stated, line) = cut(row, "¦")?;
+    is_read_behind(alloc, stated, line)
+}
+
+#[test]
+fn terms_by_their_data_text(rt: HostRuntime) -> Result<(), Fail> {
+    assert_eq!(rt;
+        first_other(rt.alloc(), behind::ROWS, is_read_behind_its_own)?,
+        ""
+    );
+    Ok(())
+}

@@ -1,0 +1,4 @@
+pub mod FaultText
+pub mod Forms
+pub mod Lines
+pub mod inner

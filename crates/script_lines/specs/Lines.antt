@@ -1,0 +1,102 @@
+-- What a line asks for, behind a data text whose base, prefixes and blank nodes are those of its terms; or its
+-- fault: the line is too long, is no UTF-8, has no form, or has a term with a fault, the first in the line.
+use Rattle.std.specs.Prelude.{◌≡◌, ◌≢◌, ℕ, ◌<◌, ◌≤◌, ◌⊎◌, ◌==◌, List, length, codes, None, Some, Result, Ok, Err}
+use Rattle.std.specs.Prelude.{if◌then◌else◌}
+use Rattle.std.specs.Str.{IsUtf8}
+use Rattle.shx_term.specs.declared.fault_codes.TheConstants.{UNKNOWN_PREFIX, BAD_IRI, FLOAT_LITERAL, WIDE_VALUE}
+use Rattle.shx_term.specs.declared.fault_codes.TheConstants.{LINE_PREFIX, LINE_IRI, LINE_FLOAT, LINE_WIDE}
+use Rattle.shx_term.specs.declared.fault_codes.TheConstants.{LINE_TOO_LONG, LINE_NOT_UTF8, LINE_SYNTAX}
+use Rattle.shx_term.specs.declared.limits.Limits.{Limits}
+use Rattle.shx_term.specs.declared.term.Term.{Term}
+use Rattle.shx_term.specs.declared.triple.TermTriple.{TermTriple}
+use Rattle.shx_term.specs.ValidTriples.{IsValidTermTriple}
+use Rattle.shx_term.specs.Vocabulary.{rdf}
+use Rattle.ttl_tokens.specs.declared.token.Token.{Token}
+use Rattle.ttl_tokens.specs.declared.token.TokenKind.TheVariants.{WordA}
+use Rattle.ttl_meaning.specs.declared.document.Document.{Document}
+use Rattle.ttl_read.specs.ReadTerm.{Found, A, No, IsFound}
+use Rattle.script_lines.specs.declared.command.Command.{Command}
+use Rattle.script_lines.specs.declared.command.Command.TheVariants.{Insert, Remove, Report, Count, Nothing}
+use Rattle.script_lines.specs.declared.fault.LineFault.{LineFault}
+use Rattle.script_lines.specs.declared.fault.LineFault.TheVariants.{Line}
+use Rattle.script_lines.specs.declared.form.Form.{Form}
+use Rattle.script_lines.specs.declared.form.Form.TheVariants as form
+use Rattle.script_lines.specs.declared.form.Terms.{Terms}
+use Rattle.script_lines.specs.Forms.{HasForm}
+
+-- ---- terms
+
+-- the code of a term's fault, in a line
+abbrev pub line_code : ℕ → ℕ
+line_code code =
+    if code == UNKNOWN_PREFIX then LINE_PREFIX
+    else (if code == BAD_IRI then LINE_IRI
+    else (if code == FLOAT_LITERAL then LINE_FLOAT
+    else (if code == WIDE_VALUE then LINE_WIDE
+    else code)))
+
+-- the word `a` is rdf:type
+abbrev pub IsPredicateFound : List ℕ → Token → Document → Found → Type 0
+IsPredicateFound line token document answer =
+    ((token.kind ≡ WordA) × (answer ≡ A (rdf (codes "type")) token.end))
+    ⊎ ((token.kind ≢ WordA) × IsFound line token document answer)
+
+-- the fault of a term, in a line
+abbrev pub term_fault : ℕ → ℕ → LineFault
+term_fault code at = Line (line_code code) (Some at)
+
+-- the triple of three terms, or the first fault among them
+pub data IsTripleRead (line : List ℕ) (document : Document) (terms : Terms)
+    (triple : Result TermTriple LineFault) : Type 0 where
+  BadSubject : (code at : ℕ) → IsFound line terms.subject document (No code at)
+      → triple ≡ Err (term_fault code at) → IsTripleRead line document terms triple
+  BadPredicate : (s : Term) (s_end : ℕ) → IsFound line terms.subject document (A s s_end)
+      → (code at : ℕ) → IsPredicateFound line terms.predicate document (No code at)
+      → triple ≡ Err (term_fault code at) → IsTripleRead line document terms triple
+  BadObject : (s p : Term) (s_end p_end : ℕ) → IsFound line terms.subject document (A s s_end)
+      → IsPredicateFound line terms.predicate document (A p p_end)
+      → (code at : ℕ) → IsFound line terms.object document (No code at)
+      → triple ≡ Err (term_fault code at) → IsTripleRead line document terms triple
+  ATriple : (s p o : Term) (s_end p_end o_end : ℕ) → IsFound line terms.subject document (A s s_end)
+      → IsPredicateFound line terms.predicate document (A p p_end)
+      → IsFound line terms.object document (A o o_end)
+      → triple ≡ Ok (record { s = s; p = p; o = o }) → IsTripleRead line document terms triple
+
+-- ---- lines
+
+-- the command over a triple, or the triple's fault
+abbrev pub command_by : (TermTriple → Command) → Result TermTriple LineFault → Result Command LineFault
+command_by command (Ok triple) = Ok (command triple)
+command_by command (Err fault) = Err fault
+
+-- a line of this form asks for this
+abbrev pub IsAsked : List ℕ → Document → Form → Result Command LineFault → Type 0
+IsAsked line document form.Blank reading = reading ≡ Ok Nothing
+IsAsked line document form.Report reading = reading ≡ Ok Report
+IsAsked line document form.Count reading = reading ≡ Ok Count
+IsAsked line document (form.Insert terms) reading =
+    (triple : Result TermTriple LineFault) × IsTripleRead line document terms triple
+    × (reading ≡ command_by Insert triple)
+IsAsked line document (form.Remove terms) reading =
+    (triple : Result TermTriple LineFault) × IsTripleRead line document terms triple
+    × (reading ≡ command_by Remove triple)
+
+-- a line is read so: the first of these that holds
+pub data IsLineRead (limits : Limits) (document : Document) (line : List ℕ)
+    (reading : Result Command LineFault) : Type 0 where
+  TooLong : limits.line < length line → reading ≡ Err (Line LINE_TOO_LONG None)
+      → IsLineRead limits document line reading
+  NotUtf8 : length line ≤ limits.line → (IsUtf8 line → ⊥) → reading ≡ Err (Line LINE_NOT_UTF8 None)
+      → IsLineRead limits document line reading
+  NoForm : length line ≤ limits.line → IsUtf8 line → ((form : Form) → HasForm line form → ⊥)
+      → reading ≡ Err (Line LINE_SYNTAX None) → IsLineRead limits document line reading
+  AForm : length line ≤ limits.line → IsUtf8 line → (form : Form) → HasForm line form
+      → IsAsked line document form reading → IsLineRead limits document line reading
+
+-- what a command inserts or removes is a valid triple
+abbrev pub IsValidCommand : Command → Type 0
+IsValidCommand (Insert triple) = IsValidTermTriple triple
+IsValidCommand (Remove triple) = IsValidTermTriple triple
+IsValidCommand Report = Unit {0}
+IsValidCommand Count = Unit {0}
+IsValidCommand Nothing = Unit {0}

@@ -1,0 +1,28 @@
+//! The lines of a script of edits, behind a data text: what each asks for, or the fault that it has.
+//!
+//! | file | what it holds |
+//! |---|---|
+//! | `line.rt` | `read_line`: the command of a line |
+//! | `command.rt` | `Command`: what a line asks for |
+//! | `fault.rt` | `LineFault`: why a line is no command |
+//! | `form.rt` | the form of a line, by its tokens |
+//! | `word.rt` | the word with which a line begins |
+//! | `term.rt` | the terms of a line |
+//! | `laws.rt` | that a line has one reading |
+//!
+//! It stands on `ttl_tokens` for the tokens of a line and on `ttl_read` for its terms. Start with `line.rt`;
+//! `specs/Forms.antt` says which forms a line may have, and `specs/Lines.antt` what it then asks for.
+#![tactic(auto)]
+
+mod command;
+mod fault;
+mod form;
+mod laws;
+mod line;
+mod term;
+mod word;
+
+pub use command::Command;
+pub use fault::LineFault;
+pub use laws::a_line_has_one_reading;
+pub use line::read_line;

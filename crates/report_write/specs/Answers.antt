@@ -1,5 +1,5 @@
 -- The texts of answers. Each ends with a line feed. Terms are told by number, and written by their spelling.
-use Rattle.std.specs.Prelude.{ℕ, List, ◌++◌, codes, decimal}
+use Rattle.std.specs.Prelude.{ℕ, List, [], ◌++◌, codes, decimal}
 use Rattle.shx_outside.specs.declared.role.Role.{Role}
 use Rattle.shx_outside.specs.declared.role.Role.TheVariants.{Shapes, Data, Script}
 use Rattle.shx_term.specs.declared.term.Term.{Term}
@@ -7,7 +7,9 @@ use Rattle.shx_term.specs.declared.fault_codes.TheConstants.{NOT_BUILT, SCRIPT_T
 use Rattle.report_write.specs.declared.answer.Answer.{Answer}
 use Rattle.report_write.specs.declared.answer.Answer.TheVariants.{Changed, Unchanged, RefusedLine}
 use Rattle.report_write.specs.declared.answer.Answer.TheVariants.{TextFault, TooLong, NotBuilt, Usage}
-use Rattle.report_write.specs.declared.answer.Answer.TheVariants.{Notice, Rule, OfShape}
+use Rattle.report_write.specs.declared.answer.Answer.TheVariants.{Notice, Rule, OfShape, Count, RefusedAt}
+use Rattle.text_output.specs.declared.format.Format.{Format}
+use Rattle.text_output.specs.declared.format.Format.TheVariants.{Lines, Turtle}
 use Rattle.report_write.specs.FaultNames.{code_word, role_name}
 use Rattle.text_output.specs.TermTexts.{number_text}
 
@@ -32,19 +34,37 @@ shape_fault_head terms code shape = fault_head Shapes code ++ codes " shape " ++
 abbrev pub usage_text : List ℕ
 usage_text = codes "usage: shacl_keep [--format lines|turtle] [--base IRI] SHAPES DATA [SCRIPT]\n"
 
-abbrev pub answer_text : List Term → Answer → List ℕ
-answer_text terms Changed = codes "ok changed\n"
-answer_text terms Unchanged = codes "ok unchanged\n"
-answer_text terms (RefusedLine line code) =
-    codes "refused line " ++ decimal line ++ codes ": " ++ code_text code ++ codes "\n"
-answer_text terms (TextFault role code at) =
+-- how the refusal of a line begins
+abbrev pub refusal_head : ℕ → ℕ → List ℕ
+refusal_head line code = codes "refused line " ++ decimal line ++ codes ": " ++ code_text code
+
+-- an answer as a line
+abbrev pub line_text : List Term → Answer → List ℕ
+line_text terms Changed = codes "ok changed\n"
+line_text terms Unchanged = codes "ok unchanged\n"
+line_text terms (Count triples pairs results) =
+    codes "count triples=" ++ decimal triples ++ codes " pairs=" ++ decimal pairs
+    ++ codes " results=" ++ decimal results ++ codes "\n"
+line_text terms (RefusedLine line code) = refusal_head line code ++ codes "\n"
+line_text terms (RefusedAt line code at) =
+    refusal_head line code ++ codes " at " ++ decimal at ++ codes "\n"
+line_text terms (TextFault role code at) =
     fault_head role code ++ codes " at " ++ decimal at ++ codes "\n"
-answer_text terms (TooLong role) = fault_head role (code_of_length role) ++ codes "\n"
-answer_text terms (NotBuilt role) = fault_head role NOT_BUILT ++ codes "\n"
-answer_text terms (Rule code shape predicate term) =
+line_text terms (TooLong role) = fault_head role (code_of_length role) ++ codes "\n"
+line_text terms (NotBuilt role) = fault_head role NOT_BUILT ++ codes "\n"
+line_text terms (Rule code shape predicate term) =
     shape_fault_head terms code shape ++ codes " predicate " ++ number_text terms predicate
     ++ codes " term " ++ number_text terms term ++ codes "\n"
-answer_text terms (OfShape code shape) = shape_fault_head terms code shape ++ codes "\n"
-answer_text terms (Notice count) =
+line_text terms (OfShape code shape) = shape_fault_head terms code shape ++ codes "\n"
+line_text terms (Notice count) =
     codes "notice: " ++ decimal count ++ codes " sh:sparql triples ignored\n"
-answer_text terms Usage = usage_text
+line_text terms Usage = usage_text
+
+-- what stands before it: in Turtle an answer is a comment, but for the usage
+abbrev pub line_start : Format → Answer → List ℕ
+line_start Lines answer = []
+line_start Turtle Usage = []
+line_start Turtle answer = codes "# "
+
+abbrev pub answer_text : Format → List Term → Answer → List ℕ
+answer_text format terms answer = line_start format answer ++ line_text terms answer

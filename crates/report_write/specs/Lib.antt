@@ -1,6 +1,10 @@
 pub mod Answers
 pub mod FaultNames
-pub mod PathLines
-pub mod ReportLines
+pub mod PathForms
+pub mod PathTexts
+pub mod ReportTexts
+pub mod ResultBlocks
+pub mod ResultLines
 pub mod ResultNames
+pub mod ResultPaths
 pub mod inner

@@ -1,6 +1,6 @@
 ghost use Rattle.std.specs.Prelude.{◌≡◌, ◌++◌, codes, decimal};
-ghost use Rattle.report_write.specs.Answers.{answer_text, code_of_length, code_text, fault_head};
-ghost use Rattle.report_write.specs.Answers.{shape_fault_head};
+ghost use Rattle.report_write.specs.Answers.{answer_text, code_of_length, code_text, fault_head, line_start};
+ghost use Rattle.report_write.specs.Answers.{line_text, refusal_head, shape_fault_head};
 ghost use Rattle.text_output.specs.TermTexts.{number_text};
 ghost use Rattle.text_output.specs.Writes.{Writes};
 
@@ -8,16 +8,31 @@ use crate::fault_names::{code_word, role_name};
 use shx_outside::{Role, Sink};
 use shx_term::fault_codes::{NOT_BUILT, SCRIPT_TOO_LONG, TEXT_TOO_LONG};
 use shx_term::{Id, Pieces, Pool};
-use text_output::{WriteFault, Writer, add_number, add_term};
+use text_output::{Format, WriteFault, Writer, add_number, add_term};
 
 /// What is said to a line of a script, before a report, or in its place. Terms are told by their numbers.
 #[derive(Clone, Copy, Debug, PartialEq, Eq)]
 pub enum Answer {
     Changed,
     Unchanged,
+    Count {
+        /// Of the graph.
+        triples: u64,
+        /// A shape that is evaluated by itself, with one of its focus nodes, is a pair.
+        pairs: u64,
+        /// Of the report.
+        results: u64,
+    },
+    /// A line is refused. Lines are counted from 1.
     RefusedLine {
         line: u64,
         code: u32,
+    },
+    RefusedAt {
+        line: u64,
+        code: u32,
+        /// The byte of the line at which the fault stands, from 0.
+        at: u64,
     },
     /// A text has a fault of Turtle.
     TextFault {
@@ -57,22 +72,55 @@ const USAGE: &[u8] =
     b"usage: shacl_keep [--format lines|turtle] [--base IRI] SHAPES DATA [SCRIPT]\n";
 
 /// Puts an answer whole. It takes no memory, and time linear in the text.
-pub fn write_answer<O: Sink>(answer: &Answer, pool: &Pool, out: &mut O) -> Result<(), WriteFault>
-    ensures { Writes (O.state out.old) (O.state out.new) (answer_text pool.now.terms answer.now) result }
+///
+/// # Errors
+///
+/// The sink failed, and a proper front of the text was put.
+pub fn write_answer<O: Sink>(
+    answer: &Answer,
+    pool: &Pool,
+    format: Format,
+    out: &mut O,
+) -> Result<(), WriteFault>
+    ensures { Writes (O.state out.old) (O.state out.new)
+        (answer_text format pool.now.terms answer.now) result }
 {
     let mut writer = Writer::new(out);
-    add_answer(answer, pool, &mut writer);
+    add_answer(answer, pool, format, &mut writer);
     writer.finish()
 }
 
-/// Adds an answer.
-pub fn add_answer<W: Pieces>(answer: &Answer, pool: &Pool, out: &mut W)
-    ensures { W.added out.old out.new (answer_text pool.now.terms answer.now) }
+/// Adds an answer: in Turtle as a comment, but for the usage.
+pub fn add_answer<W: Pieces>(answer: &Answer, pool: &Pool, format: Format, out: &mut W)
+    ensures { W.added out.old out.new (answer_text format pool.now.terms answer.now) }
+{
+    out.add(line_start(format, answer).as_bytes());
+    add_line(answer, pool, out);
+}
+
+// What stands before an answer in its line.
+fn line_start(format: Format, answer: &Answer) -> &'static str
+    ensures { result.now ≡ line_start format answer.now }
+{
+    match (format, answer) {
+        (Format::Lines, _) | (Format::Turtle, Answer::Usage) => "",
+        (Format::Turtle, _) => "# ",
+    }
+}
+
+fn add_line<W: Pieces>(answer: &Answer, pool: &Pool, out: &mut W)
+    ensures { W.added out.old out.new (line_text pool.now.terms answer.now) }
 {
     match answer {
         Answer::Changed => out.add(b"ok changed\n"),
         Answer::Unchanged => out.add(b"ok unchanged\n"),
+        Answer::Count {
+            triples,
+            pairs,
+            results,
+        } => add_count(*triples, *pairs, *results, out),
         Answer::RefusedLine { line, code } => add_refusal(*line, *code, out),
+        Answer::RefusedAt { line, code, at } => add_refusal_at(*line, *code, *at, out),
         Answer::TextFault { role, code, at } => add_text_fault(*role, *code, *at, out),
         Answer::TooLong { role } => add_fault(*role, code_of_length(*role), out),
         Answer::NotBuilt { role } => add_fault(*role, NOT_BUILT, out),
@@ -88,15 +136,42 @@ pub fn add_answer<W: Pieces>(answer: &Answer, pool: &Pool, out: &mut W)
     }
 }
 
+fn add_count<W: Pieces>(triples: u64, pairs: u64, results: u64, out: &mut W)
+    ensures { W.added out.old out.new (codes "count triples=" ++ decimal triples ++ codes " pairs="
+        ++ decimal pairs ++ codes " results=" ++ decimal results ++ codes "\n") }
+{
+    out.add(b"count triples=");
+    add_number(triples, out);
+    out.add(b" pairs=");
+    add_number(pairs, out);
+    out.add(b" results=");
+    add_number(results, out);
+    out.add(b"\n");
+}
+
 fn add_refusal<W: Pieces>(line: u64, code: u32, out: &mut W)
-    ensures { W.added out.old out.new
-        (codes "refused line " ++ decimal line ++ codes ": " ++ code_text code ++ codes "\n") }
+    ensures { W.added out.old out.new (refusal_head line code ++ codes "\n") }
+{
+    add_refusal_head(line, code, out);
+    out.add(b"\n");
+}
+
+fn add_refusal_at<W: Pieces>(line: u64, code: u32, at: u64, out: &mut W)
+    ensures { W.added out.old out.new (refusal_head line code ++ codes " at " ++ decimal at ++ codes "\n") }
+{
+    add_refusal_head(line, code, out);
+    out.add(b" at ");
+    add_number(at, out);
+    out.add(b"\n");
+}
+
+fn add_refusal_head<W: Pieces>(line: u64, code: u32, out: &mut W)
+    ensures { W.added out.old out.new (refusal_head line code) }
 {
     out.add(b"refused line ");
     add_number(line, out);
     out.add(b": ");
     add_code(code, out);
-    out.add(b"\n");
 }
 
 fn add_text_fault<W: Pieces>(role: Role, code: u32, at: u64, out: &mut W)

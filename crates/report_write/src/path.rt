@@ -1,52 +1,54 @@
 ghost use Rattle.std.specs.Prelude.{◌≡◌, ◌++◌, [], map};
 ghost use Rattle.path_eval.specs.Route.{route_of};
-ghost use Rattle.report_write.specs.PathLines.{path_text};
-ghost use Rattle.report_write.specs.inner.Parts.{in_brackets, path_texts};
+ghost use Rattle.report_write.specs.PathForms.{between};
+ghost use Rattle.report_write.specs.PathTexts.{enclosed, path_text};
+ghost use Rattle.report_write.specs.inner.Parts.{joined, path_texts};
 
+use crate::form::{Form, between, closing, opening};
 use path_eval::Path;
 use shx_term::{Pieces, Pool};
-use text_output::add_term;
+use text_output::{Format, add_term};
 
-/// Adds a path: an IRI as its spelling, and what is made of paths in brackets. It recurses as deep as the
-/// path nests, and takes no memory.
+/// Adds a path: an IRI as its spelling, and what is made of paths between the marks of its form. It recurses
+/// as deep as the path nests, and takes no memory.
 #[cycle(path)]
-pub fn add_path<W: Pieces>(path: &Path, pool: &Pool, out: &mut W)
-    ensures { W.added out.old out.new (path_text pool.now.terms (route_of path.now)) }
+pub fn add_path<W: Pieces>(path: &Path, format: Format, pool: &Pool, out: &mut W)
+    ensures { W.added out.old out.new (path_text format pool.now.terms (route_of path.now)) }
 {
     match path {
         Path::Pred(p) => add_term(*p, pool, out),
-        Path::Seq(parts) => add_parts(parts, b"/", pool, out),
-        Path::Alt(members) => add_parts(members, b"|", pool, out),
-        Path::Inverse(inner) => add_marked(b"(^", inner, b")", pool, out),
-        Path::ZeroOrMore(inner) => add_marked(b"(", inner, b"*)", pool, out),
-        Path::OneOrMore(inner) => add_marked(b"(", inner, b"+)", pool, out),
-        Path::ZeroOrOne(inner) => add_marked(b"(", inner, b"?)", pool, out),
+        Path::Seq(parts) => add_parts(Form::Sequence, parts, format, pool, out),
+        Path::Alt(members) => add_parts(Form::Alternative, members, format, pool, out),
+        Path::Inverse(inner) => add_inner(Form::Inverse, inner, format, pool, out),
+        Path::ZeroOrMore(inner) => add_inner(Form::ZeroOrMore, inner, format, pool, out),
+        Path::OneOrMore(inner) => add_inner(Form::OneOrMore, inner, format, pool, out),
+        Path::ZeroOrOne(inner) => add_inner(Form::ZeroOrOne, inner, format, pool, out),
     }
 }
 
-// One path between two texts.
+// A path of one part.
 #[cycle(path)]
-fn add_marked<W: Pieces>(front: &[u8], inner: &Path, back: &[u8], pool: &Pool, out: &mut W)
+fn add_inner<W: Pieces>(form: Form, inner: &Path, format: Format, pool: &Pool, out: &mut W)
     ensures { W.added out.old out.new
-        (front.now ++ path_text pool.now.terms (route_of inner.now) ++ back.now) }
+        (enclosed format form (path_text format pool.now.terms (route_of inner.now))) }
 {
-    out.add(front);
-    add_path(inner, pool, out);
-    out.add(back);
+    out.add(opening(format, form).as_bytes());
+    add_path(inner, format, pool, out);
+    out.add(closing(format, form).as_bytes());
 }
 
-// Some paths in brackets, with a mark between each two.
+// A path of any number of parts.
 #[cycle(path)]
-fn add_parts<W: Pieces>(parts: &[Path], mark: &[u8], pool: &Pool, out: &mut W)
+fn add_parts<W: Pieces>(form: Form, parts: &[Path], format: Format, pool: &Pool, out: &mut W)
     ensures { W.added out.old out.new
-        (in_brackets mark.now (path_texts pool.now.terms parts.now)) }
+        (enclosed format form (joined (between format form) (path_texts format pool.now.terms parts.now))) }
 {
-    out.add(b"(");
-    let mut between: &[u8] = b"";
+    out.add(opening(format, form).as_bytes());
+    let mut before: &[u8] = b"";
     for part in parts {
-        out.add(between);
-        add_path(part, pool, out);
-        between = mark;
+        out.add(before);
+        add_path(part, format, pool, out);
+        before = between(format, form).as_bytes();
     }
-    out.add(b")");
+    out.add(closing(format, form).as_bytes());
 }

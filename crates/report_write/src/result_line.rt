@@ -1,29 +1,21 @@
 //! The lines of one result: what was found, and the messages of its source shape.
-ghost use Rattle.std.specs.Prelude.{flat_map, slice_get};
-ghost use Rattle.shape_eval.specs.Planned.{plan_of};
-ghost use Rattle.report_write.specs.ReportLines.{message_text, result_path_text, result_text, row_text};
-ghost use Rattle.report_write.specs.ReportLines.{shape_path_text, source_text};
+ghost use Rattle.std.specs.Prelude.{codes, flat_map};
+ghost use Rattle.std.specs.Option.{unwrap_or};
+ghost use Rattle.text_output.specs.declared.format.Format.TheVariants.{Lines};
+ghost use Rattle.report_write.specs.ResultLines.{lines_text, message_text, source_text};
+ghost use Rattle.report_write.specs.ResultPaths.{result_path_text};
 
 use crate::path::add_path;
 use crate::result_names::{add_severity, component_name};
 use comp_core::ResultRow;
 use path_eval::Path;
-use shape_eval::{Plan, PlanShape};
+use shape_eval::PlanShape;
 use shx_term::{Id, Pieces, Pool};
-use text_output::{add_optional, add_term};
+use text_output::{Format, add_optional, add_term};
 
 /// Adds the lines of a result.
-pub(crate) fn add_row<W: Pieces>(row: &ResultRow, plan: &Plan, pool: &Pool, out: &mut W)
-    ensures { W.added out.old out.new (row_text pool.now.terms (plan_of plan.now).shapes row.now) }
-{
-    if row.shape >= plan.len() {
-        return;
-    }
-    add_result(row, plan.shape(row.shape), pool, out);
-}
-
-fn add_result<W: Pieces>(row: &ResultRow, shape: &PlanShape, pool: &Pool, out: &mut W)
-    ensures { W.added out.old out.new (result_text pool.now.terms row.now shape.now) }
+pub(crate) fn add_lines<W: Pieces>(row: &ResultRow, shape: &PlanShape, pool: &Pool, out: &mut W)
+    ensures { W.added out.old out.new (lines_text pool.now.terms row.now shape.now) }
 {
     add_source(row, shape, pool, out);
     out.add(b" ");
@@ -48,21 +40,15 @@ fn add_source<W: Pieces>(row: &ResultRow, shape: &PlanShape, pool: &Pool, out: &
     add_term(row.focus, pool, out);
 }
 
+// The path of a result, or `-` where there is none.
 fn add_result_path<W: Pieces>(predicate: Option<Id>, path: &Option<Path>, pool: &Pool, out: &mut W)
-    ensures { W.added out.old out.new (result_path_text pool.now.terms predicate path.now) }
+    ensures { W.added out.old out.new
+        (unwrap_or (result_path_text Lines pool.now.terms predicate path.now) (codes "-")) }
 {
-    match predicate {
-        Some(predicate) => add_term(predicate, pool, out),
-        None => add_shape_path(path, pool, out),
-    }
-}
-
-fn add_shape_path<W: Pieces>(path: &Option<Path>, pool: &Pool, out: &mut W)
-    ensures { W.added out.old out.new (shape_path_text pool.now.terms path.now) }
-{
-    match path {
-        Some(path) => add_path(path, pool, out),
-        None => out.add(b"-"),
+    match (predicate, path) {
+        (Some(predicate), _) => add_term(predicate, pool, out),
+        (None, Some(path)) => add_path(path, Format::Lines, pool, out),
+        (None, None) => out.add(b"-"),
     }
 }
 

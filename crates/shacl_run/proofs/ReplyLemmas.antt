@@ -11,7 +11,8 @@ use Rattle.shape_eval.specs.Planned.{plan_of}
 use Rattle.shape_eval.specs.Report.{report}
 use Rattle.report_write.specs.declared.answer.Answer.{Answer}
 use Rattle.report_write.specs.Answers.{answer_text}
-use Rattle.report_write.specs.ReportLines.{report_text}
+use Rattle.text_output.specs.declared.format.Format.TheVariants.{Lines}
+use Rattle.report_write.specs.ReportTexts.{report_text}
 use Rattle.shacl_run.specs.declared.edit.Edited.{Edited}
 use Rattle.shacl_run.specs.declared.reply.Reply.TheVariants.{Answers}
 use Rattle.shacl_run.specs.declared.validation.Validation.{Validation}
@@ -62,14 +63,14 @@ module _ (limits : Limits) (s : ScriptState) (validation : Validation)
       (record validation { line = validation.line + 1 })
   Replies-answers answer = record {
     text = append-nil (said_text s (answers answer))
-        ∙ ap (λ (terms : List Term). answer_text terms answer) is.stores.terms;
+        ∙ ap (λ (terms : List Term). answer_text Lines terms answer) is.stores.terms;
     stored = IsValidation-answered (answers answer);
   }
 
   -- or the report
   pub reported : (rows : List ResultRow) → rows ≡ report s.plan s.graph
       → step_text (answered s reports s.graph)
-      ≡ report_text validation.graph.pool.terms (plan_of validation.plan).shapes rows
+      ≡ report_text Lines validation.graph.pool.terms (plan_of validation.plan).shapes rows
   reported rows same =
       append-nil (said_text s reports) ∙ text-validation limits s validation is rows same
 

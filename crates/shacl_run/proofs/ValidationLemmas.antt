@@ -26,7 +26,8 @@ use Rattle.shape_eval.specs.Laws.{ResultsDependOnReads, TargetsDependOnReads}
 use Rattle.shape_eval.specs.Plan.{IsKnownPlan, Planned, RefersLower}
 use Rattle.shape_eval.specs.Planned.{plan_of}
 use Rattle.shape_eval.specs.Report.{report}
-use Rattle.report_write.specs.ReportLines.{report_text}
+use Rattle.text_output.specs.declared.format.Format.TheVariants.{Lines}
+use Rattle.report_write.specs.ReportTexts.{report_text}
 use Rattle.shx_term.specs.Members.{SameMembers}
 use Rattle.graph_view.specs.SameGraph.{SameGraph}
 use Rattle.shx_term.proofs.SetLemmas.{SameMembers-sym}
@@ -119,9 +120,9 @@ module _ (limits : Limits) (s : ScriptState) (validation : Validation)
 
   -- and their text is what is said of the state
   pub text-validation : (rows : List ResultRow) → rows ≡ report s.plan s.graph
-      → said_text s reports ≡ report_text validation.graph.pool.terms (plan_of validation.plan).shapes rows
+      → said_text s reports ≡ report_text Lines validation.graph.pool.terms (plan_of validation.plan).shapes rows
   text-validation rows same =
-      sym (λ i. report_text (sym is.stores.terms i) (is.plan_is i).shapes (same i))
+      sym (λ i. report_text Lines (sym is.stores.terms i) (is.plan_is i).shapes (same i))
 
   -- what comes of an insertion into what is stored is what comes of one into the state
   pub edited-validation : (outcome : Edited) (t : TermTriple)

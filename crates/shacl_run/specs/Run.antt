@@ -18,6 +18,7 @@ use Rattle.report_write.specs.declared.answer.Answer.{Answer}
 use Rattle.report_write.specs.declared.answer.Answer.TheVariants.{TextFault, TooLong, NotBuilt, Notice}
 use Rattle.report_write.specs.declared.answer.Answer.TheVariants.{Usage}
 use Rattle.report_write.specs.Answers.{answer_text}
+use Rattle.text_output.specs.declared.format.Format.TheVariants.{Lines}
 use Rattle.shacl_run.specs.declared.status.Status.{Status}
 use Rattle.shacl_run.specs.declared.status.Status.TheVariants.{Conforms, Violates, BadWords, Refused}
 use Rattle.shacl_run.specs.declared.status.Status.TheVariants.{LinesRefused}
@@ -35,7 +36,7 @@ pub record Output : Type 0 where
 
 -- an output that is one answer
 abbrev pub answer_output : List Term → Answer → Status → Output
-answer_output terms answer status = record { text = answer_text terms answer; status = status }
+answer_output terms answer status = record { text = answer_text Lines terms answer; status = status }
 
 -- a text is refused, with this answer, whose terms are these
 abbrev pub refused : List Term → Answer → Output
@@ -66,7 +67,7 @@ output_from limits s budget left =
 
 -- the notice that so many triples were passed over: nothing where there are none
 abbrev pub notice_text : ℕ → List ℕ
-notice_text count = if count == 0 then [] else answer_text [] (Notice count)
+notice_text count = if count == 0 then [] else answer_text Lines [] (Notice count)
 
 -- a notice, the report of a state, and then the answers to a script
 abbrev pub validation_output : Limits → ℕ → ScriptState → List ℕ → Output

@@ -17,7 +17,8 @@ use Rattle.shacl_run.specs.declared.edit.Edited.{Edited}
 use Rattle.shacl_run.specs.declared.edit.Edited.TheVariants.{Changed, Unchanged, Refused}
 use Rattle.shacl_run.specs.Edits.{edited, graph_after}
 use Rattle.shape_eval.specs.Report.{report}
-use Rattle.report_write.specs.ReportLines.{report_text}
+use Rattle.text_output.specs.declared.format.Format.TheVariants.{Lines}
+use Rattle.report_write.specs.ReportTexts.{report_text}
 use Rattle.shacl_run.specs.ScriptState.{ScriptState}
 
 -- what is said: an answer, or the report of the graph
@@ -26,8 +27,8 @@ pub data Said : Type 0 where
   reports : Said
 
 abbrev pub said_text : ScriptState → Said → List ℕ
-said_text s (answers answer) = answer_text s.graph.terms answer
-said_text s reports = report_text s.graph.terms s.plan.shapes (report s.plan s.graph)
+said_text s (answers answer) = answer_text Lines s.graph.terms answer
+said_text s reports = report_text Lines s.graph.terms s.plan.shapes (report s.plan s.graph)
 
 -- what is said to a line, and where the script then stands
 pub record Step : Type 0 where

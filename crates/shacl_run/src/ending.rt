@@ -11,6 +11,7 @@ use comp_core::ResultRow;
 use report_write::{Answer, write_answer};
 use shx_outside::Sink;
 use shx_term::Pool;
+use text_output::Format;
 
 /// Writes the answer by which a text is refused, with which the run ends.
 pub fn refuse<O: Sink>(answer: &Answer, pool: &Pool, out: &mut O) -> Result<Status, Stop>
@@ -19,7 +20,7 @@ pub fn refuse<O: Sink>(answer: &Answer, pool: &Pool, out: &mut O) -> Result<Stat
     ensures unreported { IsReported (end_status result) → ⊥ }
     ensures output { end_status result ≡ Status.InputFault → ⊥ }
 {
-    write_answer(answer, pool, out)?;
+    write_answer(answer, pool, Format::Lines, out)?;
     Ok(Status::Refused)
 }
 

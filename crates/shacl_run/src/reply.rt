@@ -22,7 +22,7 @@ use shx_term::fault_codes::NOT_BUILT;
 use shx_term::{Limits, Memory, Steps, TermTriple};
 use std::alloc::{AllocError, Global};
 use std::sync::ledger::Ledger;
-use text_output::WriteFault;
+use text_output::{Format, WriteFault};
 
 /// What is said to a line.
 pub enum Reply {
@@ -143,7 +143,16 @@ pub fn write_reply<O: Sink>(
         (reply_text validation.now.graph.pool.terms (plan_of validation.now.plan).shapes reply.now) result }
 {
     match reply {
-        Reply::Answers(answer) => write_answer(answer, validation.graph.pool(), out),
-        Reply::Report(rows) => write_report(rows, &validation.plan, validation.graph.pool(), out),
+        Reply::Answers(answer) => {
+            write_answer(answer, validation.graph.pool(), Format::Lines, out)
+        }
+        Reply::Report(rows) => write_report(
+            rows.iter(),
+            rows.len() as u64,
+            &validation.plan,
+            validation.graph.pool(),
+            Format::Lines,
+            out,
+        ),
     }
 }

@@ -7,7 +7,8 @@ ghost use Rattle.shx_term.specs.declared.limits.Limits.{Limits as LimitsOf};
 ghost use Rattle.text_input.specs.TextRead.{TakesWithin};
 ghost use Rattle.shacl_run.specs.declared.status.Status.TheVariants.{InputFault};
 ghost use Rattle.shacl_run.specs.inner.Ends.{Ends};
-ghost use Rattle.report_write.specs.ReportLines.{report_text};
+ghost use Rattle.text_output.specs.declared.format.Format.TheVariants.{Lines};
+ghost use Rattle.report_write.specs.ReportTexts.{report_text};
 ghost use Rattle.shape_eval.specs.Planned.{plan_of};
 ghost use Rattle.text_output.specs.Writes.{Writes};
 ghost use Rattle.shacl_run.specs.Run.{notice_text, opening_fed, script_text, validation_output};
@@ -28,12 +29,13 @@ use crate::stop::Stop;
 use crate::validation::Validation;
 use comp_core::ResultRow;
 use graph_view::GraphView;
-use report_write::{Answer, add_answer, add_report};
+use report_write::{Answer, add_answer, add_head, add_rows, add_tail};
+use shape_eval::Plan;
 use shx_outside::{Inputs, Role, Sink};
 use shx_term::{Limits, Pieces, Pool, Steps};
 use std::alloc::Global;
 use std::sync::ledger::Ledger;
-use text_output::{WriteFault, Writer};
+use text_output::{Format, WriteFault, Writer};
 
 /// Writes the report, and then answers the script where the words name one.
 pub fn run_validation<I: Inputs, O: Sink, L: Ledger>(
@@ -96,13 +98,22 @@ fn write_first<O: Sink>(
     out: &mut O,
 ) -> Result<(), WriteFault>
     ensures { Writes (O.state out.old) (O.state out.new) (notice_text validation.now.passed_over
-        ++ report_text validation.now.graph.pool.terms (plan_of validation.now.plan).shapes rows.now) result }
+        ++ report_text Lines validation.now.graph.pool.terms (plan_of validation.now.plan).shapes rows.now) result }
 {
     let pool = validation.graph.pool();
     let mut writer = Writer::new(out);
     add_notice(validation.passed_over, pool, &mut writer);
     add_report(rows, &validation.plan, pool, &mut writer);
     writer.finish()
+}
+
+fn add_report<W: Pieces>(rows: &[ResultRow], plan: &Plan, pool: &Pool, out: &mut W)
+    ensures { W.added out.old out.new
+        (report_text Lines pool.now.terms (plan_of plan.now).shapes rows.now) }
+{
+    add_head(rows.len() as u64, Format::Lines, out);
+    add_rows(rows.iter(), plan, pool, Format::Lines, out);
+    add_tail(Format::Lines, out);
 }
 
 // Adds that so many triples were passed over, where there are any.
@@ -112,5 +123,5 @@ fn add_notice<W: Pieces>(count: u64, pool: &Pool, out: &mut W)
     if count == 0 {
         return;
     }
-    add_answer(&Answer::Notice { count }, pool, out);
+    add_answer(&Answer::Notice { count }, pool, Format::Lines, out);
 }

@@ -29,6 +29,7 @@ use shx_outside::{Inputs, PatternHost, Sink};
 use shx_term::{Limits, Pool, Steps, Text};
 use std::alloc::Global;
 use std::sync::ledger::Ledger;
+use text_output::Format;
 
 /// Runs the validator: reads the texts that the words name, writes the report of the data, or the usage, or
 /// the fault of a text, and then answers a script line by line. `steps` counts the evaluations of shapes at
@@ -102,7 +103,7 @@ fn refuse_words<O: Sink>(pool: &Pool, out: &mut O) -> Result<Status, Stop>
     ensures accepted { end_status result ≡ Refused → ⊥ }
     ensures output { end_status result ≡ InputFault → ⊥ }
 {
-    write_answer(&Answer::Usage, pool, out)?;
+    write_answer(&Answer::Usage, pool, Format::Lines, out)?;
     Ok(Status::BadWords)
 }
 

@@ -1,5 +1,5 @@
 use Rattle.std.proofs.Common.{flat_map, take}
-use Rattle.report_write.specs.ReportLines.{message_text}
+use Rattle.report_write.specs.ResultLines.{message_text}
 use Rattle.report_write.proofs.result_line.add_messages.Given as goal
 
 abbrev pub invariant-loop-message : goal.invariant-loop-message

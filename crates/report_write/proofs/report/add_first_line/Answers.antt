@@ -1,7 +1,7 @@
 use Rattle.std.proofs.Common.{◌≡◌, ◌==◌, false, arith}
 use Rattle.std.proofs.lemmas.Bool.Decides.{nat_tests}
 use Rattle.shx_term.proofs.PieceLemmas.{three_in_turn}
-use Rattle.report_write.proofs.report.add_head.Goals as goal
+use Rattle.report_write.proofs.report.add_first_line.Goals as goal
 
 pub returns : goal.returns
 returns g c =

@@ -2,8 +2,10 @@
 //!
 //! | file | what it holds |
 //! |---|---|
-//! | `tests/rows.rt` | the tables: reports with their lines, and paths with their texts |
+//! | `tests/rows.rt` | tables: reports with their lines, and paths with their texts in both formats |
+//! | `tests/turtle_rows.rt` | a table: reports in Turtle, with the triples that these state |
 //! | `tests/reports.rt` | the reports, each put by itself and behind another line |
+//! | `tests/readings.rt` | the triples that our own reader finds in a text |
 //! | `tests/paths.rt` | the paths |
 //! | `tests/answers.rt` | answers, with the names of codes |
 //! | `tests/shape_answers.rt` | answers that tell terms of the shapes, and the notice |
@@ -11,8 +13,8 @@
 //! | `tests/results.rt` | results of lines |
 //! | `tests/terms.rt` | the terms of the tables, and their numbers |
 //!
-//! It stands on `report_write`, `shape_eval` and the crates below them, and on `row_tools`. Start with
-//! `tests/rows.rt`. A table is a text, and a test asks for the first block or row that is met otherwise.
+//! It stands on `report_write`, `shape_eval` and the crates below them, and on `ttl_read` and `row_tools`.
+//! Start with `tests/rows.rt`. A table is a text, and a test asks for the first block or row that is met otherwise.
 #![tactic(auto)]
 
 #[cfg(test)]

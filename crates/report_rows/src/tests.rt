@@ -1,8 +1,10 @@
 mod answers;
 mod paths;
 mod plans;
+mod readings;
 mod reports;
 mod results;
 mod rows;
 mod shape_answers;
 mod terms;
+mod turtle_rows;

@@ -4,10 +4,11 @@ use super::terms::all_terms;
 use report_write::{Answer, write_answer};
 use row_tools::{RowFault, cut, first_other, number};
 use shx_outside::{MemorySink, Role};
-use shx_term::Pool;
-use shx_term::fault_codes::{NOT_BUILT, TEXT_TOO_LONG};
+use shx_term::fault_codes::{LINE_SYNTAX, NOT_BUILT, TEXT_TOO_LONG};
+use shx_term::{Memory, Pool};
 use std::alloc::Global;
 use std::test::Fail;
+use text_output::Format;
 
 const LAST_LINE: u64 = 18446744073709551615;
 
@@ -23,7 +24,8 @@ long shapes=fault shapes: 10 TextTooLong=
 long data=fault data: 10 TextTooLong=
 long script=fault script: 58 ScriptTooLong=
 not built=fault shapes: 59 NotBuilt=
-usage=usage: shacl_keep [--format lines|turtle] [--base IRI] SHAPES DATA [SCRIPT]=
+count=count triples=18446744073709551615 pairs=0 results=7=
+refused at=refused line 3: 52 LineSyntax at 17=
 ";
 
 fn answer_of(word: &str) -> Result<Answer, RowFault> {
@@ -38,7 +40,16 @@ fn answer_of(word: &str) -> Result<Answer, RowFault> {
         "long data" => Ok(Answer::TooLong { role: Role::Data }),
         "long script" => Ok(Answer::TooLong { role: Role::Script }),
         "not built" => Ok(Answer::NotBuilt { role: Role::Shapes }),
-        "usage" => Ok(Answer::Usage),
+        "count" => Ok(Answer::Count {
+            triples: u64::MAX,
+            pairs: 0,
+            results: 7,
+        }),
+        "refused at" => Ok(Answer::RefusedAt {
+            line: 3,
+            code: LINE_SYNTAX,
+            at: 17,
+        }),
         _ => Err(RowFault::Unread),
     }
 }
@@ -54,32 +65,63 @@ fn fault(role: Role, code: u32, at: u64) -> Answer {
     Answer::TextFault { role, code, at }
 }
 
-fn puts_in_pieces(alloc: Global, answer: &Answer, pool: &Pool, text: &str, piece: usize) -> bool
+fn puts_in_pieces(
+    alloc: Global,
+    answer: &Answer,
+    pool: &Pool,
+    format: Format,
+    text: &str,
+    piece: usize,
+) -> bool
     requires { 0 < piece }
 {
     let mut sink = MemorySink::new(alloc, piece, Vec::new(alloc));
-    let written = write_answer(answer, pool, &mut sink);
+    let written = write_answer(answer, pool, format, &mut sink);
     written.is_ok() && sink.bytes() == text.as_bytes()
 }
 
-/// Whether an answer is put as this text, whole, in threes and byte by byte.
-pub(super) fn puts_text(alloc: Global, answer: &Answer, pool: &Pool, text: &str) -> bool {
-    puts_in_pieces(alloc, answer, pool, text, 1)
-        && puts_in_pieces(alloc, answer, pool, text, 3)
-        && puts_in_pieces(alloc, answer, pool, text, 4096)
+// Whether an answer is put as this text, whole, in threes and byte by byte.
+fn puts_text(alloc: Global, answer: &Answer, pool: &Pool, format: Format, text: &str) -> bool {
+    puts_in_pieces(alloc, answer, pool, format, text, 1)
+        && puts_in_pieces(alloc, answer, pool, format, text, 3)
+        && puts_in_pieces(alloc, answer, pool, format, text, 4096)
+}
+
+/// Whether an answer is put as this line, and in Turtle as a comment.
+pub(super) fn puts_line(
+    alloc: Global,
+    answer: &Answer,
+    pool: &Pool,
+    line: &str,
+) -> Result<bool, Memory> {
+    let comment = format!(in alloc; "# {line}")?;
+    Ok(
+        puts_text(alloc, answer, pool, Format::Lines, line)
+            && puts_text(alloc, answer, pool, Format::Turtle, &comment),
+    )
 }
 
 // Whether the answer of a row is put as its line.
 fn puts_answer(alloc: Global, row: &str) -> Result<bool, RowFault> {
     let (word, line) = cut(row, "=")?;
     let answer = answer_of(word)?;
-    let text = format!(in alloc; "{}\n", line.trim_end_matches('='))?;
-    Ok(puts_text(alloc, &answer, &all_terms(alloc)?, &text))
+    let line = format!(in alloc; "{}\n", line.trim_end_matches('='))?;
+    Ok(puts_line(alloc, &answer, &all_terms(alloc)?, &line)?)
 }
 
 #[test]
 fn answers_are_put_whole(rt: HostRuntime) -> Result<(), Fail> {
     assert_eq!(rt; first_other(rt.alloc(), ANSWERS, puts_answer)?, "");
+    Ok(())
+}
+
+#[test]
+fn the_usage_is_no_comment(rt: HostRuntime) -> Result<(), Fail> {
+    let alloc = rt.alloc();
+    let pool = all_terms(alloc)?;
+    let usage = "usage: shacl_keep [--format lines|turtle] [--base IRI] SHAPES DATA [SCRIPT]\n";
+    assert!(rt; puts_text(alloc, &Answer::Usage, &pool, Format::Lines, usage));
+    assert!(rt; puts_text(alloc, &Answer::Usage, &pool, Format::Turtle, usage));
     Ok(())
 }
 
@@ -103,7 +145,7 @@ fn puts_name(alloc: Global, row: &str) -> Result<bool, RowFault> {
     let (code, _) = cut(row, " ")?;
     let text = format!(in alloc; "fault data: {row} at 120\n")?;
     let fault = fault(Role::Data, number(code)?, 120);
-    Ok(puts_text(alloc, &fault, &all_terms(alloc)?, &text))
+    Ok(puts_line(alloc, &fault, &all_terms(alloc)?, &text)?)
 }
 
 #[test]

@@ -2,12 +2,12 @@ use super::rows::PATHS;
 use super::terms::{all_terms, id_of, spelled_out};
 use path_eval::Path;
 use report_write::add_path;
-use row_tools::{RowFault, cut, first_other, number};
+use row_tools::{RowFault, first_other, in_three, number};
 use shx_outside::MemorySink;
 use shx_term::Pool;
 use std::alloc::Global;
 use std::test::Fail;
-use text_output::Writer;
+use text_output::{Format, Writer};
 
 // The last of the paths, around which the mark stands.
 fn marked(alloc: Global, paths: &mut Vec<Path>, mark: &str) -> Result<Path, RowFault> {
@@ -63,16 +63,25 @@ fn path_of(alloc: Global, pool: &Pool, words: &str) -> Result<Path, RowFault> {
     }
 }
 
-// Whether the path of a row is put as the row says.
-fn is_as_said(alloc: Global, row: &str) -> Result<bool, RowFault> {
-    let (words, text) = cut(row, " : ")?;
-    let pool = all_terms(alloc)?;
-    let path = path_of(alloc, &pool, words)?;
-    let text = spelled_out(alloc, text)?;
+// Whether a path is put as this text.
+fn is_put(alloc: Global, path: &Path, pool: &Pool, format: Format, text: &str) -> bool {
     let mut sink = MemorySink::new(alloc, 4096, Vec::new(alloc));
     let mut writer = Writer::new(&mut sink);
-    add_path(&path, &pool, &mut writer);
-    Ok(writer.finish().is_ok() && sink.bytes() == text.as_bytes())
+    add_path(path, format, pool, &mut writer);
+    writer.finish().is_ok() && sink.bytes() == text.as_bytes()
+}
+
+// Whether the path of a row is put as the row says.
+fn is_as_said(alloc: Global, row: &str) -> Result<bool, RowFault> {
+    let (words, lines, turtle) = in_three(row, " : ")?;
+    let pool = all_terms(alloc)?;
+    let path = path_of(alloc, &pool, words)?;
+    let lines = spelled_out(alloc, lines)?;
+    let turtle = spelled_out(alloc, turtle)?;
+    Ok(
+        is_put(alloc, &path, &pool, Format::Lines, &lines)
+            && is_put(alloc, &path, &pool, Format::Turtle, &turtle),
+    )
 }
 
 #[test]

@@ -1,6 +1,7 @@
 //! A plan of three lines, each a shape without constraints: its node, severity, path and messages,
-//! with `-` for none. A path is a predicate, which may have `^`, `*` or `+` behind it.
-ghost use Rattle.std.specs.Prelude.{◌+◌, ◌<◌, All, IfOk, length};
+//! with `-` for none. A path is a predicate, which may have `^`, `*` or `+` behind it, or two with `/` or `|`
+//! between them.
+ghost use Rattle.std.specs.Prelude.{ℕ, ◌+◌, ◌<◌, All, IfOk, length};
 ghost use Rattle.report_rows.specs.Bare.{AreMessages, FitsMaybe, FitsPath, IsBare};
 
 use super::terms::id_of;
@@ -21,12 +22,30 @@ fn marked(alloc: Global, p: Id, mark: char) -> Result<Path, Memory>
     })
 }
 
+// One predicate after the other, or either.
+fn paired(alloc: Global, first: Id, second: Id, mark: char) -> Result<Path, Memory>
+    ensures { IfOk result (λ path. (count : ℕ) → first < count → second < count → FitsPath count path) }
+{
+    let parts = vec![in alloc; Path::Pred(first), Path::Pred(second)]?;
+    if mark == '/' {
+        return Ok(Path::Seq(parts));
+    }
+    Ok(Path::Alt(parts))
+}
+
 fn path_of(alloc: Global, pool: &Pool, word: &str) -> Result<Path, RowFault>
     ensures { IfOk result (FitsPath (length pool.now.terms)) }
 {
     for mark in ['^', '*', '+'] {
         if let Some(word) = word.strip_suffix(mark) {
             return Ok(marked(alloc, id_of(alloc, pool, word)?, mark)?);
+        }
+    }
+    for mark in ['/', '|'] {
+        if let Some((first, second)) = word.split_once(mark) {
+            let first = id_of(alloc, pool, first)?;
+            let second = id_of(alloc, pool, second)?;
+            return Ok(paired(alloc, first, second, mark)?);
         }
     }
     Ok(Path::Pred(id_of(alloc, pool, word)?))

@@ -154,35 +154,39 @@ e:U sh:Violation - -
 result  Violation {T} {a} - "5"^^{xsd:integer}
 result  Violation {U} {a} - -"#;
 
-/// Paths: words from left to right, of which a mark takes the last path, and `/N` and `|N` the last `N`; and
-/// the text that is put.
-pub(super) const PATHS: &str = "e:p : {p}
-e:p ^ : (^{p})
-e:p * : ({p}*)
-e:p + : ({p}+)
-e:p ? : ({p}?)
-e:p e:q /2 : ({p}/{q})
-e:p e:q |2 : ({p}|{q})
-e:p e:q e:next /3 : ({p}/{q}/{next})
-e:p e:q e:next |3 : ({p}|{q}|{next})
-e:p e:q e:next /2 /2 : ({p}/({q}/{next}))
-e:p e:q /2 e:next /2 : (({p}/{q})/{next})
-e:p e:q e:next |2 |2 : ({p}|({q}|{next}))
-e:p e:q |2 e:next |2 : (({p}|{q})|{next})
-e:p e:q |2 e:p e:q |2 /2 : (({p}|{q})/({p}|{q}))
-e:p e:q /2 e:p e:q /2 |2 : (({p}/{q})|({p}/{q}))
-e:p ^ e:q * /2 : ((^{p})/({q}*))
-e:p + e:q ? |2 : (({p}+)|({q}?))
-e:p e:q /2 ^ : (^({p}/{q}))
-e:p e:q |2 * : (({p}|{q})*)
-e:p ^ ^ : (^(^{p}))
-e:p ^ * : ((^{p})*)
-e:p * ^ : (^({p}*))
-e:p + ? : (({p}+)?)
-e:p ? + : (({p}?)+)
-rdf:type : <http://www.w3.org/1999/02/22-rdf-syntax-ns#type>
-e:p /1 : ({p})
-e:p |1 : ({p})
-/0 : ()
-|0 : ()
+/// Paths: words from left to right, of which a mark takes the last path, and `/N` and `|N` the last `N`; the
+/// text that is put in a line; and that in Turtle.
+pub(super) const PATHS: &str = "e:p : {p} : {p}
+e:p ^ : (^{p}) : [ sh:inversePath {p} ]
+e:p * : ({p}*) : [ sh:zeroOrMorePath {p} ]
+e:p + : ({p}+) : [ sh:oneOrMorePath {p} ]
+e:p ? : ({p}?) : [ sh:zeroOrOnePath {p} ]
+e:p e:q /2 : ({p}/{q}) : ( {p} {q} )
+e:p e:q |2 : ({p}|{q}) : [ sh:alternativePath ( {p} {q} ) ]
+e:p e:q e:next /3 : ({p}/{q}/{next}) : ( {p} {q} {next} )
+e:p e:q e:next |3 : ({p}|{q}|{next}) : [ sh:alternativePath ( {p} {q} {next} ) ]
+e:p e:q e:next /2 /2 : ({p}/({q}/{next})) : ( {p} ( {q} {next} ) )
+e:p e:q /2 e:next /2 : (({p}/{q})/{next}) : ( ( {p} {q} ) {next} )
+e:p e:q e:next |2 |2 : ({p}|({q}|{next})) : \
+[ sh:alternativePath ( {p} [ sh:alternativePath ( {q} {next} ) ] ) ]
+e:p e:q |2 e:next |2 : (({p}|{q})|{next}) : \
+[ sh:alternativePath ( [ sh:alternativePath ( {p} {q} ) ] {next} ) ]
+e:p e:q |2 e:p e:q |2 /2 : (({p}|{q})/({p}|{q})) : \
+( [ sh:alternativePath ( {p} {q} ) ] [ sh:alternativePath ( {p} {q} ) ] )
+e:p e:q /2 e:p e:q /2 |2 : (({p}/{q})|({p}/{q})) : [ sh:alternativePath ( ( {p} {q} ) ( {p} {q} ) ) ]
+e:p ^ e:q * /2 : ((^{p})/({q}*)) : ( [ sh:inversePath {p} ] [ sh:zeroOrMorePath {q} ] )
+e:p + e:q ? |2 : (({p}+)|({q}?)) : \
+[ sh:alternativePath ( [ sh:oneOrMorePath {p} ] [ sh:zeroOrOnePath {q} ] ) ]
+e:p e:q /2 ^ : (^({p}/{q})) : [ sh:inversePath ( {p} {q} ) ]
+e:p e:q |2 * : (({p}|{q})*) : [ sh:zeroOrMorePath [ sh:alternativePath ( {p} {q} ) ] ]
+e:p ^ ^ : (^(^{p})) : [ sh:inversePath [ sh:inversePath {p} ] ]
+e:p ^ * : ((^{p})*) : [ sh:zeroOrMorePath [ sh:inversePath {p} ] ]
+e:p * ^ : (^({p}*)) : [ sh:inversePath [ sh:zeroOrMorePath {p} ] ]
+e:p + ? : (({p}+)?) : [ sh:zeroOrOnePath [ sh:oneOrMorePath {p} ] ]
+e:p ? + : (({p}?)+) : [ sh:oneOrMorePath [ sh:zeroOrOnePath {p} ] ]
+rdf:type : {rdf:type} : {rdf:type}
+e:p /1 : ({p}) : ( {p} )
+e:p |1 : ({p}) : [ sh:alternativePath ( {p} ) ]
+/0 : () : (  )
+|0 : () : [ sh:alternativePath (  ) ]
 ";

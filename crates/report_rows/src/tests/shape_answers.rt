@@ -1,5 +1,5 @@
 //! Answers about the shapes. In a line `{a}` is the IRI `http://e/a`, and `{sh:in}` one of SHACL.
-use super::answers::puts_text;
+use super::answers::puts_line;
 use super::terms::{all_terms, id_of, spelled_out};
 use report_write::Answer;
 use row_tools::{RowFault, cut, first_other, in_four, number};
@@ -49,7 +49,7 @@ fn puts_rule(alloc: Global, row: &str) -> Result<bool, RowFault> {
     let pool = all_terms(alloc)?;
     let rule = rule_of(alloc, &pool, words)?;
     let text = format!(in alloc; "fault shapes: {}\n", spelled_out(alloc, line)?)?;
-    Ok(puts_text(alloc, &rule, &pool, &text))
+    Ok(puts_line(alloc, &rule, &pool, &text)?)
 }
 
 #[test]
@@ -67,7 +67,7 @@ fn puts_shape_fault(alloc: Global, row: &str) -> Result<bool, RowFault> {
         shape: id_of(alloc, &pool, "shapes#2")?,
     };
     let text = format!(in alloc; "fault shapes: {row} shape _:t-2\n")?;
-    Ok(puts_text(alloc, &fault, &pool, &text))
+    Ok(puts_line(alloc, &fault, &pool, &text)?)
 }
 
 #[test]
@@ -87,7 +87,7 @@ fn a_number_without_a_term_is_told_as_nothing(rt: HostRuntime) -> Result<(), Fai
         code: 30,
         shape: u32::MAX,
     };
-    assert!(rt; puts_text(alloc, &fault, &pool, "fault shapes: 30 Recursive shape \n"));
+    assert!(rt; puts_line(alloc, &fault, &pool, "fault shapes: 30 Recursive shape \n")?);
     Ok(())
 }
 
@@ -96,9 +96,9 @@ fn notices_tell_a_count(rt: HostRuntime) -> Result<(), Fail> {
     let alloc = rt.alloc();
     let pool = all_terms(alloc)?;
     let one = Answer::Notice { count: 1 };
-    assert!(rt; puts_text(alloc, &one, &pool, "notice: 1 sh:sparql triples ignored\n"));
+    assert!(rt; puts_line(alloc, &one, &pool, "notice: 1 sh:sparql triples ignored\n")?);
     let last = Answer::Notice { count: u64::MAX };
     let text = "notice: 18446744073709551615 sh:sparql triples ignored\n";
-    assert!(rt; puts_text(alloc, &last, &pool, text));
+    assert!(rt; puts_line(alloc, &last, &pool, text)?);
     Ok(())
 }

@@ -40,10 +40,14 @@ pub(super) fn id_of(alloc: Global, pool: &Pool, word: &str) -> Result<Id, RowFau
     }
 }
 
-/// A text with its IRIs spelled out: `{a}` is `http://e/a`, `{xsd:date}` one of XML Schema, and `{sh:in}` one
-/// of SHACL.
+/// A text with its IRIs spelled out: `{a}` is `http://e/a`, `{xsd:date}` one of XML Schema, `{sh:in}` one of
+/// SHACL, and `{rdf:type}` one of RDF.
 pub(super) fn spelled_out(alloc: Global, text: &str) -> Result<String, Memory> {
-    let text = text.replace(alloc, "{xsd:", "<http://www.w3.org/2001/XMLSchema#")?;
+    let rdf = "<http://www.w3.org/1999/02/22-rdf-syntax-ns#";
+    let text = text.replace(alloc, "{rdf:", rdf)?;
+    let text = text
+        .as_str()
+        .replace(alloc, "{xsd:", "<http://www.w3.org/2001/XMLSchema#")?;
     let text = text
         .as_str()
         .replace(alloc, "{sh:", "<http://www.w3.org/ns/shacl#")?;

@@ -28,8 +28,8 @@ pub fn word_texts<'a>(alloc: Global, words: &'a [Text]) -> Result<Vec<&'a str>, 
 }
 
 /// What the words ask for, or `None` where they cannot be read:
-/// `[--format lines|turtle] [--base IRI] SHAPES DATA [SCRIPT]`, the options at any place before `--`, each at
-/// most once. It takes time and memory linear in the words.
+/// `[--format lines|turtle] [--base IRI] SHAPES DATA [SCRIPT]`. Before `--` an option may stand anywhere, but
+/// only once. It takes time and memory linear in the words.
 ///
 /// # Errors
 ///

@@ -1,5 +1,5 @@
 -- The forms of a line, by the tokens of Turtle: nothing but white space and comments; a word alone; or a word
--- and a triple. A word begins at the first character that is not white space, in small letters.
+-- and a triple. Before the word of a line stands white space alone, and it is written in small letters.
 use Rattle.std.specs.Prelude.{◌≡◌, ℕ, ◌+◌, Bool, true, not, ◌||◌, List, drop, length, nat_eq, codes}
 use Rattle.std.specs.Prelude.{slice_index}
 use Rattle.std.specs.List.{before_first, starts_with}

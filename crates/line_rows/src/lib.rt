@@ -8,8 +8,8 @@
 //! | `tests/bytes.rt` | lines that are too long or no UTF-8, by the table beside it |
 //! | `tests/told.rt` | how a fault is told |
 //!
-//! It stands on `script_lines`, `ttl_read` and `row_tools`. A table is a text of rows, and a test asks for the
-//! first row that is met otherwise.
+//! It stands on `script_lines`, `ttl_read` and `row_tools`. A table is a text of rows, and a test asks for
+//! the first row that is met otherwise.
 #![tactic(auto)]
 
 #[cfg(test)]

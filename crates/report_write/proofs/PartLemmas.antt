@@ -110,7 +110,8 @@ path_text-sequence format terms (part ∷ parts) =
     (path_texts format terms parts)
 
 pub path_text-alternative : (format : Format) (terms : List Term) (members : List Path)
-    → path_text format terms (alternative (map route_of members)) ≡ whole_text format Alternative terms members
+    → path_text format terms (alternative (map route_of members))
+    ≡ whole_text format Alternative terms members
 path_text-alternative format terms [] = empty_text format Alternative
 path_text-alternative format terms (member ∷ members) =
     let first = path_text format terms (route_of member) in

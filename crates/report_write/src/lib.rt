@@ -1,5 +1,5 @@
-//! What the validator answers: reports over a plan of shapes (SHACL, section 3.6), and the answers to the lines
-//! of a script and to texts that are refused; each as lines, or in Turtle.
+//! What the validator answers: reports over a plan of shapes (SHACL, section 3.6), and the answers to the
+//! lines of a script and to texts that are refused; each as lines, or in Turtle.
 //!
 //! | file | what it holds |
 //! |---|---|

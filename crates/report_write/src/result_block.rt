@@ -92,7 +92,8 @@ fn add_value_property<W: Pieces>(value: Option<Id>, pool: &Pool, out: &mut W)
 }
 
 fn add_component_property<W: Pieces>(kind: Kind, out: &mut W)
-    ensures { W.added out.old out.new (property_text (codes "sourceConstraintComponent") (component_text kind)) }
+    ensures { W.added out.old out.new
+        (property_text (codes "sourceConstraintComponent") (component_text kind)) }
 {
     open_property("sourceConstraintComponent", out);
     out.add(b"sh:");
@@ -102,7 +103,8 @@ fn add_component_property<W: Pieces>(kind: Kind, out: &mut W)
 
 fn add_message_properties<W: Pieces>(messages: &[Id], pool: &Pool, out: &mut W)
     ensures { W.added out.old out.new (flat_map
-        (λ message. property_text (codes "resultMessage") (number_text pool.now.terms message)) messages.now) }
+        (λ message. property_text (codes "resultMessage") (number_text pool.now.terms message))
+        messages.now) }
 {
     for message in messages {
         add_term_property("resultMessage", *message, pool, out);

@@ -1,6 +1,7 @@
 -- A line with a word is no blank line.
 use Rattle.std.proofs.Common.{◌≡◌, ℕ, zero, suc, ◌<◌, true, false, List, [], ◌∷◌, ◌++◌, length, get_or, take}
-use Rattle.std.proofs.Common.{drop, refl, sym, ap, ◌∙◌, subst, arith, take-append-drop, length-take, get_or-take}
+use Rattle.std.proofs.Common.{drop, refl, sym, ap, ◌∙◌, subst, arith, take-append-drop, length-take}
+use Rattle.std.proofs.Common.{get_or-take}
 use Rattle.std.specs.Str.{IsUtf8, IsAscii, chars}
 use Rattle.std.proofs.lemmas.Str.{IsUtf8-take, IsUtf8-drop, chars-append, chars-IsAscii}
 use Rattle.std.proofs.lemmas.Str.{chars_past_char, encode_ascii}

@@ -1,6 +1,7 @@
 -- The tokens of a line, one behind the other, up to its end.
 use Rattle.std.proofs.Common.{◌≡◌, ℕ, Bool, true, false, List, Option, Some, None, Result, Ok, Err}
-use Rattle.std.proofs.Common.{refl, sym, ◌∙◌, subst, true≢false, IfOk, IfErr, MatchOption, IsTrue, ◌↔◌, slice_index}
+use Rattle.std.proofs.Common.{refl, sym, ◌∙◌, subst, true≢false, IfOk, IfErr, MatchOption, IsTrue, ◌↔◌}
+use Rattle.std.proofs.Common.{slice_index}
 use Rattle.std.specs.Result.{result_ok}
 use Rattle.std.specs.Str.{IsUtf8}
 use Rattle.ttl_tokens.specs.declared.token.NoToken.{NoToken}

@@ -1,9 +1,12 @@
--- What a line asks for, behind a data text whose base, prefixes and blank nodes are those of its terms; or its
--- fault: the line is too long, is no UTF-8, has no form, or has a term with a fault, the first in the line.
-use Rattle.std.specs.Prelude.{◌≡◌, ◌≢◌, ℕ, ◌<◌, ◌≤◌, ◌⊎◌, ◌==◌, List, length, codes, None, Some, Result, Ok, Err}
+-- What a line asks for, behind a data text whose base, prefixes and blank nodes are those of its terms; or
+-- its fault: the line is too long, is no UTF-8, has no form, or has a term with a fault, the first in the
+-- line.
+use Rattle.std.specs.Prelude.{◌≡◌, ◌≢◌, ℕ, ◌<◌, ◌≤◌, ◌⊎◌, ◌==◌, List, length, codes, None, Some, Result, Ok}
+use Rattle.std.specs.Prelude.{Err}
 use Rattle.std.specs.Prelude.{if◌then◌else◌}
 use Rattle.std.specs.Str.{IsUtf8}
-use Rattle.shx_term.specs.declared.fault_codes.TheConstants.{UNKNOWN_PREFIX, BAD_IRI, FLOAT_LITERAL, WIDE_VALUE}
+use Rattle.shx_term.specs.declared.fault_codes.TheConstants.{UNKNOWN_PREFIX, BAD_IRI, FLOAT_LITERAL}
+use Rattle.shx_term.specs.declared.fault_codes.TheConstants.{WIDE_VALUE}
 use Rattle.shx_term.specs.declared.fault_codes.TheConstants.{LINE_PREFIX, LINE_IRI, LINE_FLOAT, LINE_WIDE}
 use Rattle.shx_term.specs.declared.fault_codes.TheConstants.{LINE_TOO_LONG, LINE_NOT_UTF8, LINE_SYNTAX}
 use Rattle.shx_term.specs.declared.limits.Limits.{Limits}

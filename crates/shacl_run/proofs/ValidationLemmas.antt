@@ -120,7 +120,8 @@ module _ (limits : Limits) (s : ScriptState) (validation : Validation)
 
   -- and their text is what is said of the state
   pub text-validation : (rows : List ResultRow) → rows ≡ report s.plan s.graph
-      → said_text s reports ≡ report_text Lines validation.graph.pool.terms (plan_of validation.plan).shapes rows
+      → said_text s reports
+      ≡ report_text Lines validation.graph.pool.terms (plan_of validation.plan).shapes rows
   text-validation rows same =
       sym (λ i. report_text Lines (sym is.stores.terms i) (is.plan_is i).shapes (same i))
 

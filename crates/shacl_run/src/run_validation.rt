@@ -98,7 +98,8 @@ fn write_first<O: Sink>(
     out: &mut O,
 ) -> Result<(), WriteFault>
     ensures { Writes (O.state out.old) (O.state out.new) (notice_text validation.now.passed_over
-        ++ report_text Lines validation.now.graph.pool.terms (plan_of validation.now.plan).shapes rows.now) result }
+        ++ report_text Lines validation.now.graph.pool.terms (plan_of validation.now.plan).shapes rows.now)
+        result }
 {
     let pool = validation.graph.pool();
     let mut writer = Writer::new(out);

@@ -85,10 +85,11 @@ module _ (text : List ℕ) (token : Token) (document : Document) (term : Term) (
       let e = node.3 in let same : term ≡ Blank node.0 = cc in rw same tt
   found_not_wide (ANode kind (inr none)) = absurd (let e = none.1 in cc)
   found_not_wide (ALiteral kind is) =
-      judged_not_wide token.start token.end (typed (token_text text token) (datatype_of token.kind)) term end is
+      judged_not_wide token.start token.end (typed (token_text text token) (datatype_of token.kind))
+      term end is
   found_not_wide (AString kind (inl tag)) =
-      judged_not_wide token.start tag.0.end (tagged (said text token) (drop 1 (token_text text tag.0))) term end
-      tag.2
+      judged_not_wide token.start tag.0.end (tagged (said text token) (drop 1 (token_text text tag.0)))
+      term end tag.2
   found_not_wide (AString kind (inr (inl iri))) =
       typed_not_wide text token iri.0 (iri_of text iri.0 (in_force document)) term end iri.2
   found_not_wide (AString kind (inr (inr none))) =

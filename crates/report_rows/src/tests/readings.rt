@@ -5,7 +5,8 @@ use shx_term::{Id, Limits, Memory, Pool, Scope, Triple, spell};
 use std::alloc::Global;
 use ttl_read::{TtlFault, read_document};
 
-/// The triples that a text states, a line each, by the spelling of their terms. A text with a fault is no row.
+/// The triples that a text states, a line each, by the spelling of their terms. A text with a fault cannot be
+/// tried.
 pub(super) fn triples_in(alloc: Global, text: &str) -> Result<Vec<u8>, RowFault> {
     let base = "file:///";
     if !is_absolute(base) {

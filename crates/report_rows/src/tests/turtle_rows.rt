@@ -1,6 +1,6 @@
-//! Reports in Turtle, block by block: what the block shows; three shapes; the results; the text that is put, in
-//! which `{a}` is the IRI `http://e/a`, and `{sh:Info}` one of SHACL; and the triples that it states, in the
-//! order in which their objects begin. A label of a blank node is read as one of the data.
+//! Reports in Turtle, block by block: what the block shows; three shapes; the results; the text that is put,
+//! in which `{a}` is the IRI `http://e/a`, and `{sh:Info}` one of SHACL; and the triples that it states, in
+//! the order in which their objects begin. A label of a blank node is read as one of the data.
 
 pub(super) const TURTLE_REPORTS: &str = r#"no results
 e:S sh:Violation e:p -

@@ -15,9 +15,10 @@ loop-row-preserved g c =
 pub returns : goal.returns
 returns g c =
     let gives = g.I.Iterator.next_gives in
-    let from_rows = subst (λ (rows : g.row.I.Denot). Yields gives rows c.loop-row.yielded c.loop-row.row-iterator)
+    let seen = c.loop-row.yielded in
+    let from_rows = subst (λ (rows : g.row.I.Denot). Yields gives rows seen c.loop-row.row-iterator)
     c.into_iter-row-iterator.ensures.into_iter_gives c.loop-row.yielded_by in (
-      c.loop-row.yielded,
+      seen,
       (c.next.new.self, (c.loop-row.row-iterator, from_rows, c.in-None.ensures.steps)),
       c.loop-row.invariant,
     )

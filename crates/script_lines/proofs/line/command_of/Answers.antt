@@ -13,7 +13,8 @@ returns-in_err-read_triple-in-Insert-clause-refused c =
     let exit = err_from_is_err_and c.from_residual.result c.from_residual.ensures.1 in
     rw (exit.1, exit.2)
     (λ other. insert_refused c.args.line.now c.args.document.now c.args.form.now c.in-Insert.terms
-    c.in-Insert.is c.in_err-read_triple-in-Insert.field-0.0 (c.in_err-read_triple-in-Insert.ensures.refused other))
+    c.in-Insert.is c.in_err-read_triple-in-Insert.field-0.0
+    (c.in_err-read_triple-in-Insert.ensures.refused other))
 
 pub read_triple-requires-in-Remove : goal.read_triple-requires-in-Remove
 read_triple-requires-in-Remove c =
@@ -26,7 +27,8 @@ returns-in_err-read_triple-in-Remove-clause-refused c =
     c.from_residual-in_err-read_triple-in-Remove.ensures.1 in
     rw (exit.1, exit.2)
     (λ other. remove_refused c.args.line.now c.args.document.now c.args.form.now c.in-Remove.terms
-    c.in-Remove.is c.in_err-read_triple-in-Remove.field-0.0 (c.in_err-read_triple-in-Remove.ensures.refused other))
+    c.in-Remove.is c.in_err-read_triple-in-Remove.field-0.0
+    (c.in_err-read_triple-in-Remove.ensures.refused other))
 
 pub returns-in_ok-read_triple-in-Insert-clause-command :
     goal.returns-in_ok-read_triple-in-Insert-clause-command

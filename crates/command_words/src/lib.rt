@@ -18,6 +18,3 @@ mod words;
 
 pub use asked::Asked;
 pub use words::{read_words, word_texts};
-
-#[cfg(test)]
-mod tests;

@@ -1,4 +1,5 @@
-//! Lines of a script at work, as tests alone: lines behind data texts, with what they ask for or their fault.
+//! Words of a command line and lines of a script at work, as tests alone: what they ask for, or that they are
+//! refused.
 //!
 //! | file | what it holds |
 //! |---|---|
@@ -7,9 +8,10 @@
 //! | `tests/terms.rt` | the terms of lines and their faults, by the tables beside it |
 //! | `tests/bytes.rt` | lines that are too long or no UTF-8, by the table beside it |
 //! | `tests/told.rt` | how a fault is told |
+//! | `tests/words.rt` | words of a command line, by the tables beside it |
 //!
-//! It stands on `script_lines`, `ttl_read` and `row_tools`. A table is a text of rows, and a test asks for
-//! the first row that is met otherwise.
+//! It stands on `script_lines`, `command_words`, `ttl_read` and `row_tools`. A table is a text of rows, and a
+//! test fails with the first row that is met otherwise.
 #![tactic(auto)]
 
 #[cfg(test)]

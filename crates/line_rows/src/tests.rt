@@ -3,3 +3,4 @@ mod forms;
 mod seen;
 mod terms;
 mod told;
+mod words;

@@ -3,19 +3,20 @@ use Rattle.std.specs.Prelude.{ℕ, List, [], ◌++◌, codes, decimal}
 use Rattle.shx_outside.specs.declared.role.Role.{Role}
 use Rattle.shx_outside.specs.declared.role.Role.TheVariants.{Shapes, Data, Script}
 use Rattle.shx_term.specs.declared.term.Term.{Term}
-use Rattle.shx_term.specs.declared.fault_codes.TheConstants.{NOT_BUILT, SCRIPT_TOO_LONG, TEXT_TOO_LONG}
+use Rattle.shx_term.specs.FaultCodes.{code_name}
+use Rattle.shx_term.specs.declared.fault_codes.TheConstants.{SCRIPT_TOO_LONG, TEXT_TOO_LONG}
 use Rattle.report_write.specs.declared.answer.Answer.{Answer}
 use Rattle.report_write.specs.declared.answer.Answer.TheVariants.{Changed, Unchanged, RefusedLine}
-use Rattle.report_write.specs.declared.answer.Answer.TheVariants.{TextFault, TooLong, NotBuilt, Usage}
+use Rattle.report_write.specs.declared.answer.Answer.TheVariants.{TextFault, TooLong, Usage}
 use Rattle.report_write.specs.declared.answer.Answer.TheVariants.{Notice, Rule, OfShape, Count, RefusedAt}
 use Rattle.text_output.specs.declared.format.Format.{Format}
 use Rattle.text_output.specs.declared.format.Format.TheVariants.{Lines, Turtle}
-use Rattle.report_write.specs.FaultNames.{code_word, role_name}
+use Rattle.report_write.specs.Roles.{role_name}
 use Rattle.text_output.specs.TermTexts.{number_text}
 
 -- a code with its name
 abbrev pub code_text : ℕ → List ℕ
-code_text code = decimal code ++ codes " " ++ code_word code
+code_text code = decimal code ++ codes " " ++ code_name code
 
 -- the code of a text that is longer than it may be
 abbrev pub code_of_length : Role → ℕ
@@ -51,7 +52,6 @@ line_text terms (RefusedAt line code at) =
 line_text terms (TextFault role code at) =
     fault_head role code ++ codes " at " ++ decimal at ++ codes "\n"
 line_text terms (TooLong role) = fault_head role (code_of_length role) ++ codes "\n"
-line_text terms (NotBuilt role) = fault_head role NOT_BUILT ++ codes "\n"
 line_text terms (Rule code shape predicate term) =
     shape_fault_head terms code shape ++ codes " predicate " ++ number_text terms predicate
     ++ codes " term " ++ number_text terms term ++ codes "\n"

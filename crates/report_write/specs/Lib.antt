@@ -1,5 +1,4 @@
 pub mod Answers
-pub mod FaultNames
 pub mod PathForms
 pub mod PathTexts
 pub mod ReportTexts
@@ -7,4 +6,5 @@ pub mod ResultBlocks
 pub mod ResultLines
 pub mod ResultNames
 pub mod ResultPaths
+pub mod Roles
 pub mod inner

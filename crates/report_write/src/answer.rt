@@ -4,9 +4,9 @@ ghost use Rattle.report_write.specs.Answers.{line_text, refusal_head, shape_faul
 ghost use Rattle.text_output.specs.TermTexts.{number_text};
 ghost use Rattle.text_output.specs.Writes.{Writes};
 
-use crate::fault_names::{code_word, role_name};
+use crate::roles::role_name;
 use shx_outside::{Role, Sink};
-use shx_term::fault_codes::{NOT_BUILT, SCRIPT_TOO_LONG, TEXT_TOO_LONG};
+use shx_term::fault_codes::{SCRIPT_TOO_LONG, TEXT_TOO_LONG, code_name};
 use shx_term::{Id, Pieces, Pool};
 use text_output::{Format, WriteFault, Writer, add_number, add_term};
 
@@ -43,10 +43,6 @@ pub enum Answer {
     },
     /// A text is longer than it may be.
     TooLong {
-        role: Role,
-    },
-    /// A text asks for more than is built.
-    NotBuilt {
         role: Role,
     },
     /// A shape breaks a rule: by a value of `predicate`, or a member of a list there, which is `term`.
@@ -123,7 +119,6 @@ fn add_line<W: Pieces>(answer: &Answer, pool: &Pool, out: &mut W)
         Answer::RefusedAt { line, code, at } => add_refusal_at(*line, *code, *at, out),
         Answer::TextFault { role, code, at } => add_text_fault(*role, *code, *at, out),
         Answer::TooLong { role } => add_fault(*role, code_of_length(*role), out),
-        Answer::NotBuilt { role } => add_fault(*role, NOT_BUILT, out),
         Answer::Rule {
             code,
             shape,
@@ -252,5 +247,5 @@ fn add_code<W: Pieces>(code: u32, out: &mut W)
 {
     add_number(code, out);
     out.add(b" ");
-    out.add(code_word(code).as_bytes());
+    out.add(code_name(code).as_bytes());
 }

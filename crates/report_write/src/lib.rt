@@ -9,7 +9,7 @@
 //! | `result_names.rt` | the names of components and of severities |
 //! | `path.rt`, `form.rt` | how a path is written, and the marks of each form |
 //! | `answer.rt` | `Answer` and its text |
-//! | `fault_names.rt` | the names of codes, and of what texts are read for |
+//! | `roles.rt` | the names of what texts are read for |
 //!
 //! It stands on `shx_term`, `shx_outside` and `text_output` for texts, on `comp_core` for results, on
 //! `path_eval` for paths and on `shape_eval` for plans. Start with `report.rt`; `specs/ReportTexts.antt` has
@@ -17,13 +17,13 @@
 #![tactic(auto)]
 
 mod answer;
-mod fault_names;
 mod form;
 mod path;
 mod report;
 mod result_block;
 mod result_line;
 mod result_names;
+mod roles;
 
 pub use answer::{Answer, add_answer, write_answer};
 pub use path::add_path;

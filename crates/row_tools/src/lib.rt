@@ -2,7 +2,7 @@
 //!
 //! | file | what it holds |
 //! |---|---|
-//! | `rows.rt` | `first_other`, `first_other_block`: going over the rows of a text |
+//! | `rows.rt` | `all_met`, `all_blocks_met`: going over the rows of a text |
 //! | `row.rt` | `cut`, `in_three`, `in_four`, `number`: the parts of a row |
 //! | `fault.rt` | `RowFault`: why a row could not be tried |
 //! | `terms.rt` | terms and their parts, made of texts, and how a term is written |
@@ -19,6 +19,6 @@ mod words;
 
 pub use fault::RowFault;
 pub use row::{cut, in_four, in_three, number};
-pub use rows::{first_other, first_other_block};
+pub use rows::{all_blocks_met, all_met};
 pub use terms::{anonymous, iri, iri_text, label, labelled, literal, spelled, tagged, text};
 pub use words::term;

@@ -1,36 +1,36 @@
 use crate::RowFault;
-use shx_term::Memory;
 use std::alloc::{AllocError, Global};
+use std::test::Fail;
 
-/// The first row of a table that is not met, or nothing. A row is a line; empty ones are left out, and so are
-/// headings, which begin with `== `. A row that cannot be tried is not met.
-pub fn first_other<F: Fn(Global, &str) -> Result<bool, RowFault>>(
+/// Fails with the first row of a table that is not met. A row is a line; empty ones are left out, and so are
+/// headings, which begin with `== `. A row that cannot be tried is not met, and neither is a table of no rows.
+pub fn all_met<F: Fn(Global, &str) -> Result<bool, RowFault>>(
     alloc: Global,
-    table: &'static str,
+    table: &str,
     is_met: F,
-) -> Result<&'static str, Memory>
+) -> Result<(), Fail>
     requires { F.IsAlwaysCallable is_met }
 {
-    first_of(alloc, table, "\n", is_met)
+    all_of(alloc, table, "\n", is_met)
 }
 
-/// The first block of a table that is not met, or nothing. An empty line stands between two blocks.
-pub fn first_other_block<F: Fn(Global, &str) -> Result<bool, RowFault>>(
+/// Fails with the first block of a table that is not met. An empty line stands between two blocks.
+pub fn all_blocks_met<F: Fn(Global, &str) -> Result<bool, RowFault>>(
     alloc: Global,
-    table: &'static str,
+    table: &str,
     is_met: F,
-) -> Result<&'static str, Memory>
+) -> Result<(), Fail>
     requires { F.IsAlwaysCallable is_met }
 {
-    first_of(alloc, table, "\n\n", is_met)
+    all_of(alloc, table, "\n\n", is_met)
 }
 
-fn first_of<F: Fn(Global, &str) -> Result<bool, RowFault>>(
+fn all_of<F: Fn(Global, &str) -> Result<bool, RowFault>>(
     alloc: Global,
-    table: &'static str,
+    table: &str,
     between: &str,
     is_met: F,
-) -> Result<&'static str, Memory>
+) -> Result<(), Fail>
     requires { F.IsAlwaysCallable is_met }
 {
     let mut is_any_met = false;
@@ -38,10 +38,14 @@ fn first_of<F: Fn(Global, &str) -> Result<bool, RowFault>>(
         if !row.is_empty() && !row.starts_with("== ") {
             match is_met(alloc, row) {
                 Ok(true) => is_any_met = true,
-                Ok(false) | Err(RowFault::Unread) => return Ok(row),
-                Err(RowFault::Memory) => return Err(AllocError),
+                Ok(false) | Err(RowFault::Unread) => return Err(Fail::new(row)),
+                Err(RowFault::Memory) => return Err(Fail::from(AllocError)),
             }
         }
     }
-    Ok(if is_any_met { "" } else { "no rows" })
+    if is_any_met {
+        Ok(())
+    } else {
+        Err(Fail::new("a table of no rows"))
+    }
 }

@@ -1,5 +1,5 @@
-//! `shacl_keep SHAPES DATA [SCRIPT]`: validates a data text against a shapes text, prints the report, and
-//! answers a script line by line.
+//! `shacl_keep SHAPES DATA [SCRIPT]`: validates a data text against a shapes text, prints the report as lines
+//! or in Turtle, and answers a script line by line.
 //!
 //! | file | what it holds |
 //! |---|---|
@@ -7,8 +7,8 @@
 //! | `command_line.rt` | the words behind the program's name, or how the program ends without them |
 //! | `main.rt` | the program over files and standard output |
 //!
-//! It stands on `shacl_run`, `shx_outside` and `shx_term`. Start with `program.rt`: `main` only makes the
-//! adapters, and ends with the status's number.
+//! It stands on `shacl_run`, `command_words`, `shx_outside` and `shx_term`. Start with `program.rt`: `main`
+//! only makes the adapters, and ends with the status's number.
 #![tactic(auto)]
 
 ghost use Rattle.std.specs.Prelude.{◌≡◌};

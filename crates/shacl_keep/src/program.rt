@@ -1,7 +1,8 @@
 ghost use Rattle.shx_term.specs.Limits.{program_limits};
+ghost use Rattle.command_words.specs.Words.{command_words};
+ghost use Rattle.shacl_run.specs.Admits.{AdmitsFiles};
 ghost use Rattle.shacl_run.specs.Outside.{outside};
 ghost use Rattle.shacl_run.specs.RunClauses.{IsRun, PatternsAreAdmittedBy};
-ghost use Rattle.shacl_run.specs.Words.{command_words, AdmitsFiles};
 
 use shacl_run::{Status, run};
 use shx_outside::{Inputs, PatternHost, Sink};

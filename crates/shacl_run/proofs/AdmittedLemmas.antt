@@ -4,7 +4,7 @@ use Rattle.shx_outside.specs.declared.flags.Flags.{Flags}
 use Rattle.shx_term.specs.declared.limits.Limits.{Limits}
 use Rattle.shacl_run.specs.Readings.{PatternsAreAdmitted}
 use Rattle.shacl_run.specs.RunClauses.{PatternsAreAdmittedBy}
-use Rattle.shacl_run.specs.Words.{Asked}
+use Rattle.command_words.specs.Asked.{Asked}
 
 module _ (limits : Limits) (admits : Flags → List ℕ → Type 0)
     (all : (flags : Flags) (text : List ℕ) → admits flags text) where

@@ -1,12 +1,12 @@
--- The numbers of a triple whose terms are entered, how many terms that adds, and the graph with the triple.
-use Rattle.std.proofs.Common.{◌≡◌, ℕ, ◌<◌, ◌≤◌, ◌+◌, Bool, true, false, ◌||◌, List, [], ◌∷◌, ◌++◌, length}
+-- The numbers of a triple whose terms are entered, how many terms that adds, and the graph with the triple,
+-- or without it.
+use Rattle.std.proofs.Common.{◌≡◌, ℕ, ◌<◌, ◌+◌, Bool, true, false, ◌||◌, List, [], ◌∷◌, ◌++◌, length}
 use Rattle.std.proofs.Common.{Some}
 use Rattle.std.proofs.Common.{if◌then◌else◌, refl, sym, ap, ◌∙◌, subst, inl, inr, arith, length-append}
-use Rattle.std.proofs.Common.{lt-ltb}
-use Rattle.std.specs.Prelude.{Contains, ◌↔◌, ◌⊎◌, IsTrue, nat_le, nat_lt}
-use Rattle.std.specs.List.{list_any}
+use Rattle.std.proofs.Common.{true≢false}
+use Rattle.std.specs.Prelude.{Contains, ◌↔◌, IsTrue, filter, not}
+use Rattle.std.specs.List.{IsDistinct, list_any}
 use Rattle.std.specs.Cmp.{both_ways}
-use Rattle.std.proofs.lemmas.Bool.{or_left, or_right, le-leb}
 use Rattle.std.proofs.lemmas.List.Elements.{Contains-push, Contains-push_cases, Contains-append_left}
 use Rattle.std.proofs.lemmas.List.Folds.{list_any-append, list_any_at}
 use Rattle.std.proofs.lemmas.List.Quantifiers.{position-Some}
@@ -21,15 +21,15 @@ use Rattle.shx_term.specs.inner.TermOrderLaws.{same_term_exact}
 use Rattle.shx_term.specs.Pool.{is_held, with_term, with_terms}
 use Rattle.shx_term.specs.TripleTerms.{terms_of, number_in, numbered}
 use Rattle.shx_term.proofs.HeldLemmas.{with_terms_grow, number_stays}
-use Rattle.shx_term.proofs.MemberLemmas.{Contains-test, each_of_All}
-use Rattle.graph_view.specs.Graph.{Graph, IsKnownTriple, AllKnown, HasAlso}
+use Rattle.shx_term.proofs.MemberLemmas.{Contains-filter, Contains-from_filter, Contains-test, each_of_All}
+use Rattle.graph_view.specs.Graph.{Graph, IsKnownTriple, IsWithout, AllKnown, HasAlso}
 use Rattle.shx_term.specs.Members.{SameMembers}
 use Rattle.graph_view.specs.SameGraph.{SameGraph}
 use Rattle.shx_term.proofs.SetLemmas.{SameMembers-itself, SameMembers-sym}
-use Rattle.graph_view.proofs.SameGraphLemmas.{SameMembers-also}
+use Rattle.graph_view.proofs.SameGraphLemmas.{IsDistinct-filter, SameGraph-distinct, SameMembers-also}
+use Rattle.graph_view.proofs.SameGraphLemmas.{SameMembers-without}
 use Rattle.graph_view.proofs.ValidLemmas.{made_of}
-use Rattle.shacl_run.specs.declared.edit.Edited.TheVariants.{Changed, Refused}
-use Rattle.shacl_run.specs.Edits.{edited, graph_after, is_among, is_stated, terms_with}
+use Rattle.shacl_run.specs.Edits.{graph_with, graph_without, is_among, is_other, is_stated, terms_with}
 
 -- a list with one more at its end has one more
 pub HasAlso-push : (triples : List Triple) (t : Triple) → HasAlso triples (triples ++ t ∷ []) t
@@ -170,26 +170,13 @@ any_where_contained triples t found says =
     let test = Contains-test same_triple same_triple_equiv same_triple_exact triples t in
     both_ways found (list_any (same_triple t) triples) (λ h. test.1 (says.0 h)) (λ h. says.1 (test.0 h))
 
-pub edited_where_full : (most_triples most_terms : ℕ) (g : Graph) (t : TermTriple) → is_stated g t ≡ false
-    → (most_triples ≤ length g.triples) ⊎ (most_terms < length (terms_with g t))
-    → Refused ≡ edited most_triples most_terms g t
-edited_where_full most_triples most_terms g t absent full =
-    let past
-    : (nat_le most_triples (length g.triples) || nat_lt most_terms (length (terms_with g t))) ≡ true =
-    elim full [
-      | inl h ↦ or_left _ _ (le-leb most_triples (length g.triples) h)
-      | inr h ↦ or_right _ _ (lt-ltb most_terms (length (terms_with g t)) h)
-    ] in
-    rw (absent, past) refl
-
--- a graph with the terms of a triple that was not there, and then the triple, is the graph after the
--- insertion
+-- a graph with the terms of a triple that was not there, and then the triple, is the graph with it
 pub SameGraph-added : (g h : Graph) (t : TermTriple) (old : List Triple) (u : Triple) (new : Bool)
     → AllKnown g → is_stated g t ≡ false → h.terms ≡ terms_with g t → numbered h.terms t ≡ Some u
     → old ≡ g.triples
     → HasAlso old h.triples u → (IsTrue new ↔ (Contains old u → ⊥))
     → length h.triples ≡ length old + (if new then 1 else 0)
-    → SameGraph (graph_after Changed g t) h
+    → SameGraph (graph_with g t) h
 SameGraph-added g h t old u new known absent terms number same also is_new count =
     let none : Contains old u → ⊥ = λ c.
     absent_after g t h.terms u known absent terms number (subst (λ xs. Contains xs u) same c) in
@@ -205,3 +192,59 @@ SameGraph-added g h t old u new known absent terms number same also is_new count
       triples = SameMembers-sym held;
       count = length-append g.triples (u ∷ []) ∙ sym more;
     })
+
+-- ---- removals
+
+differs : (t u : Triple) → (u ≡ t → ⊥) → not (same_triple t u) ≡ true
+differs t u other =
+    elim (same_triple t u) as (λ b. same_triple t u ≡ b → not b ≡ true) [
+      | true ↦ λ h. absurd (other (sym (same_triple_exact t u h)))
+      | false ↦ λ _. refl
+    ] refl
+
+same_again : (t u : Triple) → not (same_triple t u) ≡ true → u ≡ t → ⊥
+same_again t u kept e =
+    let same : same_triple t u ≡ true = ap (same_triple t) e ∙ same_triple_equiv.refl t in
+    true≢false (sym kept ∙ ap not same)
+
+-- what a search for a triple found is whether the graph holds it
+pub stated_where_found : (g : Graph) (t : TermTriple) (u : Triple) (found : Bool)
+    → Some u ≡ numbered g.terms t → (IsTrue found ↔ Contains g.triples u) → is_stated g t ≡ found
+stated_where_found g t u found number says =
+    sym (any_where_contained g.triples u found says ∙ ap (is_among g.triples) number)
+
+-- a filter leaves the others
+others_left : (triples : List Triple) (t : Triple) → IsWithout triples (filter (is_other (Some t)) triples) t
+others_left triples t = record {
+  each = λ u. (
+    λ c.
+        let kept = Contains-from_filter (is_other (Some t)) triples u c in
+        (kept.0, same_again t u kept.1),
+    λ held. Contains-filter (is_other (Some t)) triples u held.0 (differs t u held.1),
+  );
+}
+
+-- a graph without the triple of these numbers is the graph without it
+pub SameGraph-removed : (g h : Graph) (t : TermTriple) (u : Triple) → numbered g.terms t ≡ Some u
+    → h.terms ≡ g.terms → IsWithout g.triples h.triples u → IsDistinct same_triple g.triples
+    → IsDistinct same_triple h.triples → SameGraph (graph_without g t) h
+SameGraph-removed g h t u number terms without distinct distinct' =
+    let left = filter (is_other (Some u)) g.triples in
+    rw number
+    (SameGraph-distinct (record { terms = g.terms; triples = left }) h (sym terms)
+    (SameMembers-without u (SameMembers-itself g.triples) (others_left g.triples u) without)
+    (IsDistinct-filter (is_other (Some u)) same_triple g.triples distinct) distinct')
+
+-- ... and where the triple was not there, the graph stays
+pub SameGraph-absent : (g h : Graph) (u : Triple) → h.terms ≡ g.terms → IsWithout g.triples h.triples u
+    → (Contains g.triples u → ⊥) → length h.triples ≡ length g.triples → SameGraph g h
+SameGraph-absent g h u terms without absent count = record {
+  terms = sym terms;
+  triples = record {
+    each = λ v. (
+      λ c. (without.each v).1 (c, λ e. absent (subst (Contains g.triples) e c)),
+      λ c. ((without.each v).0 c).0,
+    );
+  };
+  count = sym count;
+}

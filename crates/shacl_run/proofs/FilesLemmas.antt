@@ -1,37 +1,193 @@
 -- A run over files, by what was prepared.
-use Rattle.std.proofs.Common.{◌≡◌, ◌≢◌, ℕ, true, List, Option, Some, Err, Ok, inl}
-use Rattle.std.specs.Option.{option_map}
+use Rattle.std.proofs.Common.{◌≡◌, ◌≢◌, ℕ, true, List, Option, None, Some, Err, Ok, inl, refl, ap, subst}
+use Rattle.std.specs.Prelude.{All, IfSome}
+use Rattle.std.specs.Option.{option_and_then, option_map}
 use Rattle.shx_outside.specs.declared.role.Role.TheVariants.{Script}
 use Rattle.shx_outside.specs.Outside.{InputState, SinkState}
 use Rattle.shx_term.specs.declared.limits.Limits.{Limits}
 use Rattle.shx_term.specs.declared.term.Term.{Term}
 use Rattle.shx_term.specs.Pool.{Pooled}
+use Rattle.graph_view.specs.Graph.{Graph}
+use Rattle.shape_eval.specs.Plan.{Planned}
+use Rattle.text_input.specs.Lines.{script_lines}
+use Rattle.text_output.specs.declared.format.Format.{Format}
+use Rattle.ttl_meaning.specs.State.{State}
+use Rattle.script_lines.specs.declared.fault.LineFault.TheVariants.{Memory}
 use Rattle.report_write.specs.declared.answer.Answer.{Answer}
+use Rattle.command_words.specs.Asked.{Asked}
 use Rattle.shacl_run.specs.declared.status.Status.{Status}
 use Rattle.shacl_run.specs.declared.status.Status.TheVariants.{InputFault, Refused}
 use Rattle.shacl_run.specs.declared.unopened.Unopened.TheVariants.{Told}
 use Rattle.shacl_run.specs.declared.validation.Validation.{Validation}
 use Rattle.shacl_run.specs.inner.Ends.{Ends}
-use Rattle.shacl_run.specs.inner.Files.{RunsFiles, files_output}
-use Rattle.shacl_run.specs.inner.Prepared.{IsPrepared}
+use Rattle.shacl_run.specs.inner.Files.{FilesAreRead, RunsFiles, files_output}
+use Rattle.shacl_run.specs.inner.Prepared.{AreRead, IsPrepared}
+use Rattle.shacl_run.specs.inner.Serving.{HaveReadings, LinesAreReadAt}
 use Rattle.shacl_run.specs.inner.Validation.{IsValidation}
-use Rattle.shacl_run.specs.Readings.{Readings, ShapesAreRead}
-use Rattle.shacl_run.specs.Run.{opening_fed, refused, script_text, texts_opening, validation_output}
-use Rattle.shacl_run.specs.Run.Opening.{opens}
+use Rattle.shacl_run.specs.Manner.{LineReadings, Manner}
+use Rattle.shacl_run.specs.Names.{HasNamesOf}
+use Rattle.shacl_run.specs.Readings.{Readings, TextReading, States, Faulty, Long, ShapesAreRead, LinesAreRead}
+use Rattle.shacl_run.specs.Readings.{IsReadBehind, stated_graph}
+use Rattle.shacl_run.specs.Run.{Opening, manner_of, opening_fed, opening_output, refused, script_text}
+use Rattle.shacl_run.specs.Run.{texts_opening, validation_output, with_data, with_shapes, with_verdict}
+use Rattle.shacl_run.specs.Run.Opening.{ends, opens}
 use Rattle.shacl_run.specs.RunClauses.{StopsFed}
-use Rattle.shacl_run.specs.ScriptState.{ScriptState}
+use Rattle.shacl_run.specs.ScriptState.{ScriptState, start_state}
 use Rattle.shacl_run.specs.Status.{IsAnswered}
-use Rattle.shacl_run.specs.Words.{Asked}
+use Rattle.shacl_run.specs.Verdict.{Verdict, plans, stops}
 use Rattle.shacl_run.proofs.EndLemmas.{Ends-told}
 use Rattle.shacl_run.proofs.RunLemmas.{ByVerdict-then}
 use Rattle.shacl_run.proofs.ValidationRunLemmas.{ended_told, opened_told, opening_told}
 
+-- ---- what a state that is reported was opened from
+
+-- a plan, and a data text that states a document at whose end the state's names hold
+record OpensState (verdict : Verdict) (data_text : TextReading) (s : ScriptState) : Type 0 where
+  plan : Planned
+  planned : verdict ≡ plans plan
+  document : Graph
+  end : State
+  states : data_text ≡ States document end
+  names : end ≡ s.data_end
+
+same_opening : (m n : ℕ) (s t : ScriptState) → opens m s ≡ opens n t → s ≡ t
+same_opening m n s t is = cc
+
+not_opened : (n : ℕ) (s : ScriptState) (output : _) → ends output ≡ opens n s → ⊥
+not_opened n s output is = cc
+
+opens_data : (format : Format) (m n : ℕ) (plan : Planned) (reading : TextReading) (s : ScriptState)
+    → with_data format m plan reading ≡ opens n s → OpensState (plans plan) reading s
+opens_data format m n plan (States document end) s is =
+    let same = same_opening m n (start_state (stated_graph document) end plan) s is in
+    record {
+      plan = plan;
+      planned = refl;
+      document = document;
+      end = end;
+      states = refl;
+      names = ap (λ (s : ScriptState). s.data_end) same;
+    }
+opens_data format m n plan (Faulty code at) s is = absurd (not_opened n s _ is)
+opens_data format m n plan Long s is = absurd (not_opened n s _ is)
+
+module _ (format : Format) (readings : Readings) (n : ℕ) (s : ScriptState) where
+  opens_verdict : (g : Graph) (verdict : Verdict) (data_text : Option (List ℕ))
+      → IfSome (with_verdict format readings g verdict data_text) (λ opening. opening ≡ opens n s)
+      → (opening : Opening) → with_verdict format readings g verdict data_text ≡ Some opening
+      → OpensState verdict readings.data_text s
+  opens_verdict g (plans plan) None is opening some = absurd (cc)
+  opens_verdict g (plans plan) (Some text) is opening some =
+      opens_data format _ n plan readings.data_text s is
+  opens_verdict g (stops obstacle) data_text is opening some = absurd (not_opened n s _ is)
+
+  opens_shapes : (verdict : Verdict) (shapes : TextReading) (data_text : Option (List ℕ))
+      → IfSome (with_shapes format readings verdict shapes data_text) (λ opening. opening ≡ opens n s)
+      → (opening : Opening) → with_shapes format readings verdict shapes data_text ≡ Some opening
+      → OpensState verdict readings.data_text s
+  opens_shapes verdict (States document end) data_text =
+      opens_verdict (stated_graph document) verdict data_text
+  opens_shapes verdict (Faulty code at) data_text = λ is opening some. absurd (not_opened n s _ is)
+  opens_shapes verdict Long data_text = λ is opening some. absurd (not_opened n s _ is)
+
+  opens_texts : (verdict : Verdict) (shapes data_text : Option (List ℕ))
+      → IfSome (texts_opening format readings verdict shapes data_text) (λ opening. opening ≡ opens n s)
+      → (opening : Opening) → texts_opening format readings verdict shapes data_text ≡ Some opening
+      → OpensState verdict readings.data_text s
+  opens_texts verdict None data_text is opening some = absurd (cc)
+  opens_texts verdict (Some text) data_text is opening some =
+      opens_shapes verdict readings.shapes data_text is opening some
+
+-- so the lines of the script are read as those of the state
+lines_at : (limits : Limits) (readings : Readings) (format : Format) (verdict : Verdict) (s : ScriptState)
+    → OpensState verdict readings.data_text s → (script : Option (List ℕ))
+    → LinesAreRead limits readings verdict script
+    → LinesAreReadAt (manner_of limits readings format) s limits.script script
+lines_at limits readings format verdict s from None lines = tt
+lines_at limits readings format verdict s from (Some bytes) lines =
+    subst (λ (end : State). All (λ line. IsReadBehind limits end line (readings.lines line))
+    (script_lines limits.script bytes)) from.names
+    (lines from.document from.end from.plan from.planned from.states)
+
+-- what follows where the texts are told, and in any case
+by_opening : (told : Option Opening) (n : ℕ) (s : ScriptState) (P : Option Opening → Type 0)
+    → IfSome told (λ opening. opening ≡ opens n s) → P None
+    → ((opening : Opening) → told ≡ Some opening → P told) → P told
+by_opening None n s P is untold told = untold
+by_opening (Some opening) n s P is untold told = told opening refl
+
+-- ---- what was read
+
+-- lines that have readings are read so
+found_lines : (limits : Limits) (readings : Readings) (verdict : Verdict) (reading : TextReading)
+    → readings.data_text ≡ reading → (script : Option (List ℕ))
+    → ((document : Graph) (end : State) (plan : Planned) → verdict ≡ plans plan
+    → reading ≡ States document end → HaveReadings limits end limits.script script)
+    → (verdict' : Verdict) → verdict ≡ verdict'
+    → (lines : LineReadings) × LinesAreRead limits (record readings { lines = lines }) verdict script
+found_lines limits readings verdict reading same None have verdict' decided = (λ line. Err Memory, tt)
+found_lines limits readings verdict (States document end) same (Some bytes) have (plans plan) decided =
+    let (lines, all) = have document end plan decided refl in (
+      lines,
+      λ document' end' plan' is states.
+          let one : end ≡ end' = cc in
+          subst (λ (end : State). All (λ line. IsReadBehind limits end line (lines line))
+          (script_lines limits.script bytes)) one all,
+    )
+found_lines limits readings verdict (States document end) same (Some bytes) have (stops obstacle) decided =
+    (λ line. Err Memory, λ document' end' plan' is states. absurd (cc))
+found_lines limits readings verdict (Faulty code at) same (Some bytes) have verdict' decided =
+    (λ line. Err Memory, λ document' end' plan' is states. absurd (cc))
+found_lines limits readings verdict Long same (Some bytes) have verdict' decided =
+    (λ line. Err Memory, λ document' end' plan' is states. absurd (cc))
+
+module _ (limits : Limits) (asked : Asked) (texts : List ℕ → Option (List ℕ)) where
+  abbrev told_script : Option (List ℕ)
+  told_script = script_text texts asked.files.script_file
+
+  all_read : (prepared : _) (read : AreRead limits asked.base (texts asked.files.shapes_file)
+      (texts asked.files.data_file) prepared)
+      → ((document : Graph) (end : State) (plan : Planned) → read.verdict ≡ plans plan
+      → read.readings.data_text ≡ States document end
+      → HaveReadings limits end limits.script told_script)
+      → FilesAreRead limits asked texts
+  all_read prepared read have =
+      let (lines, are_read) =
+      found_lines limits read.readings read.verdict read.readings.data_text refl told_script have read.verdict
+      refl in
+      record {
+        readings = record read.readings { lines = lines };
+        shapes = read.shapes_read;
+        verdict = read.verdict;
+        judged = read.judged;
+        data_text = read.data_read;
+        lines = are_read;
+      }
+
+  -- where no validation was opened, no line is read
+  pub refused_read : (answer : Answer) (pool : Pooled) → AreRead limits asked.base
+      (texts asked.files.shapes_file) (texts asked.files.data_file) (Err (Told answer pool))
+      → FilesAreRead limits asked texts
+  refused_read answer pool read =
+      all_read (Err (Told answer pool)) read
+      (λ document end plan planned states. absurd (read.names_read document end plan planned states))
+
+  -- where one was, the lines behind its names have readings
+  pub opened_read : (validation : Validation) → AreRead limits asked.base
+      (texts asked.files.shapes_file) (texts asked.files.data_file) (Ok validation)
+      → ((end : State) → HasNamesOf end validation.document
+      → HaveReadings limits end limits.script told_script) → FilesAreRead limits asked texts
+  opened_read validation read have =
+      all_read (Ok validation) read
+      (λ document end plan planned states. have end (read.names_read document end states))
+
 -- ---- a run whose texts were refused
 
-pub refusal_ends : (terms : List Term) (answer : Answer) (status : Status) (faults faults' : ℕ)
-    (before after : SinkState) → Ends (Some (refused terms answer)) status faults faults' before after
+pub refusal_ends : (format : Format) (terms : List Term) (answer : Answer) (status : Status)
+    (faults faults' : ℕ) (before after : SinkState)
+    → Ends (Some (refused format terms answer)) status faults faults' before after
     → IsAnswered status → status ≡ Refused
-refusal_ends terms answer status faults faults' before after run_ends answered =
+refusal_ends format terms answer status faults faults' before after run_ends answered =
     (run_ends.whole answered).defined.0
 
 module _ (limits : Limits) (readings : Readings) (asked : Asked) (refusals refusals' : ℕ)
@@ -46,18 +202,22 @@ module _ (limits : Limits) (readings : Readings) (asked : Asked) (refusals refus
   abbrev script : Option (List ℕ)
   script = script_text inputs.text asked.files.script_file
 
+  abbrev manner : Manner
+  manner = manner_of limits readings asked.format
+
   pub files_refused : (answer : Answer) (pool : Pooled)
-      → IsPrepared limits asked.base shapes_text data_text refusals refusals' (Err (Told answer pool))
-      → Ends (Some (refused pool.terms answer)) status inputs.faults inputs'.faults before after
+      → IsPrepared limits asked.format asked.base shapes_text data_text refusals refusals'
+      (Err (Told answer pool))
+      → Ends (Some (refused asked.format pool.terms answer)) status inputs.faults inputs'.faults before after
       → status ≢ InputFault
       → RunsFiles limits readings asked refusals refusals' inputs inputs' before after status
   files_refused answer pool is run_ends other =
       inl (ByVerdict-then limits readings.shapes shapes_text refusals refusals' _ _
-      (λ verdict says data_right. record {
-        run_ends = Ends-told (files_output limits readings verdict asked.files inputs.text)
-            (Some (refused pool.terms answer)) status inputs.faults inputs'.faults before after
-            (ended_told limits script (texts_opening readings verdict shapes_text data_text)
-            (refused pool.terms answer) (says data_right)) run_ends;
+      (λ verdict says data_right lines. record {
+        run_ends = Ends-told (files_output limits readings verdict asked inputs.text)
+            (Some (refused asked.format pool.terms answer)) status inputs.faults inputs'.faults before after
+            (ended_told manner script (texts_opening asked.format readings verdict shapes_text data_text)
+            (refused asked.format pool.terms answer) (says data_right)) run_ends;
         script_stops = λ failed opened. absurd (other failed);
       })
       (is.due (λ cut. cut) readings right))
@@ -65,29 +225,43 @@ module _ (limits : Limits) (readings : Readings) (asked : Asked) (refusals refus
   -- ---- a run of a validation
 
   pub files_opened : (validation : Validation)
-      → IsPrepared limits asked.base shapes_text data_text refusals refusals' (Ok validation)
-      → ((s : ScriptState) → IsValidation limits s validation
-      → Ends (option_map (validation_output limits validation.passed_over s) script) status inputs.faults
+      → IsPrepared limits asked.format asked.base shapes_text data_text refusals refusals' (Ok validation)
+      → Ends None status inputs.faults inputs'.faults before after
+      → ((s : ScriptState) → IsValidation limits asked.format s validation
+      → LinesAreReadAt manner s limits.script script
+      → Ends (option_map (validation_output manner validation.passed_over s) script) status inputs.faults
       inputs'.faults before after)
-      → ((s : ScriptState) → IsValidation limits s validation → status ≡ InputFault
+      → ((s : ScriptState) → IsValidation limits asked.format s validation
+      → LinesAreReadAt manner s limits.script script → status ≡ InputFault
       → inputs'.opened Script ≡ true
-      → StopsFed (opening_fed limits (opens validation.passed_over s)) script (inputs'.rest Script) before
+      → StopsFed (opening_fed manner (opens validation.passed_over s)) script (inputs'.rest Script) before
       after)
       → RunsFiles limits readings asked refusals refusals' inputs inputs' before after status
-  files_opened validation is run_ends fed =
+  files_opened validation is causes run_ends fed =
       inl (ByVerdict-then limits readings.shapes shapes_text refusals refusals' _ _
-      (λ verdict says data_right.
+      (λ verdict says data_right lines.
       let opened = says data_right in
-      let due = option_map (validation_output limits validation.passed_over opened.state) script in
-      let opening = texts_opening readings verdict shapes_text data_text in
+      let s = opened.state in
+      let due = option_map (validation_output manner validation.passed_over s) script in
+      let opening = texts_opening asked.format readings verdict shapes_text data_text in
+      let read = λ (told : Opening) (some : opening ≡ Some told).
+      lines_at limits readings asked.format verdict s
+      (opens_texts asked.format readings validation.passed_over s verdict shapes_text data_text opened.due
+      told some) script lines in
       record {
-        run_ends = Ends-told (files_output limits readings verdict asked.files inputs.text) due status
+        run_ends = by_opening opening validation.passed_over s
+            (λ o. Ends (option_and_then (opening_output manner script) o) status inputs.faults inputs'.faults
+            before after) opened.due causes
+            (λ told some. Ends-told (files_output limits readings verdict asked inputs.text) due status
             inputs.faults inputs'.faults before after
-            (opened_told limits script opening validation.passed_over opened.state opened.due)
-            (run_ends opened.state opened.stored);
+            (opened_told manner script opening validation.passed_over s opened.due)
+            (run_ends s opened.stored (read told some)));
         script_stops = λ failed opens_script.
-            opening_told opening validation.passed_over opened.state
-            (λ opening. StopsFed (opening_fed limits opening) script (inputs'.rest Script) before after)
-            opened.due (fed opened.state opened.stored failed opens_script.opened_after);
+            by_opening opening validation.passed_over s
+            (λ o. IfSome o (λ opening. StopsFed (opening_fed manner opening) script (inputs'.rest Script)
+            before after)) opened.due tt
+            (λ told some. opening_told opening validation.passed_over s
+            (λ opening. StopsFed (opening_fed manner opening) script (inputs'.rest Script) before after)
+            opened.due (fed s opened.stored (read told some) failed opens_script.opened_after));
       })
       (is.due (λ cut. cut) readings right))

@@ -1,8 +1,12 @@
 pub mod AdmittedLemmas
+pub mod CompleteLemmas
+pub mod CountLemmas
 pub mod EditLemmas
 pub mod EndLemmas
 pub mod FilesLemmas
 pub mod JudgeLemmas
+pub mod LineReadingLemmas
+pub mod NamesLemmas
 pub mod PrepareLemmas
 pub mod ReadingLemmas
 pub mod ReplyLemmas

@@ -13,7 +13,9 @@ use Rattle.graph_view.specs.Graph.{Graph}
 use Rattle.shape_eval.specs.Plan.{Planned}
 use Rattle.shape_eval.specs.Planned.{plan_of}
 use Rattle.text_input.specs.TextRead.{ReadsWhole, IsTooLong}
+use Rattle.text_output.specs.declared.format.Format.{Format}
 use Rattle.ttl_meaning.specs.State.{State}
+use Rattle.script_lines.specs.declared.fault.LineFault.TheVariants.{Memory as no_memory}
 use Rattle.report_write.specs.declared.answer.Answer.{Answer}
 use Rattle.report_write.specs.declared.answer.Answer.TheVariants.{TooLong}
 use Rattle.shacl_run.specs.declared.judge.Accepted.{Accepted}
@@ -24,9 +26,11 @@ use Rattle.shacl_run.specs.declared.unopened.Unopened.TheVariants as unopened
 use Rattle.shacl_run.specs.declared.stop.Stop.{Stop}
 use Rattle.shacl_run.specs.declared.validation.Validation.{Validation}
 use Rattle.shacl_run.specs.inner.Judging.{Accepts, IsShapesRefusal, Opens, RefusesData, RefusesShapes}
-use Rattle.shacl_run.specs.inner.Prepared.{AreRead, IsPrepared}
+use Rattle.shacl_run.specs.inner.Prepared.{AreRead, HasNamesRead, IsPrepared}
 use Rattle.shacl_run.specs.inner.Refusal.{IsRefusalOf}
 use Rattle.shacl_run.specs.inner.Unopened.{beside}
+use Rattle.shacl_run.specs.Manner.{LineReadings}
+use Rattle.shacl_run.specs.Names.{HasNamesOf}
 use Rattle.shacl_run.specs.Readings.{Readings, TextReading, States, Faulty, Long, IsReadAs, stated_graph}
 use Rattle.shacl_run.specs.Readings.{AreJudged, ComeTo, DataIsRead, PatternsAreAdmitted, ShapesAreRead}
 use Rattle.shacl_run.specs.Run.{Opening, texts_opening, with_data, with_shapes, with_verdict, passed_over}
@@ -86,26 +90,27 @@ module _ (limits : Limits) (base : List ℕ) (reading : TextReading) (verdict : 
       (read_once limits base Shapes vocabulary text reading readings.shapes told right) come
 
   -- and so the texts come to what that reading does
-  opening_once : (P : Opening → Type 0) (shapes data_text : Option (List ℕ))
+  opening_once : (format : Format) (P : Opening → Type 0) (shapes data_text : Option (List ℕ))
       → IsToldAs limits base Shapes vocabulary shapes reading
       → ShapesAreRead limits base readings.shapes shapes
-      → (readings.shapes ≡ reading → IfSome (with_shapes readings verdict reading data_text) P)
-      → IfSome (texts_opening readings verdict shapes data_text) P
-  opening_once P None data_text told right holds = tt
-  opening_once P (Some text) data_text told right holds =
+      → (readings.shapes ≡ reading → IfSome (with_shapes format readings verdict reading data_text) P)
+      → IfSome (texts_opening format readings verdict shapes data_text) P
+  opening_once format P None data_text told right holds = tt
+  opening_once format P (Some text) data_text told right holds =
       let same : readings.shapes ≡ reading =
       read_once limits base Shapes vocabulary text readings.shapes reading right told in
       rw same (holds same)
 
 -- the data text is read so, behind the shapes of this document
-opening_data : (limits : Limits) (base : List ℕ) (readings : Readings) (P : Opening → Type 0)
-    (document : Graph) (end : State) (plan : Planned) (data_text : Option (List ℕ)) (other : TextReading)
+opening_data : (limits : Limits) (base : List ℕ) (readings : Readings) (format : Format)
+    (P : Opening → Type 0) (document : Graph) (end : State) (plan : Planned) (data_text : Option (List ℕ))
+    (other : TextReading)
     → readings.shapes ≡ States document end → DataIsRead limits base readings (plans plan) data_text
     → IsToldAs limits base Data document.terms data_text other
-    → P (with_data (passed_over (stated_graph document)) plan other)
-    → IfSome (with_verdict readings (stated_graph document) (plans plan) data_text) P
-opening_data limits base readings P document end plan None other same right told holds = tt
-opening_data limits base readings P document end plan (Some text) other same right told holds =
+    → P (with_data format (passed_over (stated_graph document)) plan other)
+    → IfSome (with_verdict format readings (stated_graph document) (plans plan) data_text) P
+opening_data limits base readings format P document end plan None other same right told holds = tt
+opening_data limits base readings format P document end plan (Some text) other same right told holds =
     let once : readings.data_text ≡ other =
     read_once limits base Data document.terms text readings.data_text other
     (right document end plan same refl) told in
@@ -119,9 +124,9 @@ record Refuses (limits : Limits) (reading : TextReading) (refusals refusals' : �
   obstacle : Obstacle
   come : ComeTo limits reading (stops obstacle)
   patterns : RoseWhere (refuses_pattern (stops obstacle)) refusals refusals'
-  told : (readings : Readings) (data_text : Option (List ℕ))
-      → IfSome (with_shapes readings (stops obstacle) reading data_text)
-      (λ opening. opening ≡ ends (refused terms answer))
+  told : (format : Format) (readings : Readings) (data_text : Option (List ℕ))
+      → IfSome (with_shapes format readings (stops obstacle) reading data_text)
+      (λ opening. opening ≡ ends (refused format terms answer))
 
 refuses : (limits : Limits) (reading : TextReading) (refusals refusals' : ℕ) (terms : List Term)
     (answer : Answer) → IsShapesRefusal limits reading refusals refusals' terms answer
@@ -130,26 +135,43 @@ refuses limits (States document end) refusals refusals' terms answer is = record
   obstacle = is.1.obstacle;
   come = is.1.judged;
   patterns = is.1.patterns;
-  told = λ readings data_text. rw (is.0, is.1.told) refl;
+  told = λ format readings data_text. rw (is.0, is.1.told) refl;
 }
 refuses limits (Faulty code at) refusals refusals' terms answer is = record {
   obstacle = recurs 0;
   come = tt;
   patterns = is.1;
-  told = λ readings data_text. rw is.0 refl;
+  told = λ format readings data_text. rw is.0 refl;
 }
 refuses limits Long refusals refusals' terms answer is = record {
   obstacle = recurs 0;
   come = tt;
   patterns = is.1;
-  told = λ readings data_text. rw is.0 refl;
+  told = λ format readings data_text. rw is.0 refl;
 }
 
-data_ends : (notices : ℕ) (plan : Planned) (other : TextReading) (terms : List Term) (answer : Answer)
-    → IsRefusalOf of_data other answer → with_data notices plan other ≡ ends (refused terms answer)
-data_ends notices plan (States document end) terms answer is = absurd is
-data_ends notices plan (Faulty code at) terms answer is = rw is refl
-data_ends notices plan Long terms answer is = rw is refl
+data_ends : (format : Format) (notices : ℕ) (plan : Planned) (other : TextReading) (terms : List Term)
+    (answer : Answer) → IsRefusalOf of_data other answer
+    → with_data format notices plan other ≡ ends (refused format terms answer)
+data_ends format notices plan (States document end) terms answer is = absurd is
+data_ends format notices plan (Faulty code at) terms answer is = rw is refl
+data_ends format notices plan Long terms answer is = rw is refl
+
+-- what is refused states no document
+data_refuses : (other : TextReading) (answer : Answer) → IsRefusalOf of_data other answer
+    → (document : Graph) (end : State) → other ≡ States document end → ⊥
+data_refuses (States document' end') answer refusal document end is = refusal
+data_refuses (Faulty code at) answer refusal document end is = absurd (cc)
+data_refuses Long answer refusal document end is = absurd (cc)
+
+-- no line is read so far
+abbrev no_lines : LineReadings
+no_lines line = Err no_memory
+
+-- a text states one document
+same_end : (other : TextReading) (document document' : Graph) (end end' : State)
+    → other ≡ States document end → other ≡ States document' end' → end ≡ end'
+same_end other document document' end end' is is' = cc
 
 -- without a plan the data text is not read
 unread : (limits : Limits) (base : List ℕ) (readings : Readings) (obstacle : Obstacle)
@@ -160,7 +182,8 @@ unread limits base readings obstacle (Some text) = λ document end plan same is.
 data_told : (limits : Limits) (base : List ℕ) (document : Graph) (end : State) (other : TextReading)
     (verdict : Verdict) (data_text : Option (List ℕ))
     → IsToldAs limits base Data document.terms data_text other
-    → DataIsRead limits base (record { shapes = States document end; data_text = other }) verdict data_text
+    → DataIsRead limits base (record { shapes = States document end; data_text = other; lines = no_lines })
+    verdict data_text
 data_told limits base document end other verdict None told = tt
 data_told limits base document end other verdict (Some text) told = λ document' end' plan same is.
     let one : document ≡ document' = cc in
@@ -168,9 +191,10 @@ data_told limits base document end other verdict (Some text) told = λ document'
 
 -- ---- what was prepared
 
-module _ (limits : Limits) (base : List ℕ) (shapes data_text : Option (List ℕ)) (refusals refusals' : ℕ) where
+module _ (limits : Limits) (format : Format) (base : List ℕ) (shapes data_text : Option (List ℕ))
+    (refusals refusals' : ℕ) where
   prepared_cut : (stop : Stop)
-      → IsPrepared limits base shapes data_text refusals refusals' (Err (unopened.Cut stop))
+      → IsPrepared limits format base shapes data_text refusals refusals' (Err (unopened.Cut stop))
   prepared_cut stop = record {
     due = λ uncut. absurd (uncut tt);
     read = λ uncut. absurd (uncut tt);
@@ -180,19 +204,19 @@ module _ (limits : Limits) (base : List ℕ) (shapes data_text : Option (List �
   shapes_refused : (reading : TextReading) (answer : Answer) (pool : Pooled)
       → IsToldAs limits base Shapes vocabulary shapes reading
       → IsShapesRefusal limits reading refusals refusals' pool.terms answer
-      → IsPrepared limits base shapes data_text refusals refusals' (Err (unopened.Told answer pool))
+      → IsPrepared limits format base shapes data_text refusals refusals' (Err (unopened.Told answer pool))
   shapes_refused reading answer pool told is =
       let found = refuses limits reading refusals refusals' pool.terms answer is in
       let verdict = stops found.obstacle in
-      let readings : Readings = record { shapes = reading; data_text = Long } in
+      let readings : Readings = record { shapes = reading; data_text = Long; lines = no_lines } in
       record {
         due = λ uncut readings right. record {
           verdict = verdict;
           judged = judged_once limits base reading verdict found.come readings shapes told right;
           patterns = found.patterns;
-          says = λ data_right. opening_once limits base reading verdict found.come readings
-              (λ opening. opening ≡ ends (refused pool.terms answer)) shapes data_text told right
-              (λ same. found.told readings data_text);
+          says = λ data_right. opening_once limits base reading verdict found.come readings format
+              (λ opening. opening ≡ ends (refused format pool.terms answer)) shapes data_text told right
+              (λ same. found.told format readings data_text);
         };
         read = λ uncut. record {
           readings = readings;
@@ -200,6 +224,7 @@ module _ (limits : Limits) (base : List ℕ) (shapes data_text : Option (List �
           verdict = verdict;
           judged = judged_told limits reading verdict found.come shapes;
           data_read = unread limits base readings found.obstacle data_text;
+          names_read = λ document end plan is. absurd (cc);
         };
       }
 
@@ -207,7 +232,7 @@ module _ (limits : Limits) (base : List ℕ) (shapes data_text : Option (List �
   pub prepared_long : refusals' ≡ refusals → (pool : Pooled) (refusal : Refusal)
       → ((answer : Answer) → refusal ≡ Text answer
       → (answer ≡ TooLong of_shapes) × IsTooLong shapes limits.text)
-      → IsPrepared limits base shapes data_text refusals refusals' (Err (beside pool refusal))
+      → IsPrepared limits format base shapes data_text refusals refusals' (Err (beside pool refusal))
   prepared_long quiet pool (Text answer) long =
       let (is, longer) = long answer refl in
       shapes_refused Long answer pool (told_long limits base Shapes vocabulary shapes longer) (is, quiet)
@@ -216,7 +241,7 @@ module _ (limits : Limits) (base : List ℕ) (shapes data_text : Option (List �
   module _ (rest : Option (List ℕ)) (bytes : List ℕ) (whole : ReadsWhole shapes rest limits.text bytes) where
     -- ... or makes no plan
     pub prepared_unplanned : (why : Unopened) → RefusesShapes limits base bytes refusals refusals' why
-        → IsPrepared limits base shapes data_text refusals refusals' (Err why)
+        → IsPrepared limits format base shapes data_text refusals refusals' (Err why)
     prepared_unplanned (unopened.Told answer pool) (reading, is, refuses) =
         shapes_refused reading answer pool
         (told_bytes limits base Shapes vocabulary shapes rest bytes reading whole is) refuses
@@ -236,47 +261,52 @@ module _ (limits : Limits) (base : List ℕ) (shapes data_text : Option (List �
       shapes_told : IsToldAs limits base Shapes vocabulary shapes reading
       shapes_told = told_bytes limits base Shapes vocabulary shapes rest bytes reading whole accepts.read
 
-      both_read : (other : TextReading) → IsToldAs limits base Data held data_text other
-          → AreRead limits base shapes data_text
-      both_read other told = record {
-        readings = record { shapes = reading; data_text = other };
+      both_read : (other : TextReading) (prepared : Result Validation Unopened)
+          → IsToldAs limits base Data held data_text other → HasNamesRead other (plans plan) prepared
+          → AreRead limits base shapes data_text prepared
+      both_read other prepared told names = record {
+        readings = record { shapes = reading; data_text = other; lines = no_lines };
         shapes_read = shapes_told;
         verdict = plans plan;
         judged = judged_told limits reading (plans plan) accepts.plan.judged shapes;
         data_read = data_told limits base accepts.document accepts.end other (plans plan) data_text told;
+        names_read = names;
       }
 
       both_decide : (other : TextReading) → IsToldAs limits base Data held data_text other
-          → (P : Opening → Type 0) → P (with_data (passed_over (stated_graph accepts.document)) plan other)
+          → (P : Opening → Type 0)
+          → P (with_data format (passed_over (stated_graph accepts.document)) plan other)
           → (readings : Readings) → ShapesAreRead limits base readings.shapes shapes
           → DataIsRead limits base readings (plans plan) data_text
-          → IfSome (texts_opening readings (plans plan) shapes data_text) P
+          → IfSome (texts_opening format readings (plans plan) shapes data_text) P
       both_decide other told P holds readings right data_right =
-          opening_once limits base reading (plans plan) accepts.plan.judged readings P shapes data_text
+          opening_once limits base reading (plans plan) accepts.plan.judged readings format P shapes data_text
           shapes_told right
-          (λ same. opening_data limits base readings P accepts.document accepts.end plan data_text other same
-          data_right told holds)
+          (λ same. opening_data limits base readings format P accepts.document accepts.end plan data_text
+          other same data_right told holds)
 
       data_refused : (other : TextReading) (answer : Answer) (pool : Pooled)
           → IsToldAs limits base Data held data_text other → IsRefusalOf of_data other answer
-          → IsPrepared limits base shapes data_text refusals refusals' (Err (unopened.Told answer pool))
+          → IsPrepared limits format base shapes data_text refusals refusals'
+          (Err (unopened.Told answer pool))
       data_refused other answer pool told is = record {
         due = λ uncut readings right. record {
           verdict = plans plan;
           judged = judged_once limits base reading (plans plan) accepts.plan.judged readings shapes
               shapes_told right;
           patterns = accepts.plan.patterns;
-          says = both_decide other told (λ opening. opening ≡ ends (refused pool.terms answer))
-              (data_ends (passed_over (stated_graph accepts.document)) plan other pool.terms answer is)
+          says = both_decide other told (λ opening. opening ≡ ends (refused format pool.terms answer))
+              (data_ends format (passed_over (stated_graph accepts.document)) plan other pool.terms answer is)
               readings right;
         };
-        read = λ uncut. both_read other told;
+        read = λ uncut. both_read other (Err (unopened.Told answer pool)) told
+            (λ document end plan same. data_refuses other answer is document end);
       }
 
       pub prepared_data_long : (pool : Pooled) (refusal : Refusal)
           → ((answer : Answer) → refusal ≡ Text answer
           → (answer ≡ TooLong of_data) × IsTooLong data_text limits.text)
-          → IsPrepared limits base shapes data_text refusals refusals' (Err (beside pool refusal))
+          → IsPrepared limits format base shapes data_text refusals refusals' (Err (beside pool refusal))
       prepared_data_long pool (Text answer) long =
           let (is, longer) = long answer refl in
           data_refused Long answer pool (told_long limits base Data held data_text longer) is
@@ -292,10 +322,10 @@ module _ (limits : Limits) (base : List ℕ) (shapes data_text : Option (List �
 
       pub prepared_opened : (rest' : Option (List ℕ)) (bytes' : List ℕ)
           (prepared : Result Validation Unopened) → ReadsWhole data_text rest' limits.text bytes'
-          → IfOk prepared (Opens limits base accepted.pool.terms plan bytes')
+          → IfOk prepared (Opens limits format base accepted.pool.terms plan bytes')
           → IfOk prepared (λ validation. validation.passed_over ≡ accepted.passed_over)
           → IfErr prepared (RefusesData limits base accepted.pool.terms bytes')
-          → IsPrepared limits base shapes data_text refusals refusals' prepared
+          → IsPrepared limits format base shapes data_text refusals refusals' prepared
       prepared_opened rest' bytes' (Ok validation) whole' (other, is, found) passed refuses =
           let told = data_bytes rest' bytes' other whole' is in
           let notices : passed_over (stated_graph accepts.document) ≡ validation.passed_over =
@@ -310,10 +340,13 @@ module _ (limits : Limits) (base : List ℕ) (shapes data_text : Option (List �
                 state = _;
                 stored = found.stored;
                 due = both_decide other told (λ opening. opening ≡ opens validation.passed_over _)
-                    (λ i. with_data (notices i) plan (found.is i)) readings right data_right;
+                    (λ i. with_data format (notices i) plan (found.is i)) readings right data_right;
               };
             };
-            read = λ uncut. both_read other told;
+            read = λ uncut. both_read other (Ok validation) told (λ document end same.
+                let one : found.end ≡ end =
+                same_end other found.document document found.end end found.is same in
+                subst (λ (end : State). HasNamesOf end validation.document) one found.stored.names_are);
           }
       prepared_opened rest' bytes' (Err (unopened.Told answer pool)) whole' found passed
           (other, is, refuses) =

@@ -20,7 +20,7 @@ use Rattle.shacl_run.specs.RunClauses.{IsOpenedBy, HasCauses, IsRead, ReadsToEnd
 use Rattle.shacl_run.specs.RunClauses.{ShapesAreReadBy}
 use Rattle.shacl_run.specs.Status.{IsAnswered, IsReported, IsCutShort}
 use Rattle.shacl_run.specs.Verdict.{Verdict}
-use Rattle.shacl_run.specs.Words.{command_words}
+use Rattle.command_words.specs.Words.{command_words}
 use Rattle.shacl_run.proofs.EndLemmas.{cut_or_answered}
 
 answered_or_cut : (status : Status) → IsAnswered status ⊎ IsCutShort status
@@ -143,8 +143,9 @@ module _ (limits : Limits) (words : List (List ℕ)) (before after : Outside) (s
       → Writes limits readings words before after status
   writes readings runs = elim runs [
     | inl by ↦ inl (ByVerdict-then limits readings.shapes _ before.patterns.faults after.patterns.faults _ _
-        (λ verdict says right.
-        writes_due readings verdict (says right).run_ends (says right).script_stops) by)
+        (λ verdict says right lines.
+        let serves = says right lines in
+        writes_due readings verdict serves.run_ends serves.script_stops) by)
     | inr early ↦ inr early
   ]
 

@@ -47,8 +47,7 @@ module _ (g : Graph) (known : AllKnown g) where
       subst (λ (q : Pair). q.node < length g.terms) (sym at.2)
       (each_of_All (λ id. id < length g.terms) (nodes n) all at.0 at.1)
 
-module _ (results_depend : ResultsDependOnReads) (targets_depend : TargetsDependOnReads)
-    (plan : Planned) (refers : RefersLower plan.shapes) (g h : Graph)
+module _ (targets_depend : TargetsDependOnReads) (plan : Planned) (g h : Graph)
     (plan_known : IsKnownPlan g.terms plan.shapes) (known : AllKnown g) (known' : AllKnown h)
     (same : SameGraph g h) where
   targets_same : (n : ℕ) → target_nodes plan.shapes g n ≡ target_nodes plan.shapes h n
@@ -58,12 +57,14 @@ module _ (results_depend : ResultsDependOnReads) (targets_depend : TargetsDepend
   pub pairs_same : pairs plan g ≡ pairs plan h
   pairs_same = λ i. flat_map (λ n. map (at_shape n) (targets_same n i)) plan.targeted
 
-  results_same : (p : Pair) → Contains (pairs plan g) p → results plan.shapes g p ≡ results plan.shapes h p
-  results_same p c =
-      (results_depend plan.shapes refers g h known known' plan_known p
-      (pair_known g known plan plan_known p c) (Agree-same g h same)).rows
+  module _ (results_depend : ResultsDependOnReads) (refers : RefersLower plan.shapes) where
+    results_same : (p : Pair) → Contains (pairs plan g) p
+        → results plan.shapes g p ≡ results plan.shapes h p
+    results_same p c =
+        (results_depend plan.shapes refers g h known known' plan_known p
+        (pair_known g known plan plan_known p c) (Agree-same g h same)).rows
 
-  pub report_same : report plan g ≡ report plan h
-  report_same =
-      flat_map_agree (results plan.shapes g) (results plan.shapes h) (pairs plan g) results_same
-      ∙ ap (flat_map (results plan.shapes h)) pairs_same
+    pub report_same : report plan g ≡ report plan h
+    report_same =
+        flat_map_agree (results plan.shapes g) (results plan.shapes h) (pairs plan g) results_same
+        ∙ ap (flat_map (results plan.shapes h)) pairs_same

@@ -182,11 +182,13 @@ plan_known_entered terms ts shapes known =
     let grown = with_terms_grow terms ts in
     subst (λ ts. IsKnownPlan ts shapes) (sym grown.1) (plan_known_more terms grown.0 shapes known)
 
--- and so by an edit
-pub plan_known_edited : (outcome : Edited) (g h : Graph) (t : TermTriple) (shapes : List PlanShape)
-    → SameGraph (graph_after outcome g t) h → IsKnownPlan g.terms shapes → IsKnownPlan h.terms shapes
-plan_known_edited Changed g h t shapes same known =
-    subst (λ ts. IsKnownPlan ts shapes) same.terms
-    (plan_known_entered g.terms (terms_of (t ∷ [])) shapes known)
-plan_known_edited Unchanged g h t shapes same known = subst (λ ts. IsKnownPlan ts shapes) same.terms known
-plan_known_edited Refused g h t shapes same known = subst (λ ts. IsKnownPlan ts shapes) same.terms known
+-- and so by an edit that would make a known graph of it
+pub plan_known_edited : (outcome : Edited) (g h k : Graph) (shapes : List PlanShape)
+    → SameGraph (graph_after outcome g h) k → IsKnownPlan g.terms shapes → IsKnownPlan h.terms shapes
+    → IsKnownPlan k.terms shapes
+plan_known_edited Changed g h k shapes same known known' =
+    subst (λ ts. IsKnownPlan ts shapes) same.terms known'
+plan_known_edited Unchanged g h k shapes same known known' =
+    subst (λ ts. IsKnownPlan ts shapes) same.terms known
+plan_known_edited (Refused code) g h k shapes same known known' =
+    subst (λ ts. IsKnownPlan ts shapes) same.terms known

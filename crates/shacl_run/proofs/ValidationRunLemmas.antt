@@ -1,15 +1,21 @@
 -- A report is written, and then its script is answered.
-use Rattle.std.proofs.Common.{◌≡◌, ℕ, false, nat_lt, List, [], ◌++◌, Option, None, Some, Ok, Err}
-use Rattle.std.proofs.Common.{refl, sym, ◌∙◌, subst, append-nil, arith}
+use Rattle.std.proofs.Common.{◌≡◌, ℕ, false, nat_lt, List, [], Option, None, Some, Result, Ok, Err}
+use Rattle.std.proofs.Common.{refl, sym, ap, ◌∙◌, subst, append-nil, arith}
 use Rattle.std.proofs.lemmas.Bool.Decides.{nat_tests}
-use Rattle.std.specs.Prelude.{IfSome}
+use Rattle.std.proofs.lemmas.List.Elements.{All-nil}
+use Rattle.std.proofs.lemmas.Option.{IfSome_then}
+use Rattle.std.specs.Prelude.{All, IfSome}
 use Rattle.std.specs.Option.{option_map, option_and_then}
 use Rattle.shx_outside.specs.Outside.{SinkState}
 use Rattle.shx_outside.proofs.ToldLemmas.{Grew-then}
 use Rattle.shx_term.specs.declared.limits.Limits.{Limits}
 use Rattle.text_input.specs.Lines.{script_lines}
 use Rattle.text_input.proofs.ScriptLineLemmas.{script_lines-none}
+use Rattle.text_output.specs.declared.format.Format.{Format}
 use Rattle.text_output.specs.Writes.{Put}
+use Rattle.ttl_meaning.specs.State.{State}
+use Rattle.script_lines.specs.declared.fault.LineFault.TheVariants as line_fault
+use Rattle.shacl_run.specs.declared.validation.Validation.{Validation}
 use Rattle.shacl_run.specs.declared.status.Status.{Status}
 use Rattle.shacl_run.specs.declared.status.Status.TheVariants.{InputFault}
 use Rattle.shacl_run.specs.declared.stop.Stop.{Stop}
@@ -17,81 +23,90 @@ use Rattle.shacl_run.specs.declared.stop.Stop.TheVariants.{Input, Write, Memory}
 use Rattle.shacl_run.specs.inner.Ends.{Ends}
 use Rattle.shape_eval.specs.Report.{report}
 use Rattle.shacl_run.specs.Run.{Output, Opening, behind, ending, output_from, validation_output, script_text}
-use Rattle.shacl_run.specs.Run.{fed_text, notice_text}
+use Rattle.shacl_run.specs.Run.{fed_text, first_text}
 use Rattle.shacl_run.specs.Run.{opening_output, opening_fed, status_of_rows}
+use Rattle.shacl_run.specs.Manner.{Manner}
+use Rattle.shacl_run.specs.Readings.{IsReadBehind}
 use Rattle.shacl_run.specs.Run.Opening.{ends, opens}
 use Rattle.shacl_run.specs.RunClauses.{StopsFed}
-use Rattle.shacl_run.specs.Script.{said_text, answers_text, state_after}
-use Rattle.shacl_run.specs.Script.Said.{reports}
+use Rattle.shacl_run.specs.Script.{answers_text, state_after}
 use Rattle.shacl_run.specs.ScriptState.{ScriptState}
-use Rattle.shacl_run.specs.inner.Serving.{due_at, Prefixed, PutsReport}
+use Rattle.shacl_run.specs.inner.Serving.{due_at, HaveReadings, Prefixed, PutsReport}
 use Rattle.shacl_run.specs.inner.Stops.{stop_status}
+use Rattle.shacl_run.specs.inner.Validation.{IsValidation}
 use Rattle.shacl_run.proofs.EndLemmas.{Ends-memory, Ends-short, Ends-whole}
 use Rattle.shacl_run.proofs.ServingLemmas.{rows_answered, rows_quiet}
 
-module _ (limits : Limits) (notices : ℕ) (s : ScriptState) where
-  -- what is said before the script: the notice, and then the report
-  abbrev said_first : List ℕ
-  said_first = notice_text notices ++ said_text s reports
+-- what is put in the format of a validation is put in that of the run
+pub puts_in : (manner : Manner) (s : ScriptState) (validation : Validation) (before after : SinkState)
+    (r : Result Status Stop) → IsValidation manner.limits manner.format s validation
+    → ((limits : Limits) (s : ScriptState) → IsValidation limits validation.format s validation
+    → PutsReport validation.format validation.passed_over s before after r)
+    → PutsReport manner.format validation.passed_over s before after r
+puts_in manner s validation before after r is puts =
+    let own : IsValidation manner.limits validation.format s validation =
+    subst (λ (format : Format). IsValidation manner.limits format s validation) (sym is.format_is) is in
+    subst (λ (format : Format). PutsReport format validation.passed_over s before after r) is.format_is
+    (puts manner.limits s own)
 
-  -- what is due is the report, and then what is due of the script
-  pub validation_prefixed : (script : Option (List ℕ))
-      → IfSome (option_map (validation_output limits notices s) script)
-      (Prefixed said_first (due_at limits s limits.script script))
-  validation_prefixed None = tt
-  validation_prefixed (Some bytes) =
-      record { rest = output_from limits s limits.script bytes; is = refl; whole = refl }
-
+module _ (format : Format) (notices : ℕ) (s : ScriptState) where
   -- the report was not put whole
-  pub Ends-unreported : (script : Option (List ℕ)) (stop : Stop) (faults : ℕ) (before after : SinkState)
-      → PutsReport notices s before after (Err stop)
-      → Ends (option_map (validation_output limits notices s) script) (stop_status stop) faults faults before
-      after
-  Ends-unreported script Input faults before after puts = absurd puts
-  Ends-unreported script Memory faults before after puts =
-      let due = option_map (validation_output limits notices s) script in
+  pub Ends-unreported : (due later : Option Output)
+      → IfSome due (Prefixed (first_text format notices s) later)
+      → (stop : Stop) (faults : ℕ) (before after : SinkState)
+      → PutsReport format notices s before after (Err stop)
+      → Ends due (stop_status stop) faults faults before after
+  Ends-unreported due later prefixed Input faults before after puts = absurd puts
+  Ends-unreported due later prefixed Memory faults before after puts =
       subst (λ sink. Ends due (stop_status Memory) faults faults before sink) (sym puts)
       (Ends-memory due faults faults before refl)
-  Ends-unreported None Write faults before after puts =
-      Ends-short None said_first faults faults before after tt refl puts
-  Ends-unreported (Some bytes) Write faults before after puts =
-      Ends-short (Some (validation_output limits notices s bytes)) said_first faults faults before after
-      ((output_from limits s limits.script bytes).text, refl) refl puts
+  Ends-unreported due later prefixed Write faults before after puts =
+      Ends-short due (first_text format notices s) faults faults before after
+      (IfSome_then due prefixed (λ told first. (first.rest.text, ap (λ (o : Output). o.text) first.whole)))
+      refl puts
 
   -- where no script is named, the report is all that is due
-  abbrev alone : Output
-  alone = record {
-    text = said_first;
-    status = status_of_rows (report s.plan s.graph);
-  }
+  abbrev pub alone : Output
+  alone = record { text = first_text format notices s; status = status_of_rows (report s.plan s.graph) }
 
-  validation_alone : s.refused ≡ false → validation_output limits notices s [] ≡ alone
+  pub Ends-unscripted : (due : Option Output) → IfSome due (λ told. told ≡ alone) → (status : Status)
+      (faults : ℕ) (before after : SinkState) → PutsReport format notices s before after (Ok status)
+      → Ends due status faults faults before after
+  Ends-unscripted due told status faults before after (put, is) =
+      subst (λ status. Ends due status faults faults before after) (sym is)
+      (Ends-whole due alone faults faults before after told (rows_answered (report s.plan s.graph)) refl put)
+
+module _ (manner : Manner) (notices : ℕ) (s : ScriptState) where
+  -- what is due is the report, and then what is due of the script
+  pub validation_prefixed : (script : Option (List ℕ))
+      → IfSome (option_map (validation_output manner notices s) script)
+      (Prefixed (first_text manner.format notices s) (due_at manner s manner.limits.script script))
+  validation_prefixed None = tt
+  validation_prefixed (Some bytes) =
+      record { rest = output_from manner s manner.limits.script bytes; is = refl; whole = refl }
+
+  -- of an empty script nothing is due
+  pub validation_alone : s.refused ≡ false
+      → validation_output manner notices s [] ≡ alone manner.format notices s
   validation_alone unrefused =
-      let none : script_lines limits.script [] ≡ [] = script_lines-none limits.script in
-      let within : nat_lt limits.script 0 ≡ false = grind (arith, nat_tests) in
-      (λ i. behind said_first (behind (answers_text limits s (none i))
-      (ending (within i) (state_after limits s (none i)))))
+      let limit = manner.limits.script in
+      let none : script_lines limit [] ≡ [] = script_lines-none limit in
+      let within : nat_lt limit 0 ≡ false = grind (arith, nat_tests) in
+      let first = first_text manner.format notices s in
+      (λ i. behind first (behind (answers_text manner s (none i))
+      (ending manner.format (within i) (state_after manner s (none i)))))
       ∙ (λ i. record {
-        text = append-nil said_first i;
+        text = append-nil first i;
         status = status_of_unrefused i;
       })
     where
-      status_of_unrefused : (ending false s).status ≡ status_of_rows (report s.plan s.graph)
+      status_of_unrefused : (ending manner.format false s).status ≡ status_of_rows (report s.plan s.graph)
       status_of_unrefused = rw unrefused refl
-
-  pub Ends-unscripted : (status : Status) (faults : ℕ) (before after : SinkState) → s.refused ≡ false
-      → PutsReport notices s before after (Ok status)
-      → Ends (option_map (validation_output limits notices s) (Some [])) status faults faults before after
-  Ends-unscripted status faults before after unrefused (put, is) =
-      let due = Some (validation_output limits notices s []) in
-      subst (λ status. Ends due status faults faults before after) (sym is)
-      (Ends-whole due alone faults faults before after (validation_alone unrefused)
-      (rows_answered (report s.plan s.graph)) refl put)
 
   -- what is fed after the report is fed behind it
   pub StopsFed-reported : (script left : Option (List ℕ)) (s0 s1 s2 : SinkState)
-      → Put s0 s1 said_first → StopsFed (fed_text limits s) script left s1 s2
-      → StopsFed (opening_fed limits (opens notices s)) script left s0 s2
+      → Put s0 s1 (first_text manner.format notices s) → StopsFed (fed_text manner s) script left s1 s2
+      → StopsFed (opening_fed manner (opens notices s)) script left s0 s2
   StopsFed-reported script left s0 s1 s2 put stops = record {
     told = λ bytes is.
         let (taken, rest, left_is, whole, grew) = stops.told bytes is in
@@ -99,15 +114,21 @@ module _ (limits : Limits) (notices : ℕ) (s : ScriptState) where
   }
 
 -- a report that was put, or not, is no fault of an input
-pub unreported_quiet : (notices : ℕ) (s : ScriptState) (stop : Stop) (before after : SinkState)
-    → PutsReport notices s before after (Err stop) → stop ≡ Input → ⊥
-unreported_quiet notices s Input before after puts is = puts
-unreported_quiet notices s Write before after puts is = absurd (cc)
-unreported_quiet notices s Memory before after puts is = absurd (cc)
+pub unreported_quiet : (format : Format) (notices : ℕ) (s : ScriptState) (stop : Stop)
+    (before after : SinkState) → PutsReport format notices s before after (Err stop) → stop ≡ Input → ⊥
+unreported_quiet format notices s Input before after puts is = puts
+unreported_quiet format notices s Write before after puts is = absurd (cc)
+unreported_quiet format notices s Memory before after puts is = absurd (cc)
 
 pub reported_quiet : (s : ScriptState) (status : Status) → status ≡ status_of_rows (report s.plan s.graph)
     → status ≡ InputFault → ⊥
 reported_quiet s status same is = rows_quiet (report s.plan s.graph) (sym same ∙ is)
+
+-- an empty script has no line that needs a reading
+pub readings_empty : (limits : Limits) (end : State) (budget : ℕ) → HaveReadings limits end budget (Some [])
+readings_empty limits end budget =
+    let P : List ℕ → Type 0 = λ line. IsReadBehind limits end line (Err line_fault.Memory) in
+    (λ line. Err line_fault.Memory, subst (All P) (sym (script_lines-none budget)) (All-nil P))
 
 -- a script is the same, where the texts are
 pub script_text-fixed : (texts texts' : List ℕ → Option (List ℕ)) (name : Option (List ℕ))
@@ -120,19 +141,19 @@ told_self None = tt
 told_self (Some output) = refl
 
 -- what the two texts come to decides what is due
-pub ended_told : (limits : Limits) (script : Option (List ℕ)) (opening : Option Opening) (output : Output)
+pub ended_told : (manner : Manner) (script : Option (List ℕ)) (opening : Option Opening) (output : Output)
     → IfSome opening (λ o. o ≡ ends output)
-    → IfSome (option_and_then (opening_output limits script) opening) (λ told. Some output ≡ Some told)
-ended_told limits script None output is = tt
-ended_told limits script (Some opening) output is = rw is refl
+    → IfSome (option_and_then (opening_output manner script) opening) (λ told. Some output ≡ Some told)
+ended_told manner script None output is = tt
+ended_told manner script (Some opening) output is = rw is refl
 
-pub opened_told : (limits : Limits) (script : Option (List ℕ)) (opening : Option Opening) (notices : ℕ)
+pub opened_told : (manner : Manner) (script : Option (List ℕ)) (opening : Option Opening) (notices : ℕ)
     (s : ScriptState) → IfSome opening (λ o. o ≡ opens notices s)
-    → IfSome (option_and_then (opening_output limits script) opening)
-    (λ told. option_map (validation_output limits notices s) script ≡ Some told)
-opened_told limits script None notices s is = tt
-opened_told limits script (Some opening) notices s is =
-    rw is (told_self (option_map (validation_output limits notices s) script))
+    → IfSome (option_and_then (opening_output manner script) opening)
+    (λ told. option_map (validation_output manner notices s) script ≡ Some told)
+opened_told manner script None notices s is = tt
+opened_told manner script (Some opening) notices s is =
+    rw is (told_self (option_map (validation_output manner notices s) script))
 
 pub opening_told : (opening : Option Opening) (notices : ℕ) (s : ScriptState) (P : Opening → Type 0)
     → IfSome opening (λ o. o ≡ opens notices s) → P (opens notices s) → IfSome opening P

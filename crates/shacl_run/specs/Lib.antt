@@ -1,4 +1,8 @@
+pub mod Admits
+pub mod Complete
 pub mod Edits
+pub mod Manner
+pub mod Names
 pub mod Outside
 pub mod Readings
 pub mod Run
@@ -7,5 +11,4 @@ pub mod Script
 pub mod ScriptState
 pub mod Status
 pub mod Verdict
-pub mod Words
 pub mod inner

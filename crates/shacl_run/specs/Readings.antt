@@ -1,5 +1,6 @@
--- What the two texts are read as: what each states over the numbers of its terms, or its fault.
-use Rattle.std.specs.Prelude.{◌≡◌, ℕ, ◌<◌, ◌≤◌, List, length, Option, None, Some, IfSome}
+-- What the texts are read as: what the shapes and the data state over the numbers of their terms, or their
+-- fault; and what each line of the script asks for, or its fault.
+use Rattle.std.specs.Prelude.{◌≡◌, ℕ, ◌<◌, ◌≤◌, All, List, length, Option, None, Some, IfSome, Result}
 use Rattle.shx_outside.specs.declared.flags.Flags.{Flags}
 use Rattle.shx_term.specs.declared.limits.Limits.{Limits}
 use Rattle.shx_term.specs.declared.term.Scope.{Scope}
@@ -10,11 +11,18 @@ use Rattle.shx_term.specs.Pool.{with_terms}
 use Rattle.shx_term.specs.TripleTerms.{terms_of, numbered_all}
 use Rattle.shx_term.specs.Vocabulary.{vocabulary}
 use Rattle.graph_view.specs.Graph.{Graph, AllKnown, graph_of}
+use Rattle.text_input.specs.Lines.{script_lines}
+use Rattle.ttl_meaning.specs.declared.document.Document.{Document}
 use Rattle.ttl_meaning.specs.State.{State}
 use Rattle.ttl_read.specs.Documents.{Setting, setting}
 use Rattle.ttl_read.specs.Unique.{IsOneDocument, IsOneFault}
 use Rattle.shape_decl.specs.Declarations.{declarations}
 use Rattle.shape_compile.specs.Patterns.{AreAdmitted}
+use Rattle.script_lines.specs.declared.command.Command.{Command}
+use Rattle.script_lines.specs.declared.fault.LineFault.{LineFault}
+use Rattle.script_lines.specs.Lines.{IsLineRead}
+use Rattle.shacl_run.specs.Manner.{LineReadings}
+use Rattle.shacl_run.specs.Names.{HasNamesOf}
 use Rattle.shacl_run.specs.Verdict.{Verdict, IsVerdict, plans}
 
 -- a document: its graph, and the state at its end, with the base, the prefixes and the blank nodes that hold
@@ -46,10 +54,11 @@ IsReadAs limits base scope held text (Faulty code at) =
     (length text ≤ limits.text) × IsOneFault (setting_of limits held text) scope base code at
 IsReadAs limits base scope held text Long = limits.text < length text
 
--- what the shapes text and the data text are read as
+-- what the shapes text and the data text are read as, and each line of the script
 pub record Readings : Type 0 where
   pub shapes : TextReading
   pub data_text : TextReading
+  pub lines : LineReadings
 
 -- the triples of a document, each once
 abbrev pub stated_graph : Graph → Graph
@@ -88,6 +97,30 @@ abbrev pub DataIsRead : Limits → List ℕ → Readings → Verdict → Option 
 DataIsRead limits base readings verdict text =
     IfSome text (λ bytes. (document : Graph) (end : State) (plan : _) → readings.shapes ≡ States document end
     → verdict ≡ plans plan → IsReadAs limits base Data document.terms bytes readings.data_text)
+
+-- ---- the script
+
+-- a line is read so behind a data text that ends like this
+pub record IsReadBehind (limits : Limits) (end : State) (line : List ℕ) (reading : Result Command LineFault)
+    : Type 0 where
+  pub document : Document
+  pub names : HasNamesOf end document
+  pub read : IsLineRead limits document line reading
+
+-- it has such a reading
+abbrev pub HasReading : Limits → State → List ℕ → Type 0
+HasReading limits end line =
+    (reading : Result Command LineFault) × IsReadBehind limits end line reading
+
+-- each line of the script is read so, where it is told, the shapes have a plan and the data text is a
+-- document
+abbrev pub LinesAreRead : Limits → Readings → Verdict → Option (List ℕ) → Type 0
+LinesAreRead limits readings verdict script =
+    IfSome script (λ bytes. (document : Graph) (end : State) (plan : _) → verdict ≡ plans plan
+    → readings.data_text ≡ States document end
+    → All (λ line. IsReadBehind limits end line (readings.lines line)) (script_lines limits.script bytes))
+
+-- ---- what is stored
 
 -- every number has a term, and there are no more triples than this
 pub record IsKnownDocument (most : ℕ) (document : Graph) : Type 0 where

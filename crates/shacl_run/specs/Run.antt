@@ -1,5 +1,5 @@
--- The whole output of a run: a function of the words, of the texts that are told, and of what the two
--- texts are read as.
+-- The whole output of a run: a function of the words, of the texts that are told, and of what they are read
+-- as.
 use Rattle.std.specs.Prelude.{ℕ, ◌==◌, Bool, true, false, nat_lt, List, [], ◌∷◌, ◌++◌, length}
 use Rattle.std.specs.Prelude.{Option, Some, None, if◌then◌else◌}
 use Rattle.std.specs.Option.{option_map, option_and_then}
@@ -14,15 +14,18 @@ use Rattle.shape_eval.specs.Report.{report}
 use Rattle.shx_term.specs.declared.vocabulary.TheConstants.{SH_SPARQL}
 use Rattle.shx_term.specs.declared.term.Term.{Term}
 use Rattle.text_input.specs.Lines.{script_lines, fed_lines}
+use Rattle.text_output.specs.declared.format.Format.{Format}
+use Rattle.text_output.specs.declared.format.Format.TheVariants.{Lines}
 use Rattle.report_write.specs.declared.answer.Answer.{Answer}
-use Rattle.report_write.specs.declared.answer.Answer.TheVariants.{TextFault, TooLong, NotBuilt, Notice}
+use Rattle.report_write.specs.declared.answer.Answer.TheVariants.{TextFault, TooLong, Notice}
 use Rattle.report_write.specs.declared.answer.Answer.TheVariants.{Usage}
 use Rattle.report_write.specs.Answers.{answer_text}
-use Rattle.text_output.specs.declared.format.Format.TheVariants.{Lines}
 use Rattle.shacl_run.specs.declared.status.Status.{Status}
 use Rattle.shacl_run.specs.declared.status.Status.TheVariants.{Conforms, Violates, BadWords, Refused}
 use Rattle.shacl_run.specs.declared.status.Status.TheVariants.{LinesRefused}
-use Rattle.shacl_run.specs.Words.{Asked, command_words}
+use Rattle.command_words.specs.Asked.{Asked}
+use Rattle.command_words.specs.Words.{command_words}
+use Rattle.shacl_run.specs.Manner.{Manner}
 use Rattle.shacl_run.specs.Readings.{Readings, TextReading, States, Faulty, Long, stated_graph}
 use Rattle.shacl_run.specs.Verdict.{Verdict, obstacle_answer, plans, stops}
 use Rattle.shacl_run.specs.Script.{said_text, answers_text, state_after}
@@ -34,13 +37,16 @@ pub record Output : Type 0 where
   pub text : List ℕ
   pub status : Status
 
--- an output that is one answer
-abbrev pub answer_output : List Term → Answer → Status → Output
-answer_output terms answer status = record { text = answer_text Lines terms answer; status = status }
+-- an output that is one answer, whose terms are these
+abbrev pub answer_output : Format → List Term → Answer → Status → Output
+answer_output format terms answer status = record {
+  text = answer_text format terms answer;
+  status = status;
+}
 
--- a text is refused, with this answer, whose terms are these
-abbrev pub refused : List Term → Answer → Output
-refused terms answer = answer_output terms answer Refused
+-- a text is refused, with this answer
+abbrev pub refused : Format → List Term → Answer → Output
+refused format terms answer = answer_output format terms answer Refused
 
 -- a text, and then an output
 abbrev pub behind : List ℕ → Output → Output
@@ -55,29 +61,33 @@ abbrev pub status_of_state : ScriptState → Status
 status_of_state s = if s.refused then LinesRefused else status_of_rows (report s.plan s.graph)
 
 -- how a run ends after the lines of its script: where it is longer than its limit, and where it is not
-abbrev pub ending : Bool → ScriptState → Output
-ending true s = refused s.graph.terms (NotBuilt Script)
-ending false s = record { text = []; status = status_of_state s }
+abbrev pub ending : Format → Bool → ScriptState → Output
+ending format true s = refused format s.graph.terms (TooLong Script)
+ending format false s = record { text = []; status = status_of_state s }
 
 -- what is due from a state on, of a script of which so many bytes more are allowed, and these are left
-abbrev pub output_from : Limits → ScriptState → ℕ → List ℕ → Output
-output_from limits s budget left =
-    behind (answers_text limits s (script_lines budget left))
-    (ending (nat_lt budget (length left)) (state_after limits s (script_lines budget left)))
+abbrev pub output_from : Manner → ScriptState → ℕ → List ℕ → Output
+output_from manner s budget left =
+    behind (answers_text manner s (script_lines budget left))
+    (ending manner.format (nat_lt budget (length left)) (state_after manner s (script_lines budget left)))
 
 -- the notice that so many triples were passed over: nothing where there are none
-abbrev pub notice_text : ℕ → List ℕ
-notice_text count = if count == 0 then [] else answer_text Lines [] (Notice count)
+abbrev pub notice_text : Format → ℕ → List ℕ
+notice_text format count = if count == 0 then [] else answer_text format [] (Notice count)
 
--- a notice, the report of a state, and then the answers to a script
-abbrev pub validation_output : Limits → ℕ → ScriptState → List ℕ → Output
-validation_output limits notices s script =
-    behind (notice_text notices ++ said_text s reports) (output_from limits s limits.script script)
+-- a notice, and the report of a state
+abbrev pub first_text : Format → ℕ → ScriptState → List ℕ
+first_text format notices s = notice_text format notices ++ said_text format s reports
+
+-- the same, and then the answers to a script
+abbrev pub validation_output : Manner → ℕ → ScriptState → List ℕ → Output
+validation_output manner notices s script =
+    behind (first_text manner.format notices s) (output_from manner s manner.limits.script script)
 
 -- what is written up to and with the answers to those lines whose line feed stands in these bytes of the
 -- script
-abbrev pub fed_text : Limits → ScriptState → List ℕ → List ℕ
-fed_text limits s taken = answers_text limits s (fed_lines taken)
+abbrev pub fed_text : Manner → ScriptState → List ℕ → List ℕ
+fed_text manner s taken = answers_text manner s (fed_lines taken)
 
 -- what the words and the two texts come to: an output; or a state that is reported, behind the notice that so
 -- many triples of the shapes text were passed over, and that then answers the script
@@ -90,34 +100,38 @@ abbrev pub passed_over : Graph → ℕ
 passed_over g = length (look g.triples (Predicate SH_SPARQL))
 
 -- the data text states a document, has a fault, or is too long; the terms play no part in these answers
-abbrev pub with_data : ℕ → Planned → TextReading → Opening
-with_data notices plan (States document end) = opens notices (start_state (stated_graph document) end plan)
-with_data notices plan (Faulty code at) = ends (refused [] (TextFault Data code at))
-with_data notices plan Long = ends (refused [] (TooLong Data))
+abbrev pub with_data : Format → ℕ → Planned → TextReading → Opening
+with_data format notices plan (States document end) =
+    opens notices (start_state (stated_graph document) end plan)
+with_data format notices plan (Faulty code at) = ends (refused format [] (TextFault Data code at))
+with_data format notices plan Long = ends (refused format [] (TooLong Data))
 
 -- the shapes have a plan, or another verdict; the data text is told or not
-abbrev pub with_verdict : Readings → Graph → Verdict → Option (List ℕ) → Option Opening
-with_verdict readings g (plans plan) data_text =
-    option_map (λ text. with_data (passed_over g) plan readings.data_text) data_text
-with_verdict readings g (stops obstacle) data_text = Some (ends (refused g.terms (obstacle_answer obstacle)))
+abbrev pub with_verdict : Format → Readings → Graph → Verdict → Option (List ℕ) → Option Opening
+with_verdict format readings g (plans plan) data_text =
+    option_map (λ text. with_data format (passed_over g) plan readings.data_text) data_text
+with_verdict format readings g (stops obstacle) data_text =
+    Some (ends (refused format g.terms (obstacle_answer obstacle)))
 
 -- the shapes text states a document, has a fault, or is too long
-abbrev pub with_shapes : Readings → Verdict → TextReading → Option (List ℕ) → Option Opening
-with_shapes readings verdict (States document end) data_text =
-    with_verdict readings (stated_graph document) verdict data_text
-with_shapes readings verdict (Faulty code at) data_text = Some (ends (refused [] (TextFault Shapes code at)))
-with_shapes readings verdict Long data_text = Some (ends (refused [] (TooLong Shapes)))
+abbrev pub with_shapes : Format → Readings → Verdict → TextReading → Option (List ℕ) → Option Opening
+with_shapes format readings verdict (States document end) data_text =
+    with_verdict format readings (stated_graph document) verdict data_text
+with_shapes format readings verdict (Faulty code at) data_text =
+    Some (ends (refused format [] (TextFault Shapes code at)))
+with_shapes format readings verdict Long data_text = Some (ends (refused format [] (TooLong Shapes)))
 
 -- what the two texts come to, where they are told
-abbrev pub texts_opening : Readings → Verdict → Option (List ℕ) → Option (List ℕ) → Option Opening
-texts_opening readings verdict shapes data_text =
-    option_and_then (λ text. with_shapes readings verdict readings.shapes data_text) shapes
+abbrev pub texts_opening : Format → Readings → Verdict → Option (List ℕ) → Option (List ℕ) → Option Opening
+texts_opening format readings verdict shapes data_text =
+    option_and_then (λ text. with_shapes format readings verdict readings.shapes data_text) shapes
 
--- the words name files or not
+-- the words name files or not; the usage is the same in every format
 abbrev pub files_opening : Readings → Verdict → Option Asked → (List ℕ → Option (List ℕ)) → Option Opening
-files_opening readings verdict None texts = Some (ends (answer_output [] Usage BadWords))
+files_opening readings verdict None texts = Some (ends (answer_output Lines [] Usage BadWords))
 files_opening readings verdict (Some words) texts =
-    texts_opening readings verdict (texts words.files.shapes_file) (texts words.files.data_file)
+    texts_opening words.format readings verdict (texts words.files.shapes_file)
+    (texts words.files.data_file)
 
 abbrev pub opening : Readings → Verdict → List (List ℕ) → (List ℕ → Option (List ℕ)) → Option Opening
 opening readings verdict words texts = files_opening readings verdict (command_words words) texts
@@ -131,21 +145,40 @@ abbrev pub words_script : (List ℕ → Option (List ℕ)) → Option Asked → 
 words_script texts None = Some []
 words_script texts (Some words) = script_text texts words.files.script_file
 
+-- ---- how answers are given
+
+abbrev pub manner_of : Limits → Readings → Format → Manner
+manner_of limits readings format = record {
+  limits = limits;
+  format = format;
+  lines = readings.lines;
+}
+
+abbrev pub words_format : Option Asked → Format
+words_format None = Lines
+words_format (Some words) = words.format
+
+abbrev pub words_manner : Limits → Readings → List (List ℕ) → Manner
+words_manner limits readings words = manner_of limits readings (words_format (command_words words))
+
+-- ---- the whole
+
 -- the output of what the texts came to, where the script is told that it depends on
-abbrev pub opening_output : Limits → Option (List ℕ) → Opening → Option Output
-opening_output limits script (ends output) = Some output
-opening_output limits script (opens notices s) = option_map (validation_output limits notices s) script
+abbrev pub opening_output : Manner → Option (List ℕ) → Opening → Option Output
+opening_output manner script (ends output) = Some output
+opening_output manner script (opens notices s) = option_map (validation_output manner notices s) script
 
 -- the output, where the texts are told that it depends on
 abbrev pub run_output : Limits → Readings → Verdict → List (List ℕ) → (List ℕ → Option (List ℕ))
     → Option Output
 run_output limits readings verdict words texts =
-    option_and_then (opening_output limits (words_script texts (command_words words)))
+    option_and_then
+    (opening_output (words_manner limits readings words) (words_script texts (command_words words)))
     (opening readings verdict words texts)
 
 -- what is written of it up to and with the answers to the lines whose line feed stands in these bytes of
 -- the script
-abbrev pub opening_fed : Limits → Opening → List ℕ → List ℕ
-opening_fed limits (ends output) taken = []
-opening_fed limits (opens notices s) taken =
-    notice_text notices ++ said_text s reports ++ fed_text limits s taken
+abbrev pub opening_fed : Manner → Opening → List ℕ → List ℕ
+opening_fed manner (ends output) taken = []
+opening_fed manner (opens notices s) taken =
+    first_text manner.format notices s ++ fed_text manner s taken

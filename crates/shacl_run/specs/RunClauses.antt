@@ -13,12 +13,13 @@ use Rattle.text_output.specs.Writes.{Put}
 use Rattle.shacl_run.specs.declared.status.Status.{Status}
 use Rattle.shacl_run.specs.declared.status.Status.TheVariants.{InputFault, WriteFault, Refused}
 use Rattle.shacl_run.specs.Outside.{Outside}
-use Rattle.shacl_run.specs.Run.{Output, run_output, opening, opening_fed, words_script}
+use Rattle.shacl_run.specs.Run.{Output, run_output, opening, opening_fed, words_manner, words_script}
 use Rattle.shacl_run.specs.Readings.{Readings, TextReading, AreJudged, DataIsRead, PatternsAreAdmitted}
-use Rattle.shacl_run.specs.Readings.{ShapesAreRead}
+use Rattle.shacl_run.specs.Readings.{LinesAreRead, ShapesAreRead}
 use Rattle.shacl_run.specs.Verdict.{Verdict, refuses_pattern}
 use Rattle.shacl_run.specs.Status.{IsAnswered, IsReported, IsCutShort}
-use Rattle.shacl_run.specs.Words.{Files, Asked, command_words}
+use Rattle.command_words.specs.Asked.{Asked, Files}
+use Rattle.command_words.specs.Words.{command_words}
 
 -- ---- what the texts are read as
 
@@ -39,6 +40,11 @@ DataIsReadBy limits readings verdict None texts = Unit {0}
 DataIsReadBy limits readings verdict (Some words) texts =
     DataIsRead limits words.base readings verdict (texts words.files.data_file)
 
+-- and each line of the script
+abbrev pub LinesAreReadBy : Limits → Readings → Verdict → Option Asked → (List ℕ → Option (List ℕ)) → Type 0
+LinesAreReadBy limits readings verdict asked texts =
+    LinesAreRead limits readings verdict (words_script texts asked)
+
 -- the texts have a reading, and the shapes a verdict
 pub record IsRead (limits : Limits) (words : List (List ℕ)) (texts : List ℕ → Option (List ℕ)) : Type 0 where
   pub readings : Readings
@@ -46,6 +52,7 @@ pub record IsRead (limits : Limits) (words : List (List ℕ)) (texts : List ℕ 
   pub verdict : Verdict
   pub judged : AreJudged limits readings.shapes (words_shapes texts (command_words words)) verdict
   pub data_text : DataIsReadBy limits readings verdict (command_words words) texts
+  pub lines : LinesAreReadBy limits readings verdict (command_words words) texts
 
 -- each pattern of the shapes text that the words name may be built
 abbrev pub PatternsAreAdmittedBy : Limits → Option Asked → (List ℕ → Option (List ℕ))
@@ -88,7 +95,8 @@ abbrev pub ScriptStops : Limits → Readings → Verdict → List (List ℕ) →
     → SinkState → Type 0
 ScriptStops limits readings verdict words inputs inputs' before after =
     IfSome (opening readings verdict words inputs.text) (λ opening.
-    StopsFed (opening_fed limits opening) (words_script inputs.text (command_words words))
+    StopsFed (opening_fed (words_manner limits readings words) opening)
+    (words_script inputs.text (command_words words))
     (inputs'.rest Script) before after)
 
 -- a role that was not opened before and is opened now
@@ -132,6 +140,7 @@ Writes limits readings words before after status =
     ByVerdict limits readings.shapes (words_shapes before.inputs.text (command_words words))
     before.patterns.faults after.patterns.faults (λ verdict.
     DataIsReadBy limits readings verdict (command_words words) before.inputs.text
+    → LinesAreReadBy limits readings verdict (command_words words) before.inputs.text
     → WritesDue limits readings verdict words before after status)
     ⊎ StopsEarly before.inputs.opened after.inputs.opened before.sink after.sink status
 

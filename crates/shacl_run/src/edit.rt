@@ -1,6 +1,8 @@
 //! Edits of the data graph.
-ghost use Rattle.std.specs.Prelude.{◌≡◌, ◌<◌, ◌≤◌, ◌∷◌, [], false, length, position, Some, nat_le, IfOk};
-ghost use Rattle.std.specs.Prelude.{OnOk};
+ghost use Rattle.std.specs.Prelude.{◌≡◌, ◌≢◌, ◌<◌, ◌≤◌, ◌∷◌, [], false, length, position, Some, nat_le};
+ghost use Rattle.std.specs.Prelude.{IfOk, OnOk};
+ghost use Rattle.std.specs.List.{IsDistinct};
+ghost use Rattle.shx_term.specs.Triple.{same_triple};
 ghost use Rattle.shx_term.specs.TermOrder.{same_term};
 ghost use Rattle.shx_term.specs.Pool.{with_term, with_terms};
 ghost use Rattle.shx_term.specs.TripleTerms.{terms_of, numbered};
@@ -8,30 +10,34 @@ ghost use Rattle.graph_view.specs.Graph.{AllKnown};
 ghost use Rattle.graph_view.specs.Valid.{IsValidView};
 ghost use Rattle.shx_term.specs.ValidTriples.{IsValidTermTriple};
 ghost use Rattle.graph_view.specs.SameGraph.{SameGraph};
-ghost use Rattle.shacl_run.specs.declared.edit.Edited.TheVariants.{Changed};
-ghost use Rattle.shacl_run.specs.Edits.{edited, graph_after, is_stated, terms_with};
+ghost use Rattle.shacl_run.specs.Edits.{graph_after, graph_with, graph_without, inserted, is_stated};
+ghost use Rattle.shacl_run.specs.Edits.{removed, terms_with};
 
 use graph_view::{GraphEdit, GraphView, StoreFault};
+use shx_term::fault_codes::{GRAPH_TERMS, GRAPH_TRIPLES};
 use shx_term::{Id, Memory, Pool, PoolFault, Term, TermTriple, Triple};
 use std::alloc::AllocError;
 
-/// What comes of an insertion.
+/// What comes of an edit.
 #[derive(Clone, Copy, Debug, PartialEq, Eq)]
 pub enum Edited {
     Changed,
-    /// The triple was there.
+    /// The triple was there, or what was to be removed was not.
     Unchanged,
-    /// A limit would be passed; nothing changed.
-    Refused,
+    /// A limit would be passed, which this code tells; nothing changed.
+    Refused { code: u32 },
 }
 
-/// Inserts a triple, unless it is there or a limit would be passed; then nothing changes. After want of
-/// memory the graph may hold some of the triple's terms. It takes a few look-ups, and no walk of the graph.
+/// Inserts a triple, unless it is there or a limit would be passed, first that of triples; then nothing
+/// changes. After want of memory the graph may hold some of the triple's terms. It takes a few look-ups, and
+/// no walk of the graph.
 pub fn insert<E: GraphEdit>(graph: &mut E, stated: &TermTriple) -> Result<Edited, Memory>
     ensures edited { IfOk result (λ outcome. outcome
-        ≡ edited (E.triple_limit graph.old) (E.term_limit graph.old) (E.graph graph.old) stated.now) }
-    ensures after { IfOk result (λ outcome.
-        SameGraph (graph_after outcome (E.graph graph.old) stated.now) (E.graph graph.new)) }
+        ≡ inserted (E.triple_limit graph.old) (E.term_limit graph.old) (E.graph graph.old) stated.now) }
+    ensures after { IfOk result (λ outcome. SameGraph
+        (graph_after outcome (E.graph graph.old) (graph_with (E.graph graph.old) stated.now))
+        (E.graph graph.new)) }
+    ensures kept { IfOk result (λ outcome. outcome ≢ Edited.Changed → graph.new ≡ graph.old) }
     ensures valid { IsValidView (E.graph graph.old) → IsValidTermTriple stated.now
         → IfOk result (λ outcome. IsValidView (E.graph graph.new)) }
     ensures term_limit { E.term_limit graph.new ≡ E.term_limit graph.old }
@@ -40,11 +46,40 @@ pub fn insert<E: GraphEdit>(graph: &mut E, stated: &TermTriple) -> Result<Edited
     if holds(graph, stated) {
         return Ok(Edited::Unchanged);
     }
-    if graph.len() >= graph.limit() || !has_room(graph.pool(), stated) {
-        return Ok(Edited::Refused);
+    if graph.len() >= graph.limit() {
+        return Ok(Edited::Refused {
+            code: GRAPH_TRIPLES,
+        });
+    }
+    if !has_room(graph.pool(), stated) {
+        return Ok(Edited::Refused { code: GRAPH_TERMS });
     }
     add(graph, stated)?;
     Ok(Edited::Changed)
+}
+
+/// Removes a triple, where it is there; its terms stay. It takes no memory, and no walk of the graph.
+pub fn remove<E: GraphEdit>(graph: &mut E, stated: &TermTriple) -> Edited
+    ensures edited { result ≡ removed (E.graph graph.old) stated.now }
+    ensures after { SameGraph
+        (graph_after result (E.graph graph.old) (graph_without (E.graph graph.old) stated.now))
+        (E.graph graph.new) }
+    ensures distinct { IsDistinct same_triple (E.graph graph.old).triples }
+    ensures valid { IsValidView (E.graph graph.old) → IsValidView (E.graph graph.new) }
+    ensures term_limit { E.term_limit graph.new ≡ E.term_limit graph.old }
+    ensures triple_limit { E.triple_limit graph.new ≡ E.triple_limit graph.old }
+{
+    // Its triples are distinct, before and after.
+    let _ = graph.len();
+    let Some(triple) = find(graph.pool(), stated) else {
+        return Edited::Unchanged;
+    };
+    if graph.remove(&triple) {
+        let _ = graph.len();
+        Edited::Changed
+    } else {
+        Edited::Unchanged
+    }
 }
 
 // Whether the graph holds the triple.
@@ -88,7 +123,7 @@ fn add<E: GraphEdit>(graph: &mut E, stated: &TermTriple) -> Result<(), Memory>
     requires term_room { length (terms_with (E.graph graph.old) stated.now) ≤ E.term_limit graph.old }
     requires triple_room { length (E.graph graph.old).triples < E.triple_limit graph.old }
     ensures after { OnOk result
-        (SameGraph (graph_after Changed (E.graph graph.old) stated.now) (E.graph graph.new)) }
+        (SameGraph (graph_with (E.graph graph.old) stated.now) (E.graph graph.new)) }
     ensures valid { IsValidView (E.graph graph.old) → IsValidTermTriple stated.now
         → OnOk result (IsValidView (E.graph graph.new)) }
     ensures term_limit { E.term_limit graph.new ≡ E.term_limit graph.old }

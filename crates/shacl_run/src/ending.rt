@@ -8,19 +8,23 @@ ghost use Rattle.shacl_run.specs.inner.Stops.{end_status};
 use crate::status::Status;
 use crate::stop::Stop;
 use comp_core::ResultRow;
-use report_write::{Answer, write_answer};
+use report_write::{Answer, Format, write_answer};
 use shx_outside::Sink;
 use shx_term::Pool;
-use text_output::Format;
 
 /// Writes the answer by which a text is refused, with which the run ends.
-pub fn refuse<O: Sink>(answer: &Answer, pool: &Pool, out: &mut O) -> Result<Status, Stop>
-    ensures ends { (faults : ℕ) → Ends (Some (refused pool.now.terms answer.now)) (end_status result)
+pub fn refuse<O: Sink>(
+    answer: &Answer,
+    pool: &Pool,
+    format: Format,
+    out: &mut O,
+) -> Result<Status, Stop>
+    ensures ends { (faults : ℕ) → Ends (Some (refused format pool.now.terms answer.now)) (end_status result)
         faults faults (O.state out.old) (O.state out.new) }
     ensures unreported { IsReported (end_status result) → ⊥ }
     ensures output { end_status result ≡ Status.InputFault → ⊥ }
 {
-    write_answer(answer, pool, Format::Lines, out)?;
+    write_answer(answer, pool, format, out)?;
     Ok(Status::Refused)
 }
 

@@ -2,6 +2,7 @@
 ghost use Rattle.std.specs.Prelude.{◌≡◌, ◌<◌, ◌++◌, flat_map, length, map, IfOk, OnOk};
 ghost use Rattle.graph_view.specs.Valid.{IsValidView};
 ghost use Rattle.shx_term.specs.declared.limits.Limits.{Limits as LimitsOf};
+ghost use Rattle.text_output.specs.declared.format.Format.{Format};
 ghost use Rattle.shape_eval.specs.Plan.{IsKnownPlan};
 ghost use Rattle.shape_eval.specs.Planned.{plan_of};
 ghost use Rattle.shape_eval.specs.Report.{at_shape, report};
@@ -26,7 +27,8 @@ pub fn report_of<L: Ledger>(
     steps: &mut Steps<L>,
 ) -> Result<Vec<ResultRow>, Memory>
     requires { Stands validation.now }
-    ensures { (limits : LimitsOf) (s : ScriptState) → IsValidation limits s validation.now
+    ensures { (limits : LimitsOf) (format : Format) (s : ScriptState)
+        → IsValidation limits format s validation.now
         → IfOk result (λ rows. rows.items ≡ report s.plan s.graph) }
 {
     // The graph is stored in an order of its own, which makes no difference.

@@ -4,24 +4,27 @@
 //! | file | what it holds |
 //! |---|---|
 //! | `top.rt` | `run`: the whole run, with its theorem |
+//! | `complete.rt` | laws: what follows where nothing outside fails |
 //! | `status.rt`, `stop.rt`, `ending.rt` | how a run ends, and why it is cut short |
-//! | `words.rt` | the words of the command line: which files and which base they ask for |
 //! | `prepare.rt`, `unopened.rt` | from the texts to a validation, or to why there is none |
 //! | `judge.rt`, `obstacle.rt` | from the shapes text to a plan, or to what stands in its way |
 //! | `validation.rt` | `Validation`: the plan, the data graph, and how far the script has come |
 //! | `open_validation.rt` | from the data text to a validation |
 //! | `evaluation.rt` | all results of a graph |
 //! | `run_validation.rt`, `serve.rt` | the report of a validation, and its script |
-//! | `take_line.rt`, `reply.rt`, `edit.rt` | one line of a script: taken, done, answered |
+//! | `take_line.rt`, `reply.rt` | one line of a script: taken, done, answered |
+//! | `edit.rt`, `count.rt` | insertions and removals; counts |
 //! | `turtle.rt`, `refusal.rt` | what a text of Turtle states; why a text is not taken |
 //! | `stored_graph.rt` | the form in which graphs are stored |
 //!
 //! It stands on `ttl_read` and `text_input` for texts, on `shape_check` and `shape_compile` for shapes, on
-//! `triple_store` and `shape_eval` for results, and on `report_write` and `edit_script`. Start with `top.rt`;
-//! `specs/RunClauses.antt` says what a run promises, `specs/Run.antt` what it writes, and
-//! `specs/Verdict.antt` what shapes come to.
+//! `triple_store` and `shape_eval` for results, and on `report_write`, `script_lines` and `command_words`.
+//! Start with `top.rt`; `specs/RunClauses.antt` says what a run promises, `specs/Run.antt` what it writes,
+//! and `specs/Verdict.antt` what shapes come to.
 #![tactic(auto)]
 
+mod complete;
+mod count;
 mod edit;
 mod ending;
 mod evaluation;
@@ -41,7 +44,10 @@ mod top;
 mod turtle;
 mod unopened;
 mod validation;
-mod words;
 
+pub use complete::{
+    a_roomy_sink_never_fails, honest_inputs_never_fail, no_pattern_is_never_refused,
+    runs_are_complete,
+};
 pub use status::Status;
 pub use top::run;

@@ -1,5 +1,5 @@
 //! From the data text to a validation.
-ghost use Rattle.std.specs.Prelude.{◌≡◌, ◌≤◌, false, length, IfOk, IfErr};
+ghost use Rattle.std.specs.Prelude.{◌≡◌, ◌<◌, ◌≤◌, ◌^◌, false, length, IfOk, IfErr};
 ghost use Rattle.iri_resolve.specs.Resolution.{IsAbsolute};
 ghost use Rattle.graph_view.specs.Graph.{graph_of};
 ghost use Rattle.graph_view.specs.SameGraph.{SameGraph};
@@ -10,7 +10,8 @@ ghost use Rattle.shape_eval.specs.Plan.{IsKnownPlan, RefersLower};
 ghost use Rattle.shape_eval.specs.Planned.{plan_of};
 ghost use Rattle.shacl_run.specs.inner.Judging.{Opens, RefusesData};
 ghost use Rattle.shacl_run.specs.inner.Unopened.{IsStill};
-ghost use Rattle.shacl_run.specs.inner.Validation.{HasNamesOf, HasNoWide, IsNew, Stands};
+ghost use Rattle.shacl_run.specs.inner.Validation.{HasNoWide, IsNew, Stands};
+ghost use Rattle.shacl_run.specs.Names.{HasNamesOf};
 ghost use Rattle.shacl_run.specs.Readings.{IsKnownDocument};
 
 use crate::judge::Accepted;
@@ -18,9 +19,9 @@ use crate::stored_graph::StoredGraph;
 use crate::turtle::read_turtle;
 use crate::unopened::Unopened;
 use crate::validation::Validation;
-use shape_eval::Plan;
-use shx_term::{IriText, Limits, Memory, Pool, Scope};
+use shx_term::{IriText, Limits, Memory, Scope};
 use std::alloc::Global;
+use text_output::Format;
 use ttl_read::Document;
 
 /// A validation over the graph of a data text, before the first line of the script, or why the text is
@@ -30,6 +31,7 @@ pub fn open_validation(
     accepted: Accepted,
     text: &[u8],
     base: &IriText,
+    format: Format,
     limits: &Limits,
 ) -> Result<Validation, Unopened>
     requires absolute { IsAbsolute base.now }
@@ -38,58 +40,63 @@ pub fn open_validation(
     requires within { length text.now ≤ limits.now.text }
     requires known { IsKnownPlan accepted.pool.terms (plan_of accepted.plan).shapes }
     requires refers { RefersLower (plan_of accepted.plan).shapes }
+    requires few { length (plan_of accepted.plan).targeted < 2 ^ 32 }
     requires no_wide { HasNoWide accepted.pool.terms }
     ensures opened { IfOk result
-        (Opens limits.now base.now accepted.pool.terms (plan_of accepted.plan) text.now) }
+        (Opens limits.now format base.now accepted.pool.terms (plan_of accepted.plan) text.now) }
     ensures refused { IfErr result (RefusesData limits.now base.now accepted.pool.terms text.now) }
     ensures passed { IfOk result (λ validation. validation.passed_over ≡ accepted.passed_over) }
     ensures stands { IfOk result Stands }
     ensures fresh { IfOk result IsNew }
     ensures cut { IfErr result IsStill }
 {
-    let Accepted {
-        mut pool,
-        plan,
-        passed_over,
-    } = accepted;
-    let document = match read_turtle(alloc, text, base, Scope::Data, limits, &mut pool) {
+    let mut accepted = accepted;
+    let document = match read_turtle(alloc, text, base, Scope::Data, limits, &mut accepted.pool) {
         Ok(document) => document,
-        Err(refusal) => return Err(Unopened::of(refusal, pool)),
+        Err(refusal) => return Err(Unopened::of(refusal, accepted.pool)),
     };
-    Ok(validation_over(alloc, pool, plan, passed_over, document, limits.triples)?)
+    Ok(validation_over(alloc, accepted, document, format, limits.triples)?)
 }
 
 // A validation over the graph of a document, of which only the names are kept.
 fn validation_over(
     alloc: Global,
-    pool: Pool,
-    plan: Plan,
-    passed_over: u64,
+    accepted: Accepted,
     mut document: Document,
+    format: Format,
     limit: u64,
 ) -> Result<Validation, Memory>
-    requires known { IsKnownDocument limit (record { terms = pool.terms; triples = document.triples.items }) }
-    requires valid { IsValidView (record { terms = pool.terms; triples = document.triples.items }) }
-    requires plan { IsKnownPlan pool.terms (plan_of plan).shapes }
-    requires refers { RefersLower (plan_of plan).shapes }
+    requires known { IsKnownDocument limit
+        (record { terms = accepted.pool.terms; triples = document.triples.items }) }
+    requires valid { IsValidView (record { terms = accepted.pool.terms; triples = document.triples.items }) }
+    requires plan { IsKnownPlan accepted.pool.terms (plan_of accepted.plan).shapes }
+    requires refers { RefersLower (plan_of accepted.plan).shapes }
+    requires few { length (plan_of accepted.plan).targeted < 2 ^ 32 }
     ensures stores { IfOk result (λ validation.
-        SameGraph (graph_of pool.terms document.triples.items) (plain_graph validation.graph)) }
+        SameGraph (graph_of accepted.pool.terms document.triples.items) (plain_graph validation.graph)) }
     ensures names { (end : State) → HasNamesOf end document
         → IfOk result (λ validation. HasNamesOf end validation.document) }
-    ensures plan { IfOk result (λ validation. plan_of validation.plan ≡ plan_of plan) }
+    ensures plan { IfOk result (λ validation. plan_of validation.plan ≡ plan_of accepted.plan) }
     ensures stands { IfOk result Stands }
-    ensures passed { IfOk result (λ validation. validation.passed_over ≡ passed_over) }
+    ensures passed { IfOk result (λ validation. validation.passed_over ≡ accepted.passed_over) }
+    ensures format { IfOk result (λ validation. validation.format ≡ format) }
     ensures line { IfOk result (λ validation. validation.line ≡ 0) }
     ensures refused { IfOk result (λ validation. validation.refused ≡ false) }
     ensures triple_limit { IfOk result (λ validation. validation.graph.limit ≡ limit) }
-    ensures term_limit { IfOk result (λ validation. validation.graph.pool.limit ≡ pool.limit) }
+    ensures term_limit { IfOk result (λ validation. validation.graph.pool.limit ≡ accepted.pool.limit) }
 {
+    let Accepted {
+        pool,
+        plan,
+        passed_over,
+    } = accepted;
     let graph = StoredGraph::from_triples(alloc, pool, &document.triples, limit)?;
     document.triples = Vec::new(alloc);
     Ok(Validation {
         graph,
         document,
         plan,
+        format,
         passed_over,
         line: 0,
         refused: false,

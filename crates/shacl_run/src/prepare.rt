@@ -21,7 +21,7 @@ use crate::refusal::Refusal;
 use crate::stop::Stop;
 use crate::unopened::Unopened;
 use crate::validation::Validation;
-use crate::words::Asked;
+use command_words::Asked;
 use report_write::Answer;
 use shx_outside::{Inputs, PatternHost, Role};
 use shx_term::{IriText, Limits, Pool};
@@ -46,10 +46,10 @@ pub fn prepare<I: Inputs, P: PatternHost>(
         ((I.state host.old).text asked.now.shapes_file.now) (P.admits patterns.old) }
     requires fresh { pool.terms ≡ vocabulary }
     requires limit { pool.limit ≡ limits.now.terms }
-    ensures prepared { IsPrepared limits.now asked.now.base.now
+    ensures prepared { IsPrepared limits.now asked.now.format asked.now.base.now
         ((I.state host.old).text asked.now.shapes_file.now) ((I.state host.old).text asked.now.data_file.now)
         (P.state patterns.old).faults (P.state patterns.new).faults result }
-    ensures stored { IfOk result (Stores limits.now) }
+    ensures stored { IfOk result (Stores limits.now asked.now.format) }
     ensures fresh { IfOk result IsNew }
     ensures stands { IfOk result Stands }
     ensures quiet_patterns { IfOk result (λ validation.
@@ -73,7 +73,7 @@ pub fn prepare<I: Inputs, P: PatternHost>(
     };
     let accepted = judge(alloc, pool, &shapes_text, &base, limits, patterns)?;
     match read_within(alloc, host, Role::Data, asked.data_file, limits.text) {
-        Ok(text) => open_validation(alloc, accepted, &text, &base, limits),
+        Ok(text) => open_validation(alloc, accepted, &text, &base, asked.format, limits),
         Err(refusal) => Err(Unopened::of(refusal, accepted.pool)),
     }
 }

@@ -1,18 +1,22 @@
 //! Answering the lines of a script.
-ghost use Rattle.std.specs.Prelude.{◌≡◌, ℕ, true, Some};
+ghost use Rattle.std.specs.Prelude.{◌≡◌, ℕ, true, None, Some};
 ghost use Rattle.shx_outside.specs.declared.role.Role.TheVariants.{Script};
+ghost use Rattle.shx_outside.specs.Outside.{SinkState};
 ghost use Rattle.shx_outside.specs.Told.{IsAtEnd, OthersStay};
 ghost use Rattle.shx_term.specs.declared.limits.Limits.{Limits as LimitsOf};
 ghost use Rattle.text_input.specs.TextRead.{TakesWithin};
 ghost use Rattle.shacl_run.specs.declared.status.Status.TheVariants.{InputFault};
 ghost use Rattle.shacl_run.specs.inner.Ends.{Ends};
-ghost use Rattle.report_write.specs.declared.answer.Answer.TheVariants.{NotBuilt};
+ghost use Rattle.report_write.specs.declared.answer.Answer.TheVariants.{TooLong};
 ghost use Rattle.shacl_run.specs.Run.{fed_text, refused};
 ghost use Rattle.shacl_run.specs.RunClauses.{StopsFed};
 ghost use Rattle.shacl_run.specs.ScriptState.{ScriptState};
-ghost use Rattle.shacl_run.specs.inner.Serving.{due_at, LastStatus};
+ghost use Rattle.shacl_run.specs.Manner.{Manner};
+ghost use Rattle.shacl_run.specs.Names.{HasNamesOf};
+ghost use Rattle.ttl_meaning.specs.State.{State};
+ghost use Rattle.shacl_run.specs.inner.Serving.{due_at, HaveReadings, LastStatus, LinesAreReadAt};
 ghost use Rattle.shacl_run.specs.inner.Validation.{IsNew, IsValidation, Stands};
-ghost use Rattle.shacl_run.specs.Status.{IsReported};
+ghost use Rattle.shacl_run.specs.Status.{IsAnswered, IsReported};
 ghost use Rattle.shacl_run.specs.inner.Stops.{end_status};
 
 use crate::ending::{refuse, status_of_rows};
@@ -42,13 +46,21 @@ pub fn serve<I: Inputs, O: Sink, L: Ledger>(
     requires stands { Stands validation.old }
     requires opened { (I.state host.old).opened Script ≡ true }
     requires fresh { IsNew validation.old }
-    ensures ends { (s : ScriptState) → IsValidation limits.now s validation.old
-        → Ends (due_at limits.now s limits.now.script ((I.state host.old).rest Script)) (end_status result)
+    ensures ends { (manner : Manner) (s : ScriptState) → manner.limits ≡ limits.now
+        → IsValidation manner.limits manner.format s validation.old
+        → LinesAreReadAt manner s limits.now.script ((I.state host.old).rest Script)
+        → Ends (due_at manner s limits.now.script ((I.state host.old).rest Script)) (end_status result)
         (I.state host.old).faults (I.state host.new).faults (O.state out.old) (O.state out.new) }
-    ensures fed { (s : ScriptState) → IsValidation limits.now s validation.old
-        → end_status result ≡ InputFault
-        → StopsFed (fed_text limits.now s) ((I.state host.old).rest Script) ((I.state host.new).rest Script)
+    ensures causes { Ends None (end_status result) (I.state host.old).faults (I.state host.new).faults
         (O.state out.old) (O.state out.new) }
+    ensures fed { (manner : Manner) (s : ScriptState) → manner.limits ≡ limits.now
+        → IsValidation manner.limits manner.format s validation.old
+        → LinesAreReadAt manner s limits.now.script ((I.state host.old).rest Script)
+        → end_status result ≡ InputFault
+        → StopsFed (fed_text manner s) ((I.state host.old).rest Script) ((I.state host.new).rest Script)
+        (O.state out.old) (O.state out.new) }
+    ensures read { IsAnswered (end_status result) → (end : State) → HasNamesOf end validation.old.document
+        → HaveReadings limits.now end limits.now.script ((I.state host.old).rest Script) }
     ensures read_to_end { IsReported (end_status result) → IsAtEnd ((I.state host.new).rest Script) }
     ensures within { TakesWithin ((I.state host.old).rest Script) ((I.state host.new).rest Script)
         limits.now.script }
@@ -72,8 +84,10 @@ fn last_status<L: Ledger>(
     steps: &mut Steps<L>,
 ) -> Result<Status, Stop>
     requires { Stands validation.now }
-    ensures { (limits : LimitsOf) (s : ScriptState) → IsValidation limits s validation.now
-        → LastStatus s result }
+    ensures last { (limits : LimitsOf) (s : ScriptState)
+        → IsValidation limits validation.now.format s validation.now → LastStatus s result }
+    ensures ends { (faults : ℕ) (sink : SinkState) → Ends None (end_status result) faults faults sink sink }
+    ensures output { end_status result ≡ InputFault → ⊥ }
 {
     if validation.refused {
         return Ok(Status::LinesRefused);
@@ -84,14 +98,12 @@ fn last_status<L: Ledger>(
 
 // Writes that the script goes on past its limit.
 fn refuse_script<O: Sink>(validation: &Validation, out: &mut O) -> Result<Status, Stop>
-    ensures ends { (faults : ℕ) → Ends (Some (refused validation.now.graph.pool.terms (NotBuilt Script)))
+    ensures ends { (faults : ℕ) → Ends
+        (Some (refused validation.now.format validation.now.graph.pool.terms (TooLong Script)))
         (end_status result) faults faults (O.state out.old) (O.state out.new) }
     ensures unreported { IsReported (end_status result) → ⊥ }
     ensures output { end_status result ≡ InputFault → ⊥ }
 {
-    refuse(
-        &Answer::NotBuilt { role: Role::Script },
-        validation.graph.pool(),
-        out,
-    )
+    let answer = Answer::TooLong { role: Role::Script };
+    refuse(&answer, validation.graph.pool(), validation.format, out)
 }

@@ -1,17 +1,21 @@
 ghost use Rattle.std.specs.Prelude.{◌≡◌, ◌≢◌, ◌+◌, ◌<◌, ◌^◌, true, IfOk, IfErr};
 ghost use Rattle.shx_outside.specs.declared.role.Role.TheVariants.{Script};
 ghost use Rattle.shx_outside.specs.Told.{IsAtEnd};
+ghost use Rattle.ttl_meaning.specs.State.{State};
 ghost use Rattle.text_input.specs.ScriptReader.{left_of, GoesOn, MetEnd, ReadsLine, StopsInLine};
 ghost use Rattle.shacl_run.specs.inner.Stops.{StopCause};
 ghost use Rattle.shacl_run.specs.ScriptState.{ScriptState};
-ghost use Rattle.shacl_run.specs.inner.Serving.{TakesLine, TakesBytes};
+ghost use Rattle.shacl_run.specs.Manner.{Manner};
+ghost use Rattle.shacl_run.specs.Names.{HasNamesOf};
+ghost use Rattle.shacl_run.specs.inner.Serving.{GivesReadings, LinesAreReadAt, TakesLine, TakesBytes};
 ghost use Rattle.shacl_run.specs.inner.Validation.{IsValidation, Stands};
 
 use crate::reply::{Reply, refuse_line, reply_to};
 use crate::stop::Stop;
 use crate::validation::Validation;
+use script_lines::a_line_has_one_reading;
 use shx_outside::Inputs;
-use shx_term::fault_codes::NOT_BUILT;
+use shx_term::fault_codes::LINE_TOO_LONG;
 use shx_term::{Limits, Steps};
 use std::alloc::Global;
 use std::sync::ledger::Ledger;
@@ -49,9 +53,15 @@ pub fn take_line<I: Inputs, L: Ledger>(
     requires met { MetEnd reader.old.ended ((I.state host.old).rest Script) }
     requires few { validation.old.line + reader.old.budget < 2 ^ 64 }
     ensures stands { IfOk result (λ taken. Stands validation.new) }
-    ensures taken { (s : ScriptState) → IsValidation limits.now s validation.old
-        → IfOk result (TakesLine limits.now s validation.new reader.old reader.new
+    ensures taken { (manner : Manner) (s : ScriptState) → manner.limits ≡ limits.now
+        → IsValidation manner.limits manner.format s validation.old
+        → LinesAreReadAt manner s reader.old.budget (left_of reader.old ((I.state host.old).rest Script))
+        → IfOk result (TakesLine manner s validation.new reader.old reader.new
         ((I.state host.old).rest Script) ((I.state host.new).rest Script)) }
+    ensures read { (end : State) → HasNamesOf end validation.old.document
+        → IfOk result (GivesReadings limits.now end reader.old reader.new
+        ((I.state host.old).rest Script) ((I.state host.new).rest Script)) }
+    ensures names { validation.new.document ≡ validation.old.document }
     ensures bytes { IfOk result
         (TakesBytes validation.old.line validation.new.line reader.old.budget reader.new.budget) }
     ensures end { IfOk result (λ taken. taken ≡ Taken.End → IsAtEnd ((I.state host.new).rest Script)) }
@@ -62,13 +72,15 @@ pub fn take_line<I: Inputs, L: Ledger>(
     ensures goes_on { GoesOn reader.old (I.state host.old) reader.new (I.state host.new) }
     ensures cause { StopCause (I.state host.old).faults (I.state host.new).faults result }
 {
+    // So its reading is the one that was told.
+    a_line_has_one_reading();
     let line = next_line(alloc, reader, host, limits)?;
     match &line {
         Line::Is(bytes) => {
             let reply = reply_to(alloc, validation, bytes, limits, steps)?;
             Ok(Taken::Replied(reply))
         }
-        Line::TooLong => Ok(Taken::Replied(refuse_line(validation, NOT_BUILT))),
+        Line::TooLong => Ok(Taken::Replied(refuse_line(validation, LINE_TOO_LONG, None))),
         Line::End => Ok(Taken::End),
         Line::PastLimit => Ok(Taken::PastLimit),
     }

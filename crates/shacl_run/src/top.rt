@@ -11,10 +11,12 @@ ghost use Rattle.shacl_run.specs.Run.{answer_output};
 ghost use Rattle.shacl_run.specs.RunClauses.{IsRead, IsRun, PatternsAreAdmittedBy, ReadsToEnd};
 ghost use Rattle.shacl_run.specs.RunClauses.{ShapesAreReadBy, StaysWithin};
 ghost use Rattle.shacl_run.specs.Status.{IsAnswered, IsReported};
-ghost use Rattle.shacl_run.specs.Words.{command_words, AdmitsFiles};
+ghost use Rattle.command_words.specs.Asked.{asked_of};
+ghost use Rattle.command_words.specs.Words.{command_words};
+ghost use Rattle.text_output.specs.declared.format.Format.TheVariants.{Lines};
+ghost use Rattle.shacl_run.specs.Admits.{AdmitsFiles};
 ghost use Rattle.shacl_run.specs.inner.Ends.{Ends};
-ghost use Rattle.shacl_run.specs.inner.Files.{asked_of, RunsFiles, RunsWords};
-ghost use Rattle.shacl_run.specs.inner.Prepared.{AreRead};
+ghost use Rattle.shacl_run.specs.inner.Files.{FilesAreRead, RunsFiles, RunsWords};
 ghost use Rattle.shacl_run.specs.inner.Stops.{end_status};
 
 use crate::ending::refuse;
@@ -23,13 +25,12 @@ use crate::run_validation::run_validation;
 use crate::status::Status;
 use crate::stop::Stop;
 use crate::unopened::Unopened;
-use crate::words::{Asked, read_words};
-use report_write::{Answer, write_answer};
+use command_words::{Asked, read_words, word_texts};
+use report_write::{Answer, Format, write_answer};
 use shx_outside::{Inputs, PatternHost, Sink};
 use shx_term::{Limits, Pool, Steps, Text};
 use std::alloc::Global;
 use std::sync::ledger::Ledger;
-use text_output::Format;
 
 /// Runs the validator: reads the texts that the words name, writes the report of the data, or the usage, or
 /// the fault of a text, and then answers a script line by line. `steps` counts the evaluations of shapes at
@@ -89,7 +90,8 @@ fn run_words<H: Inputs, O: Sink, P: PatternHost, L: Ledger>(
         (λ asked. StaysWithin limits.now (H.state host.old) (H.state host.new) asked.files) }
 {
     let pool = Pool::with_vocabulary(alloc, limits.terms)?;
-    match read_words(words) {
+    let texts = word_texts(alloc, words)?;
+    match read_words(alloc, &texts)? {
         Some(asked) => run_files(alloc, &asked, host, out, patterns, limits, pool, steps),
         None => refuse_words(&pool, out),
     }
@@ -97,8 +99,8 @@ fn run_words<H: Inputs, O: Sink, P: PatternHost, L: Ledger>(
 
 // Writes the usage, with which the run ends.
 fn refuse_words<O: Sink>(pool: &Pool, out: &mut O) -> Result<Status, Stop>
-    ensures ends { (faults : ℕ) → Ends (Some (answer_output [] Usage BadWords)) (end_status result) faults
-        faults (O.state out.old) (O.state out.new) }
+    ensures ends { (faults : ℕ) → Ends (Some (answer_output Lines [] Usage BadWords)) (end_status result)
+        faults faults (O.state out.old) (O.state out.new) }
     ensures unreported { IsReported (end_status result) → ⊥ }
     ensures accepted { end_status result ≡ Refused → ⊥ }
     ensures output { end_status result ≡ InputFault → ⊥ }
@@ -133,9 +135,8 @@ fn run_files<H: Inputs, O: Sink, P: PatternHost, L: Ledger>(
         (O.state out.old) (O.state out.new) }
     ensures quiet_patterns { IsAnswered (end_status result) → end_status result ≢ Refused
         → (P.state patterns.new).faults ≡ (P.state patterns.old).faults }
-    ensures read { IsAnswered (end_status result) → AreRead limits.now asked.now.base.now
-        ((H.state host.old).text asked.now.shapes_file.now)
-        ((H.state host.old).text asked.now.data_file.now) }
+    ensures read { IsAnswered (end_status result)
+        → FilesAreRead limits.now (asked_of asked.now) (H.state host.old).text }
     ensures read_to_end { IsReported (end_status result)
         → ReadsToEnd (H.state host.new) (asked_of asked.now).files }
     ensures within { StaysWithin limits.now (H.state host.old) (H.state host.new) (asked_of asked.now).files }
@@ -152,7 +153,7 @@ fn run_files<H: Inputs, O: Sink, P: PatternHost, L: Ledger>(
                 steps,
             )
         }
-        Err(Unopened::Told { answer, pool }) => refuse(&answer, &pool, out),
+        Err(Unopened::Told { answer, pool }) => refuse(&answer, &pool, asked.format, out),
         Err(Unopened::Cut(stop)) => Err(stop),
     }
 }

@@ -91,8 +91,6 @@ pub const LINE_WIDE: u32 = 56;
 pub const UNKNOWN_BLANK: u32 = 57;
 /// A script has more bytes than the limit.
 pub const SCRIPT_TOO_LONG: u32 = 58;
-/// What this version does not read. It stands in no table, as it goes when all is read.
-pub const NOT_BUILT: u32 = 59;
 
 /// What is told of a fault beside what is at fault.
 #[derive(Clone, Copy, Debug, PartialEq, Eq)]

@@ -1,4 +1,3 @@
-mod lines;
 mod output;
 mod outside;
 mod patterns;

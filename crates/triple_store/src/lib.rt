@@ -16,7 +16,5 @@ mod arrangement;
 mod index;
 mod indexes;
 mod store;
-#[cfg(test)]
-mod tests;
 
 pub use store::Store;

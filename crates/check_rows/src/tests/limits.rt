@@ -1,7 +1,7 @@
 //! Texts that meet or pass a limit.
 use super::answers::answer;
 use super::rows::limits;
-use super::tables::first_other;
+use super::tables::all_answered;
 use row_tools::RowFault;
 use shx_term::Limits;
 use std::alloc::Global;
@@ -9,16 +9,14 @@ use std::test::Fail;
 
 #[test]
 fn shapes_past_the_limit(rt: HostRuntime) -> Result<(), Fail> {
-    assert_eq!(rt; first_other(rt.alloc(), limits::SHAPES)?, "");
-    Ok(())
+    all_answered(rt.alloc(), limits::SHAPES)
 }
 
 #[test]
 fn paths_past_a_limit(rt: HostRuntime) -> Result<(), Fail> {
-    assert_eq!(rt; first_other(rt.alloc(), limits::DEPTH)?, "");
-    assert_eq!(rt; first_other(rt.alloc(), limits::PARTS)?, "");
-    assert_eq!(rt; first_other(rt.alloc(), limits::ORDER)?, "");
-    Ok(())
+    all_answered(rt.alloc(), limits::DEPTH)?;
+    all_answered(rt.alloc(), limits::PARTS)?;
+    all_answered(rt.alloc(), limits::ORDER)
 }
 
 // The answer of a path of so many inversions within one another, with a text before and behind it.

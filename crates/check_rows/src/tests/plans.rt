@@ -3,7 +3,7 @@ use super::answers::graph_of;
 use super::names::{add_term, shortened};
 use super::rows::plans;
 use graph_view::{GraphView, ListGraph};
-use row_tools::{RowFault, first_other_block};
+use row_tools::{RowFault, all_blocks_met};
 use shape_check::{CheckFault, check_shapes};
 use shape_compile::{CompileFault, compile};
 use shape_decl::ShapeDecl;
@@ -151,6 +151,5 @@ fn comes_to(alloc: Global, row: &str) -> Result<bool, RowFault> {
 
 #[test]
 fn plans(rt: HostRuntime) -> Result<(), Fail> {
-    assert_eq!(rt; first_other_block(rt.alloc(), plans::ROWS, comes_to)?, "");
-    Ok(())
+    all_blocks_met(rt.alloc(), plans::ROWS, comes_to)
 }

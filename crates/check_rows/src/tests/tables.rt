@@ -1,8 +1,9 @@
 //! How a table is gone over.
 use super::answers::answer;
-use row_tools::{RowFault, cut, number};
-use shx_term::{Limits, Memory};
+use row_tools::{RowFault, all_met, cut, number};
+use shx_term::Limits;
 use std::alloc::Global;
+use std::test::Fail;
 
 // The limits of the program, but for the one that is named: `shapes 1`.
 fn limits_of(named: &str) -> Result<Limits, RowFault> {
@@ -32,7 +33,7 @@ fn is_answered(alloc: Global, row: &str) -> Result<bool, RowFault> {
     }
 }
 
-/// The first row whose text has another answer, or none.
-pub(super) fn first_other(alloc: Global, rows: &'static str) -> Result<&'static str, Memory> {
-    row_tools::first_other(alloc, rows, is_answered)
+/// Fails with the first row whose text has another answer.
+pub(super) fn all_answered(alloc: Global, rows: &str) -> Result<(), Fail> {
+    all_met(alloc, rows, is_answered)
 }

@@ -10,7 +10,7 @@ use super::told::{conforming_of, table_of};
 use comp_core::AnswerTable;
 use due_view::{DueView, are_known, is_known, is_valid};
 use graph_view::{ListGraph, Reads};
-use row_tools::{RowFault, first_other};
+use row_tools::{RowFault, all_met};
 use std::alloc::Global;
 use std::test::Fail;
 
@@ -68,91 +68,78 @@ fn is_refused(alloc: Global, line: &str) -> Result<bool, RowFault> {
 #[test]
 fn value_types_are_as_said(rt: HostRuntime) -> Result<(), Fail> {
     let alloc = rt.alloc();
-    assert_eq!(rt; first_other(alloc, types::CLASS, is_as_said)?, "");
-    assert_eq!(rt; first_other(alloc, types::DATATYPE, is_as_said)?, "");
-    assert_eq!(rt; first_other(alloc, types::NODE_KIND, is_as_said)?, "");
-    Ok(())
+    all_met(alloc, types::CLASS, is_as_said)?;
+    all_met(alloc, types::DATATYPE, is_as_said)?;
+    all_met(alloc, types::NODE_KIND, is_as_said)
 }
 
 #[test]
 fn counts_are_as_said(rt: HostRuntime) -> Result<(), Fail> {
     let alloc = rt.alloc();
-    assert_eq!(rt; first_other(alloc, counts::MIN_COUNT, is_as_said)?, "");
-    assert_eq!(rt; first_other(alloc, counts::MAX_COUNT, is_as_said)?, "");
-    Ok(())
+    all_met(alloc, counts::MIN_COUNT, is_as_said)?;
+    all_met(alloc, counts::MAX_COUNT, is_as_said)
 }
 
 #[test]
 fn ranges_are_as_said(rt: HostRuntime) -> Result<(), Fail> {
     let alloc = rt.alloc();
-    assert_eq!(rt; first_other(alloc, ranges::MIN_EXCLUSIVE, is_as_said)?, "");
-    assert_eq!(rt; first_other(alloc, ranges::MIN_INCLUSIVE, is_as_said)?, "");
-    assert_eq!(rt; first_other(alloc, ranges::MAX_EXCLUSIVE, is_as_said)?, "");
-    assert_eq!(rt; first_other(alloc, ranges::MAX_INCLUSIVE, is_as_said)?, "");
-    Ok(())
+    all_met(alloc, ranges::MIN_EXCLUSIVE, is_as_said)?;
+    all_met(alloc, ranges::MIN_INCLUSIVE, is_as_said)?;
+    all_met(alloc, ranges::MAX_EXCLUSIVE, is_as_said)?;
+    all_met(alloc, ranges::MAX_INCLUSIVE, is_as_said)
 }
 
 #[test]
 fn strings_are_as_said(rt: HostRuntime) -> Result<(), Fail> {
     let alloc = rt.alloc();
-    assert_eq!(rt; first_other(alloc, strings::MIN_LENGTH, is_as_said)?, "");
-    assert_eq!(rt; first_other(alloc, strings::MAX_LENGTH, is_as_said)?, "");
-    assert_eq!(rt; first_other(alloc, strings::PATTERN, is_as_said)?, "");
-    assert_eq!(rt; first_other(alloc, strings::LANGUAGE_IN, is_as_said)?, "");
-    assert_eq!(rt; first_other(alloc, strings::UNIQUE_LANG, is_as_said)?, "");
-    Ok(())
+    all_met(alloc, strings::MIN_LENGTH, is_as_said)?;
+    all_met(alloc, strings::MAX_LENGTH, is_as_said)?;
+    all_met(alloc, strings::PATTERN, is_as_said)?;
+    all_met(alloc, strings::LANGUAGE_IN, is_as_said)?;
+    all_met(alloc, strings::UNIQUE_LANG, is_as_said)
 }
 
 #[test]
 fn values_and_lists_are_as_said(rt: HostRuntime) -> Result<(), Fail> {
     let alloc = rt.alloc();
-    assert_eq!(rt; first_other(alloc, lists::HAS_VALUE, is_as_said)?, "");
-    assert_eq!(rt; first_other(alloc, lists::IN, is_as_said)?, "");
-    Ok(())
+    all_met(alloc, lists::HAS_VALUE, is_as_said)?;
+    all_met(alloc, lists::IN, is_as_said)
 }
 
 #[test]
 fn pairs_are_as_said(rt: HostRuntime) -> Result<(), Fail> {
     let alloc = rt.alloc();
-    assert_eq!(rt; first_other(alloc, pairs::EQUALS, is_as_said)?, "");
-    assert_eq!(rt; first_other(alloc, pairs::DISJOINT, is_as_said)?, "");
-    assert_eq!(rt; first_other(alloc, pairs::LESS_THAN, is_as_said)?, "");
-    assert_eq!(rt;
-        first_other(alloc, pairs::LESS_THAN_OR_EQUALS, is_as_said)?,
-        ""
-    );
-    Ok(())
+    all_met(alloc, pairs::EQUALS, is_as_said)?;
+    all_met(alloc, pairs::DISJOINT, is_as_said)?;
+    all_met(alloc, pairs::LESS_THAN, is_as_said)?;
+    all_met(alloc, pairs::LESS_THAN_OR_EQUALS, is_as_said)
 }
 
 #[test]
 fn shapes_are_joined_as_said(rt: HostRuntime) -> Result<(), Fail> {
     let alloc = rt.alloc();
-    assert_eq!(rt; first_other(alloc, logic::NOT, is_as_said)?, "");
-    assert_eq!(rt; first_other(alloc, logic::AND, is_as_said)?, "");
-    assert_eq!(rt; first_other(alloc, logic::OR, is_as_said)?, "");
-    assert_eq!(rt; first_other(alloc, logic::XONE, is_as_said)?, "");
-    assert_eq!(rt; first_other(alloc, logic::NODE, is_as_said)?, "");
-    assert_eq!(rt; first_other(alloc, logic::PROPERTY, is_as_said)?, "");
-    Ok(())
+    all_met(alloc, logic::NOT, is_as_said)?;
+    all_met(alloc, logic::AND, is_as_said)?;
+    all_met(alloc, logic::OR, is_as_said)?;
+    all_met(alloc, logic::XONE, is_as_said)?;
+    all_met(alloc, logic::NODE, is_as_said)?;
+    all_met(alloc, logic::PROPERTY, is_as_said)
 }
 
 #[test]
 fn qualified_and_closed_shapes_are_as_said(rt: HostRuntime) -> Result<(), Fail> {
     let alloc = rt.alloc();
-    assert_eq!(rt; first_other(alloc, qualified::MIN_COUNT, is_as_said)?, "");
-    assert_eq!(rt; first_other(alloc, qualified::MAX_COUNT, is_as_said)?, "");
-    assert_eq!(rt; first_other(alloc, closed::CLOSED, is_as_said)?, "");
-    Ok(())
+    all_met(alloc, qualified::MIN_COUNT, is_as_said)?;
+    all_met(alloc, qualified::MAX_COUNT, is_as_said)?;
+    all_met(alloc, closed::CLOSED, is_as_said)
 }
 
 #[test]
 fn worked_runs_find_as_said(rt: HostRuntime) -> Result<(), Fail> {
-    assert_eq!(rt; first_other(rt.alloc(), worked::RUNS, is_as_said)?, "");
-    Ok(())
+    all_met(rt.alloc(), worked::RUNS, is_as_said)
 }
 
 #[test]
 fn rows_that_are_wrong_are_not_met(rt: HostRuntime) -> Result<(), Fail> {
-    assert_eq!(rt; first_other(rt.alloc(), wrong::ROWS, is_refused)?, "");
-    Ok(())
+    all_met(rt.alloc(), wrong::ROWS, is_refused)
 }

@@ -4,7 +4,7 @@ mod rows;
 use super::made::{cut, graph};
 use super::paths::spelled;
 use graph_view::{GraphView, ListGraph};
-use row_tools::{RowFault, first_other, first_other_block};
+use row_tools::{RowFault, all_blocks_met, all_met};
 use shape_decl::{Declared, ListValue, ShapeDecl, collect, find_shapes, sparql_count};
 use shx_term::vocabulary::vocabulary_rows;
 use shx_term::{Id, Limits, LocalName, Memory, Pool, Term};
@@ -149,17 +149,12 @@ fn has_under(decl: &ShapeDecl, row: &Declared) -> bool {
 
 #[test]
 fn found_again(rt: HostRuntime) -> Result<(), Fail> {
-    assert_eq!(rt;
-        first_other_block(rt.alloc(), rows::ROWS, is_found_again)?,
-        ""
-    );
-    Ok(())
+    all_blocks_met(rt.alloc(), rows::ROWS, is_found_again)
 }
 
 #[test]
 fn declared(rt: HostRuntime) -> Result<(), Fail> {
-    assert_eq!(rt; first_other_block(rt.alloc(), rows::ROWS, is_as_said)?, "");
-    Ok(())
+    all_blocks_met(rt.alloc(), rows::ROWS, is_as_said)
 }
 
 fn names(alloc: Global, graph: &ListGraph) -> Result<String, Memory> {
@@ -182,8 +177,7 @@ fn are_shapes(alloc: Global, row: &str) -> Result<bool, RowFault> {
 #[test]
 fn shapes_by_one_statement(rt: HostRuntime) -> Result<(), Fail> {
     assert_eq!(rt; predicates::ROWS.lines().count(), vocabulary_rows().len());
-    assert_eq!(rt; first_other(rt.alloc(), predicates::ROWS, are_shapes)?, "");
-    Ok(())
+    all_met(rt.alloc(), predicates::ROWS, are_shapes)
 }
 
 // Graphs, each with how often sh:sparql is stated.
@@ -203,6 +197,5 @@ fn is_counted(alloc: Global, row: &str) -> Result<bool, RowFault> {
 
 #[test]
 fn sparql_is_counted(rt: HostRuntime) -> Result<(), Fail> {
-    assert_eq!(rt; first_other(rt.alloc(), COUNTS, is_counted)?, "");
-    Ok(())
+    all_met(rt.alloc(), COUNTS, is_counted)
 }

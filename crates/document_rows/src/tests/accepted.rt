@@ -6,7 +6,7 @@ mod outside;
 mod statements;
 
 use super::seen::has_outcome;
-use row_tools::{RowFault, first_other_block};
+use row_tools::{RowFault, all_blocks_met};
 use shx_term::Limits;
 use std::alloc::Global;
 use std::test::Fail;
@@ -22,54 +22,30 @@ fn states_as_said(alloc: Global, row: &str) -> Result<bool, RowFault> {
 
 #[test]
 fn easily_got_wrong(rt: HostRuntime) -> Result<(), Fail> {
-    assert_eq!(rt;
-        first_other_block(rt.alloc(), outside::ROWS, states_as_said)?,
-        ""
-    );
-    Ok(())
+    all_blocks_met(rt.alloc(), outside::ROWS, states_as_said)
 }
 
 #[test]
 fn prefixes_and_bases(rt: HostRuntime) -> Result<(), Fail> {
-    assert_eq!(rt;
-        first_other_block(rt.alloc(), directives::ROWS, states_as_said)?,
-        ""
-    );
-    Ok(())
+    all_blocks_met(rt.alloc(), directives::ROWS, states_as_said)
 }
 
 #[test]
 fn predicates_and_objects(rt: HostRuntime) -> Result<(), Fail> {
-    assert_eq!(rt;
-        first_other_block(rt.alloc(), statements::ROWS, states_as_said)?,
-        ""
-    );
-    Ok(())
+    all_blocks_met(rt.alloc(), statements::ROWS, states_as_said)
 }
 
 #[test]
 fn blank_nodes_and_collections(rt: HostRuntime) -> Result<(), Fail> {
-    assert_eq!(rt;
-        first_other_block(rt.alloc(), nodes::ROWS, states_as_said)?,
-        ""
-    );
-    Ok(())
+    all_blocks_met(rt.alloc(), nodes::ROWS, states_as_said)
 }
 
 #[test]
 fn forms_of_literals(rt: HostRuntime) -> Result<(), Fail> {
-    assert_eq!(rt;
-        first_other_block(rt.alloc(), literals::ROWS, states_as_said)?,
-        ""
-    );
-    Ok(())
+    all_blocks_met(rt.alloc(), literals::ROWS, states_as_said)
 }
 
 #[test]
 fn forms_of_iris(rt: HostRuntime) -> Result<(), Fail> {
-    assert_eq!(rt;
-        first_other_block(rt.alloc(), names::ROWS, states_as_said)?,
-        ""
-    );
-    Ok(())
+    all_blocks_met(rt.alloc(), names::ROWS, states_as_said)
 }

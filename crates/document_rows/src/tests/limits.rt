@@ -1,7 +1,7 @@
 mod rows;
 
 use super::seen::{has_outcome, outcome};
-use row_tools::{RowFault, cut, first_other_block, number};
+use row_tools::{RowFault, all_blocks_met, cut, number};
 use shx_term::{Limits, Memory};
 use std::alloc::Global;
 use std::test::Fail;
@@ -36,29 +36,17 @@ fn ends_as_said(alloc: Global, row: &str) -> Result<bool, RowFault> {
 
 #[test]
 fn depth(rt: HostRuntime) -> Result<(), Fail> {
-    assert_eq!(rt;
-        first_other_block(rt.alloc(), rows::DEPTH, ends_as_said)?,
-        ""
-    );
-    Ok(())
+    all_blocks_met(rt.alloc(), rows::DEPTH, ends_as_said)
 }
 
 #[test]
 fn triples(rt: HostRuntime) -> Result<(), Fail> {
-    assert_eq!(rt;
-        first_other_block(rt.alloc(), rows::TRIPLES, ends_as_said)?,
-        ""
-    );
-    Ok(())
+    all_blocks_met(rt.alloc(), rows::TRIPLES, ends_as_said)
 }
 
 #[test]
 fn terms(rt: HostRuntime) -> Result<(), Fail> {
-    assert_eq!(rt;
-        first_other_block(rt.alloc(), rows::TERMS, ends_as_said)?,
-        ""
-    );
-    Ok(())
+    all_blocks_met(rt.alloc(), rows::TERMS, ends_as_said)
 }
 
 // The outcome of a statement about a collection that is so many brackets deep.

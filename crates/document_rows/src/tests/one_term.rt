@@ -5,7 +5,7 @@ mod others;
 
 use super::seen::text_of;
 use iri_resolve::is_absolute;
-use row_tools::{RowFault, cut, first_other};
+use row_tools::{RowFault, all_met, cut};
 use shx_term::vocabulary::VOCABULARY_LEN;
 use shx_term::{IriText, Limits, Memory, Pool, Scope, spell};
 use std::alloc::{AllocError, Global};
@@ -71,30 +71,20 @@ fn is_found_as_said(alloc: Global, row: &str) -> Result<bool, RowFault> {
 
 #[test]
 fn iris_by_base_and_prefix(rt: HostRuntime) -> Result<(), Fail> {
-    assert_eq!(rt; first_other(rt.alloc(), iris::ROWS, is_found_as_said)?, "");
-    Ok(())
+    all_met(rt.alloc(), iris::ROWS, is_found_as_said)
 }
 
 #[test]
 fn nodes_by_their_printed_names(rt: HostRuntime) -> Result<(), Fail> {
-    assert_eq!(rt; first_other(rt.alloc(), nodes::ROWS, is_found_as_said)?, "");
-    Ok(())
+    all_met(rt.alloc(), nodes::ROWS, is_found_as_said)
 }
 
 #[test]
 fn literals_with_what_belongs_to_them(rt: HostRuntime) -> Result<(), Fail> {
-    assert_eq!(rt;
-        first_other(rt.alloc(), literals::ROWS, is_found_as_said)?,
-        ""
-    );
-    Ok(())
+    all_met(rt.alloc(), literals::ROWS, is_found_as_said)
 }
 
 #[test]
 fn no_term(rt: HostRuntime) -> Result<(), Fail> {
-    assert_eq!(rt;
-        first_other(rt.alloc(), others::ROWS, is_found_as_said)?,
-        ""
-    );
-    Ok(())
+    all_met(rt.alloc(), others::ROWS, is_found_as_said)
 }

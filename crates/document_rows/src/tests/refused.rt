@@ -4,7 +4,7 @@ mod syntax;
 mod terms;
 
 use super::seen::{has_outcome, outcome};
-use row_tools::{RowFault, cut, first_other};
+use row_tools::{RowFault, all_met, cut};
 use shx_term::{Limits, Memory};
 use std::alloc::Global;
 use std::test::Fail;
@@ -17,29 +17,17 @@ fn is_refused_as_said(alloc: Global, row: &str) -> Result<bool, RowFault> {
 
 #[test]
 fn no_statement(rt: HostRuntime) -> Result<(), Fail> {
-    assert_eq!(rt;
-        first_other(rt.alloc(), syntax::ROWS, is_refused_as_said)?,
-        ""
-    );
-    Ok(())
+    all_met(rt.alloc(), syntax::ROWS, is_refused_as_said)
 }
 
 #[test]
 fn faults_of_terms(rt: HostRuntime) -> Result<(), Fail> {
-    assert_eq!(rt;
-        first_other(rt.alloc(), terms::ROWS, is_refused_as_said)?,
-        ""
-    );
-    Ok(())
+    all_met(rt.alloc(), terms::ROWS, is_refused_as_said)
 }
 
 #[test]
 fn one_fault_of_several(rt: HostRuntime) -> Result<(), Fail> {
-    assert_eq!(rt;
-        first_other(rt.alloc(), order::ROWS, is_refused_as_said)?,
-        ""
-    );
-    Ok(())
+    all_met(rt.alloc(), order::ROWS, is_refused_as_said)
 }
 
 // The bytes of a row that has a character for each.
@@ -62,9 +50,5 @@ fn bytes_refused_as_said(alloc: Global, row: &str) -> Result<bool, RowFault> {
 
 #[test]
 fn no_utf8(rt: HostRuntime) -> Result<(), Fail> {
-    assert_eq!(rt;
-        first_other(rt.alloc(), bytes::ROWS, bytes_refused_as_said)?,
-        ""
-    );
-    Ok(())
+    all_met(rt.alloc(), bytes::ROWS, bytes_refused_as_said)
 }

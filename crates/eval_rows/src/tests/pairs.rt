@@ -13,7 +13,7 @@ use super::terms::id_of;
 use comp_core::Pair;
 use due_view::{DueView, is_known, is_valid};
 use graph_view::{GraphView, ListGraph};
-use row_tools::{RowFault, cut, first_other_block, number};
+use row_tools::{RowFault, all_blocks_met, cut, number};
 use shape_eval::{
     PairAnswer, Plan, edits_beside_a_pair, eval_pair, levels_do_not_matter,
     results_depend_on_reads, targets_depend_on_reads,
@@ -95,44 +95,27 @@ fn is_refused(alloc: Global, block: &str) -> Result<bool, RowFault> {
 
 #[test]
 fn results_nest_as_said(rt: HostRuntime) -> Result<(), Fail> {
-    assert_eq!(rt;
-        first_other_block(rt.alloc(), nesting::ROWS, is_as_said)?,
-        ""
-    );
-    Ok(())
+    all_blocks_met(rt.alloc(), nesting::ROWS, is_as_said)
 }
 
 #[test]
 fn value_nodes_are_as_said(rt: HostRuntime) -> Result<(), Fail> {
-    assert_eq!(rt;
-        first_other_block(rt.alloc(), values::ROWS, is_as_said)?,
-        ""
-    );
-    Ok(())
+    all_blocks_met(rt.alloc(), values::ROWS, is_as_said)
 }
 
 #[test]
 fn all_components_stand_in_one_shape(rt: HostRuntime) -> Result<(), Fail> {
-    assert_eq!(rt;
-        first_other_block(rt.alloc(), components::ROWS, is_as_said)?,
-        ""
-    );
-    Ok(())
+    all_blocks_met(rt.alloc(), components::ROWS, is_as_said)
 }
 
 #[test]
 fn worked_runs_find_as_said(rt: HostRuntime) -> Result<(), Fail> {
-    assert_eq!(rt;
-        first_other_block(rt.alloc(), worked::ROWS, is_as_said)?,
-        ""
-    );
-    Ok(())
+    all_blocks_met(rt.alloc(), worked::ROWS, is_as_said)
 }
 
 #[test]
 fn rows_that_are_wrong_are_not_met(rt: HostRuntime) -> Result<(), Fail> {
-    assert_eq!(rt; first_other_block(rt.alloc(), wrong::ROWS, is_refused)?, "");
-    Ok(())
+    all_blocks_met(rt.alloc(), wrong::ROWS, is_refused)
 }
 
 #[test]

@@ -13,10 +13,12 @@ MaxInclusive MinLength MaxLength Pattern LanguageIn UniqueLang Equals Disjoint L
 And Or Xone Node Property QualifiedMinCount QualifiedMaxCount Closed HasValue In";
 
 fn kind_of(name: &str) -> Result<Kind, RowFault> {
-    for (kind, known) in (1..30u8).zip(KINDS.split_whitespace()) {
+    let mut kind = 1u8;
+    for known in KINDS.split_whitespace() {
         if known == name {
             return Ok(kind);
         }
+        kind = kind.saturating_add(1);
     }
     Err(RowFault::Unread)
 }

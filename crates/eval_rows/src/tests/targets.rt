@@ -10,7 +10,7 @@ use super::terms::ids_of;
 use comp_core::ShapeNo;
 use due_view::DueView;
 use graph_view::{GraphView, ListGraph, Reads};
-use row_tools::{RowFault, first_other_block, number};
+use row_tools::{RowFault, all_blocks_met, number};
 use shape_eval::{Plan, eval_target};
 use shx_term::Id;
 use std::alloc::Global;
@@ -75,13 +75,11 @@ fn begins_as_said(alloc: Global, block: &str) -> Result<bool, RowFault> {
 
 #[test]
 fn target_nodes_are_as_said(rt: HostRuntime) -> Result<(), Fail> {
-    assert_eq!(rt; first_other_block(rt.alloc(), ROWS, is_as_said)?, "");
-    assert_eq!(rt; first_other_block(rt.alloc(), WRONG, is_refused)?, "");
-    Ok(())
+    all_blocks_met(rt.alloc(), ROWS, is_as_said)?;
+    all_blocks_met(rt.alloc(), WRONG, is_refused)
 }
 
 #[test]
 fn validations_begin_as_said(rt: HostRuntime) -> Result<(), Fail> {
-    assert_eq!(rt; first_other_block(rt.alloc(), BEGUN, begins_as_said)?, "");
-    Ok(())
+    all_blocks_met(rt.alloc(), BEGUN, begins_as_said)
 }

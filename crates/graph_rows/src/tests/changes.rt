@@ -5,7 +5,7 @@ use super::questions::{answers, is_same};
 use super::steps::{exchanged, is_countable, is_patch};
 use due_view::DueView;
 use graph_view::{GraphEdit, GraphView, ListGraph, Patched, Reads};
-use row_tools::{RowFault, first_other, in_four, in_three, number};
+use row_tools::{RowFault, all_met, in_four, in_three, number};
 use std::alloc::Global;
 use std::test::Fail;
 
@@ -87,16 +87,12 @@ fn is_answered_over_the_wide_base(alloc: Global, row: &str) -> Result<bool, RowF
 
 #[test]
 fn patched_graphs_answer_by_their_definition(rt: HostRuntime) -> Result<(), Fail> {
-    let other = first_other(rt.alloc(), rows::PATCHED, is_answered_over_the_base);
-    assert_eq!(rt; other, Ok(""));
-    Ok(())
+    all_met(rt.alloc(), rows::PATCHED, is_answered_over_the_base)
 }
 
 #[test]
 fn changes_stand_first_last_and_between(rt: HostRuntime) -> Result<(), Fail> {
-    let other = first_other(rt.alloc(), rows::PLACES, is_answered_over_the_wide_base);
-    assert_eq!(rt; other, Ok(""));
-    Ok(())
+    all_met(rt.alloc(), rows::PLACES, is_answered_over_the_wide_base)
 }
 
 // Whether a graph with a change that is not made is the same as another.
@@ -223,7 +219,5 @@ fn is_changed(alloc: Global, row: &str) -> Result<bool, RowFault> {
 
 #[test]
 fn changes_are_made_whole_or_not_at_all(rt: HostRuntime) -> Result<(), Fail> {
-    let other = first_other(rt.alloc(), rows::CHANGES, is_changed);
-    assert_eq!(rt; other, Ok(""));
-    Ok(())
+    all_met(rt.alloc(), rows::CHANGES, is_changed)
 }

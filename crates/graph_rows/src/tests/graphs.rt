@@ -1,11 +1,12 @@
 use super::letters::graph_of;
 use super::questions::words;
 use graph_view::{GraphEdit, GraphView, ListGraph, StoreFault};
-use row_tools::{RowFault, cut, first_other, number};
+use row_tools::{RowFault, all_met, cut, number};
 use shx_term::vocabulary::VOCABULARY_LEN;
 use shx_term::{Pool, Triple};
 use std::alloc::Global;
 use std::test::Fail;
+use triple_store::Store;
 
 // How many triples a graph may hold, and those that it holds, in the order in which it lends them.
 const LENT: &str = "\
@@ -25,15 +26,13 @@ fn is_lent(alloc: Global, row: &str) -> Result<bool, RowFault> {
 
 #[test]
 fn a_graph_lends_its_triples(rt: HostRuntime) -> Result<(), Fail> {
-    let other = first_other(rt.alloc(), LENT, is_lent);
-    assert_eq!(rt; other, Ok(""));
-    Ok(())
+    all_met(rt.alloc(), LENT, is_lent)
 }
 
-// Whether a graph without triples gives back the pool that it was made of.
+// Whether a store without triples gives back the pool that its graph was made of.
 fn is_given_back(alloc: Global) -> Result<bool, RowFault> {
     let pool = Pool::with_vocabulary(alloc, VOCABULARY_LEN + 1)?;
-    let graph = ListGraph::new(alloc, pool, 5);
+    let graph = Store::from_list(alloc, ListGraph::new(alloc, pool, 5))?;
     let (triples, most) = (graph.len(), graph.limit());
     let pool = graph.into_pool();
     let (terms, room) = (pool.len(), pool.limit());
@@ -41,7 +40,7 @@ fn is_given_back(alloc: Global) -> Result<bool, RowFault> {
 }
 
 #[test]
-fn a_graph_gives_its_pool_back(rt: HostRuntime) -> Result<(), Fail> {
+fn a_store_gives_its_pool_back(rt: HostRuntime) -> Result<(), Fail> {
     let is_back = is_given_back(rt.alloc());
     assert_eq!(rt; is_back, Ok(true));
     Ok(())

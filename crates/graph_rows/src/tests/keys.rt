@@ -1,6 +1,6 @@
 use super::letters::{LETTERS_END, key_of, triple_of};
 use graph_view::{Key, Reads, keys_of, touches};
-use row_tools::{RowFault, cut, first_other, in_three};
+use row_tools::{RowFault, all_met, cut, in_three};
 use shx_term::vocabulary::VOCABULARY_LEN;
 use shx_term::{Id, Triple};
 use std::alloc::Global;
@@ -32,9 +32,7 @@ fn touches_as_said(_: Global, row: &str) -> Result<bool, RowFault> {
 
 #[test]
 fn triples_touch_keys(rt: HostRuntime) -> Result<(), Fail> {
-    let other = first_other(rt.alloc(), TOUCHES, touches_as_said);
-    assert_eq!(rt; other, Ok(""));
-    Ok(())
+    all_met(rt.alloc(), TOUCHES, touches_as_said)
 }
 
 fn keys_in(alloc: Global, words: &str) -> Result<Vec<Key>, RowFault> {
@@ -60,9 +58,7 @@ fn has_keys(alloc: Global, row: &str) -> Result<bool, RowFault> {
 
 #[test]
 fn triples_have_their_keys(rt: HostRuntime) -> Result<(), Fail> {
-    let other = first_other(rt.alloc(), KEYS_OF, has_keys);
-    assert_eq!(rt; other, Ok(""));
-    Ok(())
+    all_met(rt.alloc(), KEYS_OF, has_keys)
 }
 
 // By kind, and then by the numbers; the numbers of letters go up from `x`.
@@ -205,7 +201,5 @@ fn are_added(alloc: Global, row: &str) -> Result<bool, RowFault> {
 
 #[test]
 fn reads_hold_each_key_once_in_order_of_addition(rt: HostRuntime) -> Result<(), Fail> {
-    let other = first_other(rt.alloc(), READS, are_added);
-    assert_eq!(rt; other, Ok(""));
-    Ok(())
+    all_met(rt.alloc(), READS, are_added)
 }

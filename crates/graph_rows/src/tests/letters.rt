@@ -33,20 +33,24 @@ const LETTERS: &str = "xyztusrqpdcba";
 
 /// The number of a letter.
 pub(super) fn number(letter: u8) -> Result<Id, RowFault> {
-    for (id, other) in (VOCABULARY_LEN..).zip(LETTERS.bytes()) {
+    let mut id = VOCABULARY_LEN;
+    for other in LETTERS.bytes() {
         if other == letter {
             return Ok(id);
         }
+        id = id.saturating_add(1);
     }
     Err(RowFault::Unread)
 }
 
 /// The letter of a number, or `!`.
 pub(super) fn letter(id: Id) -> char {
-    for (number, letter) in (VOCABULARY_LEN..).zip(LETTERS.chars()) {
+    let mut number = VOCABULARY_LEN;
+    for letter in LETTERS.chars() {
         if number == id {
             return letter;
         }
+        number = number.saturating_add(1);
     }
     '!'
 }
@@ -82,10 +86,10 @@ pub(super) fn key_of(word: &str) -> Result<Key, RowFault> {
 }
 
 fn enter_letters(alloc: Global, graph: &mut ListGraph) -> Result<(), RowFault> {
-    for (id, line) in (VOCABULARY_LEN..).zip(TERMS.lines()) {
+    for line in TERMS.lines() {
         let (letter, word) = cut(line, " ")?;
         let entered = graph.enter(&term(alloc, word)?)?;
-        if entered != id || letter.bytes().next().map(number) != Some(Ok(id)) {
+        if letter.bytes().next().map(number) != Some(Ok(entered)) {
             return Err(RowFault::Unread);
         }
     }

@@ -1,7 +1,7 @@
 mod rows;
 
 use super::seen::{STATED, outcome};
-use row_tools::{RowFault, cut, first_other, number};
+use row_tools::{RowFault, all_met, cut, number};
 use shx_term::{Limits, Memory};
 use std::alloc::Global;
 use std::test::Fail;
@@ -29,12 +29,10 @@ fn is_read_within(alloc: Global, row: &str) -> Result<bool, RowFault> {
 
 #[test]
 fn lines_that_are_too_long(rt: HostRuntime) -> Result<(), Fail> {
-    assert_eq!(rt; first_other(rt.alloc(), rows::LONG, is_read_within)?, "");
-    Ok(())
+    all_met(rt.alloc(), rows::LONG, is_read_within)
 }
 
 #[test]
 fn lines_that_are_no_utf8(rt: HostRuntime) -> Result<(), Fail> {
-    assert_eq!(rt; first_other(rt.alloc(), rows::NO_UTF8, is_read_within)?, "");
-    Ok(())
+    all_met(rt.alloc(), rows::NO_UTF8, is_read_within)
 }

@@ -36,10 +36,12 @@ pub(super) fn number(letter: u8) -> Result<Id, RowFault> {
 fn all_letters(alloc: Global) -> Result<ListGraph, RowFault> {
     let pool = Pool::with_vocabulary(alloc, VOCABULARY_LEN + 26)?;
     let mut graph = ListGraph::new(alloc, pool, 100);
-    for (id, word) in (VOCABULARY_LEN..).zip(TERMS.split_whitespace()) {
-        if graph.enter(&term(alloc, word)?)? != id {
-            return Err(RowFault::Unread);
-        }
+    for word in TERMS.split_whitespace() {
+        graph.enter(&term(alloc, word)?)?;
+    }
+    // They are as many terms, and so their numbers follow one another.
+    if graph.pool().len() != VOCABULARY_LEN + 26 {
+        return Err(RowFault::Unread);
     }
     Ok(graph)
 }

@@ -8,7 +8,7 @@ use path_eval::{
     Path, edits_beside_a_path, equal_paths_have_one_route, paths_depend_on_their_reads,
     paths_lead_to_what_they_relate, values,
 };
-use row_tools::{RowFault, anonymous, first_other, in_three};
+use row_tools::{RowFault, all_met, anonymous, in_three};
 use shx_term::vocabulary::{RDF_REST, VOCABULARY_LEN};
 use shx_term::{Pool, Scope, Triple};
 use std::alloc::Global;
@@ -36,8 +36,7 @@ fn is_as_said(alloc: Global, row: &str) -> Result<bool, RowFault> {
 
 #[test]
 fn paths_lead_and_read_as_said(rt: HostRuntime) -> Result<(), Fail> {
-    assert_eq!(rt; first_other(rt.alloc(), ROWS, is_as_said)?, "");
-    Ok(())
+    all_met(rt.alloc(), ROWS, is_as_said)
 }
 
 // The same where a path is nested.
@@ -50,8 +49,7 @@ fn is_nested_as_said(alloc: Global, row: &str) -> Result<bool, RowFault> {
 
 #[test]
 fn nested_paths_lead_as_said(rt: HostRuntime) -> Result<(), Fail> {
-    assert_eq!(rt; first_other(rt.alloc(), NESTED, is_nested_as_said)?, "");
-    Ok(())
+    all_met(rt.alloc(), NESTED, is_nested_as_said)
 }
 
 fn is_equal_as_said(alloc: Global, row: &str) -> Result<bool, RowFault> {
@@ -66,8 +64,7 @@ fn is_equal_as_said(alloc: Global, row: &str) -> Result<bool, RowFault> {
 
 #[test]
 fn paths_are_equal_as_said(rt: HostRuntime) -> Result<(), Fail> {
-    assert_eq!(rt; first_other(rt.alloc(), PAIRS, is_equal_as_said)?, "");
-    Ok(())
+    all_met(rt.alloc(), PAIRS, is_equal_as_said)
 }
 
 const CHAIN_LEN: u32 = 2000;

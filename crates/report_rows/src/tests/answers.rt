@@ -2,9 +2,9 @@ ghost use Rattle.std.specs.Prelude.{◌<◌};
 
 use super::terms::all_terms;
 use report_write::{Answer, write_answer};
-use row_tools::{RowFault, cut, first_other, number};
+use row_tools::{RowFault, all_met, cut, number};
 use shx_outside::{MemorySink, Role};
-use shx_term::fault_codes::{LINE_SYNTAX, NOT_BUILT, TEXT_TOO_LONG};
+use shx_term::fault_codes::{LINE_SYNTAX, SCRIPT_TOO_LONG, TEXT_TOO_LONG};
 use shx_term::{Memory, Pool};
 use std::alloc::Global;
 use std::test::Fail;
@@ -16,14 +16,13 @@ const LAST_LINE: u64 = 18446744073709551615;
 const ANSWERS: &str = "\
 changed=ok changed=
 unchanged=ok unchanged=
-refused=refused line 18446744073709551615: 59 NotBuilt=
+refused=refused line 18446744073709551615: 58 ScriptTooLong=
 unknown=refused line 18446744073709551615: 11 =
 fault=fault data: 10 TextTooLong at 0=
 last=fault script: 4294967295  at 18446744073709551615=
 long shapes=fault shapes: 10 TextTooLong=
 long data=fault data: 10 TextTooLong=
 long script=fault script: 58 ScriptTooLong=
-not built=fault shapes: 59 NotBuilt=
 count=count triples=18446744073709551615 pairs=0 results=7=
 refused at=refused line 3: 52 LineSyntax at 17=
 ";
@@ -32,14 +31,13 @@ fn answer_of(word: &str) -> Result<Answer, RowFault> {
     match word {
         "changed" => Ok(Answer::Changed),
         "unchanged" => Ok(Answer::Unchanged),
-        "refused" => Ok(refusal(NOT_BUILT)),
+        "refused" => Ok(refusal(SCRIPT_TOO_LONG)),
         "unknown" => Ok(refusal(11)),
         "fault" => Ok(fault(Role::Data, TEXT_TOO_LONG, 0)),
         "last" => Ok(fault(Role::Script, u32::MAX, u64::MAX)),
         "long shapes" => Ok(Answer::TooLong { role: Role::Shapes }),
         "long data" => Ok(Answer::TooLong { role: Role::Data }),
         "long script" => Ok(Answer::TooLong { role: Role::Script }),
-        "not built" => Ok(Answer::NotBuilt { role: Role::Shapes }),
         "count" => Ok(Answer::Count {
             triples: u64::MAX,
             pairs: 0,
@@ -111,8 +109,7 @@ fn puts_answer(alloc: Global, row: &str) -> Result<bool, RowFault> {
 
 #[test]
 fn answers_are_put_whole(rt: HostRuntime) -> Result<(), Fail> {
-    assert_eq!(rt; first_other(rt.alloc(), ANSWERS, puts_answer)?, "");
-    Ok(())
+    all_met(rt.alloc(), ANSWERS, puts_answer)
 }
 
 #[test]
@@ -137,7 +134,7 @@ const NAMES: &str = "\
 8 TooManyTriples
 9 TooManyTerms
 10 TextTooLong
-59 NotBuilt
+58 ScriptTooLong
 ";
 
 // Whether a fault of the data with the code of a row is put with its name.
@@ -150,6 +147,5 @@ fn puts_name(alloc: Global, row: &str) -> Result<bool, RowFault> {
 
 #[test]
 fn codes_are_put_with_their_names(rt: HostRuntime) -> Result<(), Fail> {
-    assert_eq!(rt; first_other(rt.alloc(), NAMES, puts_name)?, "");
-    Ok(())
+    all_met(rt.alloc(), NAMES, puts_name)
 }

@@ -2,7 +2,7 @@ use super::rows::PATHS;
 use super::terms::{all_terms, id_of, spelled_out};
 use path_eval::Path;
 use report_write::add_path;
-use row_tools::{RowFault, first_other, in_three, number};
+use row_tools::{RowFault, all_met, in_three, number};
 use shx_outside::MemorySink;
 use shx_term::Pool;
 use std::alloc::Global;
@@ -86,6 +86,5 @@ fn is_as_said(alloc: Global, row: &str) -> Result<bool, RowFault> {
 
 #[test]
 fn paths_are_put_as_said(rt: HostRuntime) -> Result<(), Fail> {
-    assert_eq!(rt; first_other(rt.alloc(), PATHS, is_as_said)?, "");
-    Ok(())
+    all_met(rt.alloc(), PATHS, is_as_said)
 }

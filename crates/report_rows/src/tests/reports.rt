@@ -6,7 +6,7 @@ use super::terms::{all_terms, spelled_out};
 use super::turtle_rows::TURTLE_REPORTS;
 use comp_core::ResultRow;
 use report_write::{add_head, add_rows, add_tail, write_report};
-use row_tools::{RowFault, cut, first_other_block, in_four, in_three};
+use row_tools::{RowFault, all_blocks_met, cut, in_four, in_three};
 use shape_eval::Plan;
 use shx_outside::MemorySink;
 use shx_term::{Memory, Pieces, Pool};
@@ -90,13 +90,10 @@ fn is_as_said_in_turtle(alloc: Global, block: &str) -> Result<bool, RowFault> {
 
 #[test]
 fn reports_are_put_as_said(rt: HostRuntime) -> Result<(), Fail> {
-    assert_eq!(rt; first_other_block(rt.alloc(), REPORTS, is_as_said)?, "");
-    Ok(())
+    all_blocks_met(rt.alloc(), REPORTS, is_as_said)
 }
 
 #[test]
 fn reports_in_turtle_are_put_as_said(rt: HostRuntime) -> Result<(), Fail> {
-    let other = first_other_block(rt.alloc(), TURTLE_REPORTS, is_as_said_in_turtle)?;
-    assert_eq!(rt; other, "");
-    Ok(())
+    all_blocks_met(rt.alloc(), TURTLE_REPORTS, is_as_said_in_turtle)
 }

@@ -2,7 +2,7 @@
 use super::answers::puts_line;
 use super::terms::{all_terms, id_of, spelled_out};
 use report_write::Answer;
-use row_tools::{RowFault, cut, first_other, in_four, number};
+use row_tools::{RowFault, all_met, cut, in_four, number};
 use shx_term::Pool;
 use std::alloc::Global;
 use std::test::Fail;
@@ -54,8 +54,7 @@ fn puts_rule(alloc: Global, row: &str) -> Result<bool, RowFault> {
 
 #[test]
 fn rules_tell_shape_predicate_and_term(rt: HostRuntime) -> Result<(), Fail> {
-    assert_eq!(rt; first_other(rt.alloc(), RULES, puts_rule)?, "");
-    Ok(())
+    all_met(rt.alloc(), RULES, puts_rule)
 }
 
 // Whether a fault of a blank node that is a shape is put with the code and name of a row.
@@ -72,11 +71,7 @@ fn puts_shape_fault(alloc: Global, row: &str) -> Result<bool, RowFault> {
 
 #[test]
 fn faults_of_shapes_tell_the_shape(rt: HostRuntime) -> Result<(), Fail> {
-    assert_eq!(rt;
-        first_other(rt.alloc(), SHAPE_FAULTS, puts_shape_fault)?,
-        ""
-    );
-    Ok(())
+    all_met(rt.alloc(), SHAPE_FAULTS, puts_shape_fault)
 }
 
 #[test]

@@ -1,5 +1,5 @@
 use Rattle.shx_term.specs.Limits.{program_limits}
-use Rattle.shacl_run.specs.Words.{command_words}
+use Rattle.command_words.specs.Words.{command_words}
 use Rattle.shacl_run.proofs.AdmittedLemmas.{all_admitted}
 use Rattle.shacl_keep.proofs.run_counted.Goals as goal
 

@@ -5,7 +5,7 @@ use row_tools::{RowFault, number};
 use shx_term::Limits;
 
 // The marks of the parts of a block, behind `== `.
-const MARKS: [&str; 9] = [
+const MARKS: [&str; 10] = [
     "words\n",
     "limits\n",
     "outside\n",
@@ -14,6 +14,7 @@ const MARKS: [&str; 9] = [
     "data\n",
     "script\n",
     "output\n",
+    "front\n",
     "status ",
 ];
 
@@ -35,10 +36,10 @@ const LIMITS: [&str; 10] = [
 ///
 /// It is written as a block of text, in parts that begin with marks: `== run NAME`, `== words` (one a line),
 /// `== limits` and `== outside` (a name and a number a line), `== prefixes` (what the shapes and the data
-/// begin with), `== shapes`, `== data`, `== script`, `== output` and `== status N`. A part that a block
-/// leaves out is that of the block that its table shares, and is else empty. A text that ends in `$` has no
-/// line feed at its end, and U+FFFF in it stands for the byte 255. An output may have its IRIs in braces, as
-/// `spelled_out` says. A block with another mark or another name cannot be read.
+/// begin with), `== shapes`, `== data`, `== script`, `== output` (or `== front`, where a proper front of it is
+/// due) and `== status N`. A part that a block leaves out is that of the block that its table shares, and is
+/// else empty. A text that ends in `$` has no line feed at its end, and U+FFFF in it stands for the byte 255.
+/// A block with another mark or another name cannot be read.
 #[derive(Clone, Copy)]
 pub(super) struct Case<'a> {
     pub words: &'a str,
@@ -49,6 +50,7 @@ pub(super) struct Case<'a> {
     pub data: &'a str,
     pub script: &'a str,
     pub output: &'a str,
+    pub is_front: bool,
     pub status: u8,
 }
 
@@ -60,6 +62,7 @@ impl<'a> Case<'a> {
         if !has_known_marks(block) || !has_known_marks(shared) {
             return Err(RowFault::Unread);
         }
+        let front = behind(block, "== front\n");
         Ok(Case {
             words: words_of(block, shared),
             limits: limits_of(part(block, shared, "== limits\n"))?,
@@ -68,7 +71,8 @@ impl<'a> Case<'a> {
             shapes: part(block, shared, "== shapes\n"),
             data: part(block, shared, "== data\n"),
             script: part(block, shared, "== script\n"),
-            output: part(block, shared, "== output\n"),
+            output: front.unwrap_or(part(block, shared, "== output\n")),
+            is_front: front.is_some(),
             status: status_of(part(block, shared, "== status "))?,
         })
     }

@@ -8,16 +8,18 @@ use shx_outside::{
 use std::alloc::Global;
 
 // The names of what the outside does.
-const NAMES: [&str; 5] = [
+const NAMES: [&str; 6] = [
     "read bytes ",
     "failing call ",
     "put bytes ",
     "failing put ",
     "failing pattern ",
+    "further ",
 ];
 
 /// What the outside does in a run: a read gives and a put takes so many bytes at most, and a call of the
-/// inputs, a put and a pattern fail, each counted from 1, where 0 fails none.
+/// inputs, a put and a pattern fail, each counted from 1, where 0 fails none. So many further runs are due
+/// alike, in each of which the call or the put that fails is the one behind that of the run before.
 #[derive(Clone, Copy)]
 pub(super) struct Outside {
     pub read_bytes: u64,
@@ -25,6 +27,7 @@ pub(super) struct Outside {
     pub put_bytes: u64,
     pub failing_put: u64,
     pub failing_pattern: u64,
+    pub further: u64,
 }
 
 impl Outside {
@@ -38,7 +41,17 @@ impl Outside {
             put_bytes: number_behind(lines, "put bytes ", 4096)?,
             failing_put: number_behind(lines, "failing put ", 0)?,
             failing_pattern: number_behind(lines, "failing pattern ", 0)?,
+            further: number_behind(lines, "further ", 0)?,
         })
+    }
+
+    /// The outside of the run that is so many further.
+    pub fn of_further(&self, runs: u64) -> Outside {
+        Outside {
+            failing_call: further(self.failing_call, runs),
+            failing_put: further(self.failing_put, runs),
+            ..*self
+        }
     }
 
     /// Inputs that hold the texts of a case.
@@ -61,7 +74,8 @@ impl Outside {
     }
 }
 
-fn files_of(alloc: Global, case: &Case) -> Result<Vec<NamedText>, Memory> {
+/// The texts of a case, by the names that its words have for them.
+pub(super) fn files_of(alloc: Global, case: &Case) -> Result<Vec<NamedText>, Memory> {
     let mut files = Vec::new(alloc);
     files.push(named(alloc, "shapes", case.prefixes, case.shapes)?)?;
     files.push(named(alloc, "data", case.prefixes, case.data)?)?;
@@ -94,6 +108,14 @@ fn bytes_of(alloc: Global, prefixes: &str, text: &str) -> Result<Vec<u8>, Memory
 
 fn only(alloc: Global, number: u64) -> Result<Vec<u64>, Memory> {
     Ok(vec![in alloc; number]?)
+}
+
+// A number so many further, where there is one.
+fn further(number: u64, by: u64) -> u64 {
+    match number {
+        0 => 0,
+        number => number.saturating_add(by),
+    }
 }
 
 fn piece(bytes: u64) -> usize

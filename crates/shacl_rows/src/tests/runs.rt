@@ -1,42 +1,52 @@
 ghost use Rattle.std.specs.Prelude.{◌≡◌};
 ghost use Rattle.shx_term.specs.Limits.{AreUsable};
+ghost use Rattle.command_words.specs.Words.{command_words};
+ghost use Rattle.shacl_run.specs.Admits.{AdmitsFiles};
+ghost use Rattle.shacl_run.specs.RunClauses.{PatternsAreAdmittedBy};
 
 use super::case::{Case, name_of};
-use super::due::spelled_out;
 use super::outside::Outside;
 use row_tools::RowFault;
 use shacl_run::{Status, run};
-use shx_outside::{FailingHost, Memory, MemoryInputs, MemorySink, RegexHost};
+use shx_outside::{
+    FailingHost, Inputs, Memory, MemoryInputs, MemorySink, PatternHost, RegexHost, Sink,
+};
 use shx_term::{Limits, Steps, Text};
 use std::alloc::{AllocError, Global};
 use std::marker::Brand;
-use std::process::Abort;
 use std::sync::ledger::{Blank, Ledger};
 use std::test::Fail;
 
 /// How a run ended, and the sink with the bytes that it put.
 #[derive(Drop)]
-pub(super) struct Ended {
-    pub status: Status,
-    pub sink: MemorySink,
+struct Ended {
+    status: Status,
+    sink: MemorySink,
 }
 
 impl Ended {
-    /// Whether these bytes were put, and the run ended with the status of this number.
-    pub fn is(&self, output: &str, status: u8) -> bool {
-        self.status.number() == status && self.sink.bytes() == output.as_bytes()
+    /// Whether the bytes that are due were put, and the run ended with the status that is due.
+    fn is_due(&self, case: &Case) -> bool {
+        let bytes = self.sink.bytes();
+        let due = case.output.as_bytes();
+        let is_put = if case.is_front {
+            bytes.len() < due.len() && due.starts_with(bytes)
+        } else {
+            bytes == due
+        };
+        is_put && self.status.number() == case.status
     }
 }
 
 /// Runs a case in an outside.
-pub(super) fn run_in(alloc: Global, case: &Case, outside: Outside) -> Result<Ended, Memory>
+fn run_in(alloc: Global, case: &Case, outside: Outside) -> Result<Ended, Memory>
     requires { AreUsable case.now.limits }
 {
     let words = texts_of(alloc, case.words)?;
     let mut host = outside.inputs(alloc, case)?;
     let mut sink = outside.sink(alloc)?;
     let mut patterns = outside.patterns(alloc)?;
-    let status = run_counted::<Brand, Brand>(
+    let status = run_counted::<MemoryInputs, MemorySink, FailingHost<RegexHost>, Brand, Brand>(
         alloc,
         &words,
         &mut host,
@@ -49,7 +59,8 @@ pub(super) fn run_in(alloc: Global, case: &Case, outside: Outside) -> Result<End
     Ok(Ended { status, sink })
 }
 
-fn texts_of(alloc: Global, words: &str) -> Result<Vec<Text>, Memory> {
+/// Words, one a line, as the system would give them.
+pub(super) fn texts_of(alloc: Global, words: &str) -> Result<Vec<Text>, Memory> {
     let mut texts = Vec::new(alloc);
     for word in words.lines() {
         texts.push(Text::new(String::from_str(alloc, word)?))?;
@@ -57,18 +68,21 @@ fn texts_of(alloc: Global, words: &str) -> Result<Vec<Text>, Memory> {
     Ok(texts)
 }
 
-// Runs with counters of its own.
-fn run_counted<L: Ledger, M: Ledger>(
+/// Runs with counters of its own.
+pub(super) fn run_counted<H: Inputs, O: Sink, P: PatternHost, L: Ledger, M: Ledger>(
     alloc: Global,
     words: &[Text],
-    host: &mut MemoryInputs,
-    sink: &mut MemorySink,
-    patterns: &mut FailingHost<RegexHost>,
+    host: &mut H,
+    sink: &mut O,
+    patterns: &mut P,
     limits: &Limits,
     steps: Blank,
     nested: Blank,
 ) -> Status
     requires limits { AreUsable limits.now }
+    requires admitted { AdmitsFiles (H.admits host.old) (command_words words.now) }
+    requires patterns { PatternsAreAdmittedBy limits.now (command_words words.now) (H.state host.old).text
+        (P.admits patterns.old) }
     requires steps_name { steps.name ≡ L.name }
     requires steps_parts { steps.parts ≡ L.parts }
     requires steps_some { steps.parts ≡ 1 }
@@ -90,45 +104,29 @@ fn run_counted<L: Ledger, M: Ledger>(
     )
 }
 
-/// Whether a case puts its output and ends with its status.
-pub(super) fn ends_as_due(alloc: Global, case: &Case) -> Result<bool, RowFault>
-    requires { AreUsable case.now.limits }
-{
-    let ended = run_in(alloc, case, Outside::of(case.outside)?)?;
-    let output = spelled_out(alloc, case.output)?;
-    Ok(ended.is(output.as_str(), case.status))
+// Whether the run of a block, with the parts that it leaves out from another, ends as it has to, and so do the
+// further runs that it asks for.
+fn ends_as_due(alloc: Global, block: &str, shared: &str) -> Result<bool, RowFault> {
+    let case = Case::of(block, shared)?;
+    let outside = Outside::of(case.outside)?;
+    for runs in 0..=outside.further {
+        if !run_in(alloc, &case, outside.of_further(runs))?.is_due(&case) {
+            return Ok(false);
+        }
+    }
+    Ok(true)
 }
 
-// Whether the run of a block, with the parts that it leaves out from another, ends as it has to.
-fn ends_as_said(alloc: Global, block: &str, shared: &str) -> Result<bool, RowFault> {
-    ends_as_due(alloc, &Case::of(block, shared)?)
-}
-
-// The name of the first run of a table that ends in another way than it has to, or nothing.
-fn first_other(
-    alloc: Global,
-    shared: &'static str,
-    table: &'static str,
-) -> Result<&'static str, Memory> {
+/// Fails with the name of the first run of a table that ends in another way than it has to.
+pub(super) fn all_end_as_due(alloc: Global, shared: &str, table: &'static str) -> Result<(), Fail> {
     for block in table.split("== run ") {
         if !block.is_empty() {
-            match ends_as_said(alloc, block, shared) {
+            match ends_as_due(alloc, block, shared) {
                 Ok(true) => {}
-                Ok(false) | Err(RowFault::Unread) => return Ok(name_of(block)),
-                Err(RowFault::Memory) => return Err(AllocError),
+                Ok(false) | Err(RowFault::Unread) => return Err(Fail::new(name_of(block))),
+                Err(RowFault::Memory) => return Err(Fail::from(AllocError)),
             }
         }
     }
-    Ok("")
-}
-
-/// Runs a table, and stops the test with the name of the first run that ends in another way than it has to.
-pub(super) fn all_end_as_due<R: Abort + AllocGlobal>(
-    rt: &R,
-    shared: &'static str,
-    table: &'static str,
-) -> Result<(), Fail> {
-    let other = first_other(rt.alloc(), shared, table)?;
-    assert_eq!(rt; other, "");
     Ok(())
 }

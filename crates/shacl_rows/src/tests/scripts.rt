@@ -1,226 +1,72 @@
-use super::rows::FIRST_RUN;
+//! Lines, scripts and edits at each limit, and one past it.
 use super::runs::all_end_as_due;
 use std::test::Fail;
 
-const CHANGES: &str = "\
-== run an insertion that changes the report
-== script
-report
-insert <http://e/a> <http://e/p> <http://e/c> .
-report
-insert <http://e/a> <http://e/p> <http://e/b> .
-report
-insert <http://e/a> <http://e/p> <http://e/b> .
-report
-== output
-report conforms=false results=1
-result HasValue Violation <http://e/S> <http://e/a> <http://e/p> -
-report conforms=false results=1
-result HasValue Violation <http://e/S> <http://e/a> <http://e/p> -
-ok changed
-report conforms=false results=1
-result HasValue Violation <http://e/S> <http://e/a> <http://e/p> -
-ok changed
-report conforms=true results=0
-ok unchanged
-report conforms=true results=0
-== status 0
-== run the last graph decides
-== script
-insert <http://e/a> <http://e/p> <http://e/b> .
-== output
-report conforms=false results=1
-result HasValue Violation <http://e/S> <http://e/a> <http://e/p> -
-ok changed
-== status 0
-== run a triple of the data is there
-== data
-<http://e/a> <http://e/p> <http://e/b> .
-== script
-insert <http://e/a> <http://e/p> <http://e/b> .
-== output
-report conforms=true results=0
-ok unchanged
-== status 0
-== run a triple of the shapes is not in the data
-== script
-insert <http://e/S> <http://www.w3.org/ns/shacl#path> <http://e/p> .
-report
-== output
-report conforms=false results=1
-result HasValue Violation <http://e/S> <http://e/a> <http://e/p> -
-ok changed
-report conforms=false results=1
-result HasValue Violation <http://e/S> <http://e/a> <http://e/p> -
-== status 1
-== run no line
-== script
-== output
-report conforms=false results=1
-result HasValue Violation <http://e/S> <http://e/a> <http://e/p> -
-== status 1
-";
-
-#[test]
-fn insertions_change_reports(rt: HostRuntime) -> Result<(), Fail> {
-    all_end_as_due(&rt, FIRST_RUN, CHANGES)
-}
-
 const LINES: &str = "\
-== run a report as the last line, without a line feed
+== run line_limits
+== limits
+line 32
 == script
-report$
+xxxxxxxxxxxxxxxxxxxxxxxxxxxxxxxxx
+\u{ffff}
+begin
 == output
 report conforms=true results=0
-report conforms=true results=0
-== status 0
-== run an insertion as the last line, without a line feed
-== script
-insert <e:a> <e:p> <e:b> .$
-== output
-report conforms=true results=0
-ok changed
-== status 0
-== run an empty line
-== script
-
-== output
-report conforms=true results=0
-refused line 1: 59 NotBuilt
+refused line 1: 50 LineTooLong
+refused line 2: 51 LineNotUtf8
+refused line 3: 52 LineSyntax
 == status 7
-== run empty lines between others
+== run lines of six bytes and of more, whatever is in them
+== limits
+line 6
 == script
 report
-
-insert <e:a> <e:p> <e:b> .
-
-report
-== output
-report conforms=true results=0
-report conforms=true results=0
-refused line 2: 59 NotBuilt
-ok changed
-refused line 4: 59 NotBuilt
-report conforms=true results=0
-== status 7
-== run a report many times
-== script
-report
-report
-report
-report
-report
-== output
-report conforms=true results=0
-report conforms=true results=0
-report conforms=true results=0
-report conforms=true results=0
-report conforms=true results=0
-report conforms=true results=0
-== status 0
-== run each refused line has its number
-== script
-insert <e:a> <e:p> <e:b>
 report\x20
-insert <e:a> <e:p> <e:b> .
-\x20insert <e:a> <e:p> <e:c> .
-insert <e:a> <e:p> <e:b> .
-report .
+# 1234
+# 12345
+# é23
+# é234
+\x20\x20\x20\x20\x20\x20\x20
+\u{ffff}\u{ffff}\u{ffff}\u{ffff}\u{ffff}\u{ffff}\u{ffff}
+\u{ffff}\u{ffff}\u{ffff}\u{ffff}\u{ffff}\u{ffff}
+insert z:s z:p z:o .
+count\r
+count\x20\r
+xxxxxx
+xxxxxxx
+report\x20$
 == output
 report conforms=true results=0
-refused line 1: 59 NotBuilt
-refused line 2: 59 NotBuilt
-ok changed
-refused line 4: 59 NotBuilt
-ok unchanged
-refused line 6: 59 NotBuilt
-== status 7
-";
-
-#[test]
-fn lines_are_answered(rt: HostRuntime) -> Result<(), Fail> {
-    all_end_as_due(&rt, "", LINES)
-}
-
-const REFUSED_LINE: &str = "\
-== output
 report conforms=true results=0
-refused line 1: 59 NotBuilt
+refused line 2: 50 LineTooLong
+refused line 4: 50 LineTooLong
+refused line 6: 50 LineTooLong
+refused line 7: 50 LineTooLong
+refused line 8: 50 LineTooLong
+refused line 9: 51 LineNotUtf8
+refused line 10: 50 LineTooLong
+count triples=0 pairs=0 results=0
+refused line 12: 50 LineTooLong
+refused line 13: 52 LineSyntax
+refused line 14: 50 LineTooLong
+refused line 15: 50 LineTooLong
 == status 7
-";
-
-const REFUSED_LINES: &str = "\
-== run count
-== script
-count
-== run remove
-== script
-remove <e:a> <e:p> <e:b> .
-== run a triple alone
-== script
-<e:a> <e:p> <e:b> .
-== run insert alone
-== script
-insert
-== run insert and a space
-== script
-insert\x20
-== run insert without a space
-== script
-insert<e:a> <e:p> <e:b> .
-== run insert and a tab
-== script
-insert\t<e:a> <e:p> <e:b> .
-== run another case
-== script
-Insert <e:a> <e:p> <e:b> .
-== run a report of another case
-== script
-REPORT
-== run a longer word
-== script
-reports
-== run a shorter word
-== script
-repor
-== run a report behind a space
-== script
-\x20report
-== run a report before a space
-== script
-report\x20
-== run a report before a carriage return
-== script
-report\r
-== run a byte order mark
-== script
-\u{feff}report
-== run a comment
-== script
-# report
-";
-
-#[test]
-fn what_is_no_command_is_refused(rt: HostRuntime) -> Result<(), Fail> {
-    all_end_as_due(&rt, REFUSED_LINE, REFUSED_LINES)
-}
-
-// The first line has 26 bytes, the second 27.
-const LONG_LINES: &str = "\
-== run a line past its limit
+== run an insertion past the limit of a line
 == limits
 line 26
 == script
 insert <e:a> <e:p> <e:b> .
 insert <e:a> <e:p> <e:bc> .
-report
+remove <e:a> <e:p> <e:b> .\r
+count
 == output
 report conforms=true results=0
 ok changed
-refused line 2: 59 NotBuilt
-report conforms=true results=0
+refused line 2: 50 LineTooLong
+refused line 3: 50 LineTooLong
+count triples=1 pairs=0 results=0
 == status 7
-== run a last line at its limit
+== run a last line at its limit, without a line feed
 == limits
 line 26
 == script
@@ -229,16 +75,7 @@ insert <e:a> <e:p> <e:b> .$
 report conforms=true results=0
 ok changed
 == status 0
-== run a last line past its limit
-== limits
-line 26
-== script
-insert <e:a> <e:p> <e:bc> .$
-== output
-report conforms=true results=0
-refused line 1: 59 NotBuilt
-== status 7
-== run in pieces of a byte
+== run lines at their limit, in pieces of a byte
 == limits
 line 6
 == outside
@@ -250,30 +87,43 @@ report
 == output
 report conforms=true results=0
 report conforms=true results=0
-refused line 2: 59 NotBuilt
+refused line 2: 50 LineTooLong
 report conforms=true results=0
+== status 7
+== run a line past its limit, in Turtle
+== words
+--format=turtle
+shapes
+data
+script
+== limits
+line 6
+== script
+counts
+reports
+== output
+@prefix sh: <http://www.w3.org/ns/shacl#> .
+[] a sh:ValidationReport ;
+  sh:conforms true .
+# refused line 1: 52 LineSyntax
+# refused line 2: 50 LineTooLong
 == status 7
 ";
 
-#[test]
-fn lines_within_their_limit(rt: HostRuntime) -> Result<(), Fail> {
-    all_end_as_due(&rt, "", LONG_LINES)
-}
-
-const SCRIPT_PAST_LIMIT: &str = "\
+const TWO_REPORTS: &str = "\
 == script
 report
 report
 == output
 report conforms=true results=0
 report conforms=true results=0
-fault script: 59 NotBuilt
+fault script: 58 ScriptTooLong
 == status 3
 ";
 
 // The lines whose line feed stands within the limit are answered.
-const LONG_SCRIPTS: &str = "\
-== run at its limit
+const SCRIPTS: &str = "\
+== run a script at its limit
 == limits
 script 14
 == output
@@ -281,10 +131,10 @@ report conforms=true results=0
 report conforms=true results=0
 report conforms=true results=0
 == status 0
-== run its last line feed is past the limit
+== run the last line feed is past the limit
 == limits
 script 13
-== run at its limit, without a line feed
+== run a script at its limit, without a line feed
 == limits
 script 13
 == script
@@ -295,7 +145,7 @@ report conforms=true results=0
 report conforms=true results=0
 report conforms=true results=0
 == status 0
-== run past its limit, without a line feed
+== run a script past its limit, without a line feed
 == limits
 script 12
 == script
@@ -309,18 +159,40 @@ script 7
 script 6
 == output
 report conforms=true results=0
-fault script: 59 NotBuilt
+fault script: 58 ScriptTooLong
 == status 3
 == run a refused line before the limit
 == limits
 script 6
 == script
-count
+begin
 report
 == output
 report conforms=true results=0
-refused line 1: 59 NotBuilt
-fault script: 59 NotBuilt
+refused line 1: 52 LineSyntax
+fault script: 58 ScriptTooLong
+== status 3
+== run an insertion before the limit
+== limits
+script 27
+== script
+insert <e:a> <e:p> <e:b> .
+count
+== output
+report conforms=true results=0
+ok changed
+fault script: 58 ScriptTooLong
+== status 3
+== run blank lines past the limit
+== limits
+script 2
+== script
+
+
+
+== output
+report conforms=true results=0
+fault script: 58 ScriptTooLong
 == status 3
 == run in pieces of a byte
 == limits
@@ -332,9 +204,177 @@ read bytes 1
 script 13
 == outside
 read bytes 7
+== run a script past its limit, in Turtle
+== words
+shapes
+data
+script
+--format
+turtle
+== limits
+script 6
+== script
+count
+report
+== output
+@prefix sh: <http://www.w3.org/ns/shacl#> .
+[] a sh:ValidationReport ;
+  sh:conforms true .
+# count triples=0 pairs=0 results=0
+# fault script: 58 ScriptTooLong
+== status 3
+";
+
+const EDITS: &str = "\
+== run full_graph
+== limits
+triples 3
+== data
+<a:s> <a:p> <a:o> , <a:q> , <a:r> .
+== script
+insert <a:s> <a:p> <a:t> .
+remove <a:s> <a:p> <a:o> .
+insert <a:s> <a:p> <a:t> .
+== output
+report conforms=true results=0
+refused line 1: 40 TooManyTriples
+ok changed
+ok changed
+== status 7
+== run full_pool
+== limits
+terms 65
+== script
+insert <a:s> <a:p> <a:o> .
+insert <a:s> <a:p> <a:q> .
+== output
+report conforms=true results=0
+ok changed
+refused line 2: 41 TooManyTerms
+== status 7
+== run triples before terms
+== limits
+triples 1
+terms 65
+== script
+insert <a:s> <a:p> <a:o> .
+insert <a:s> <a:p> <a:q> .
+insert <a:s> <a:p> <a:o> .
+remove <a:s> <a:p> <a:q> .
+remove <a:s> <a:p> <a:o> .
+insert <a:s> <a:p> <a:q> .
+insert <a:o> <a:p> <a:s> .
+== output
+report conforms=true results=0
+ok changed
+refused line 2: 40 TooManyTriples
+ok unchanged
+ok unchanged
+ok changed
+refused line 6: 41 TooManyTerms
+ok changed
+== status 7
+== run triples of the data and of lines, each once
+== limits
+triples 3
+== data
+<e:a> <e:p> <e:b> .
+<e:a> <e:p> <e:b> .
+<e:a> <e:p> <e:b> .
+== script
+insert <e:a> <e:p> <e:c> .
+insert <e:a> <e:p> <e:d> .
+insert <e:a> <e:p> <e:e> .
+insert <e:a> <e:p> <e:d> .
+count
+== output
+report conforms=true results=0
+ok changed
+ok changed
+refused line 3: 40 TooManyTriples
+ok unchanged
+count triples=3 pairs=0 results=0
+== status 7
+== run terms stay where their triples are removed
+== limits
+terms 65
+== script
+insert <e:a> <e:p> <e:b> .
+remove <e:a> <e:p> <e:b> .
+insert <e:a> <e:p> <e:c> .
+insert <e:b> <e:p> <e:a> .
+== output
+report conforms=true results=0
+ok changed
+ok changed
+refused line 3: 41 TooManyTerms
+ok changed
+== status 7
+== run terms of a refused line are not held
+== limits
+terms 65
+== script
+insert <e:a> <e:b> <e:a> .
+insert <e:c> <e:d> <e:a> .
+insert z:s <e:e> <e:f> .
+remove <e:g> <e:h> <e:i> .
+insert <e:b> <e:c> <e:a> .
+insert <e:c> <e:d> <e:a> .
+== output
+report conforms=true results=0
+ok changed
+refused line 2: 41 TooManyTerms
+refused line 3: 53 UnknownPrefix at 7
+ok unchanged
+ok changed
+refused line 6: 41 TooManyTerms
+== status 7
+== run three new terms of which two are equal
+== limits
+terms 64
+== script
+insert <e:a> <e:a> <e:b> .
+insert <e:a> <e:b> <e:b> .
+== output
+report conforms=true results=0
+ok changed
+ok changed
+== status 0
+== run three new terms of which all are equal
+== limits
+terms 63
+== script
+insert <e:a> <e:b> <e:b> .
+insert <e:a> <e:a> <e:a> .
+== output
+report conforms=true results=0
+refused line 1: 41 TooManyTerms
+ok changed
+== status 7
+== run a refused insertion changes no report
+== limits
+triples 3
+== shapes
+<e:S> <http://www.w3.org/ns/shacl#targetNode> <e:a> .
+<e:S> <http://www.w3.org/ns/shacl#path> <e:p> .
+<e:S> <http://www.w3.org/ns/shacl#hasValue> <e:b> .
+== data
+<e:a> <e:p> <e:c> , <e:d> , <e:e> .
+== script
+insert <e:a> <e:p> <e:b> .
+report
+== output
+report conforms=false results=1
+result HasValue Violation <e:S> <e:a> <e:p> -
+refused line 1: 40 TooManyTriples
+report conforms=false results=1
+result HasValue Violation <e:S> <e:a> <e:p> -
+== status 7
 ";
 
 #[test]
-fn scripts_within_their_limit(rt: HostRuntime) -> Result<(), Fail> {
-    all_end_as_due(&rt, SCRIPT_PAST_LIMIT, LONG_SCRIPTS)
+fn scripts_within_limits(rt: HostRuntime) -> Result<(), Fail> {
+    all_end_as_due(rt.alloc(), "", LINES)?;
+    all_end_as_due(rt.alloc(), TWO_REPORTS, SCRIPTS)?;
+    all_end_as_due(rt.alloc(), "", EDITS)
 }

@@ -2,6 +2,7 @@
 use Rattle.std.specs.Prelude.{◌≡◌, ℕ, List}
 use Rattle.shx_outside.specs.declared.role.Role.TheVariants.{Shapes as of_shapes, Data as of_data}
 use Rattle.shx_term.specs.declared.limits.Limits.{Limits}
+use Rattle.text_output.specs.declared.format.Format.{Format}
 use Rattle.shx_term.specs.declared.term.Scope.TheVariants.{Shapes, Data}
 use Rattle.shx_term.specs.declared.term.Term.{Term}
 use Rattle.shx_term.specs.Vocabulary.{vocabulary}
@@ -71,10 +72,10 @@ RefusesShapes limits base text refusals refusals' (unopened.Cut stop) = Unit {0}
 -- ---- the data text
 
 -- the data text is read as what this validation is opened for, where these terms are held
-abbrev pub Opens : Limits → List ℕ → List Term → Planned → List ℕ → Validation → Type 0
-Opens limits base held plan text validation =
+abbrev pub Opens : Limits → Format → List ℕ → List Term → Planned → List ℕ → Validation → Type 0
+Opens limits format base held plan text validation =
     (reading : TextReading) × IsReadAs limits base Data held text reading
-    × OpensFor limits plan reading validation
+    × OpensFor limits format plan reading validation
 
 abbrev pub RefusesData : Limits → List ℕ → List Term → List ℕ → Unopened → Type 0
 RefusesData limits base held text (unopened.Told answer pool) =

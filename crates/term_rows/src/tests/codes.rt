@@ -1,4 +1,4 @@
-use row_tools::{RowFault, cut, first_other, in_three, number};
+use row_tools::{RowFault, all_met, cut, in_three, number};
 use shx_term::fault_codes::{code_name, fault_codes, has_place};
 use shx_term::is_scheme;
 use std::alloc::Global;
@@ -64,7 +64,7 @@ fn is_told(_: Global, row: &str) -> Result<bool, RowFault> {
 
 #[test]
 fn codes_have_their_names(rt: HostRuntime) -> Result<(), Fail> {
-    assert_eq!(rt; first_other(rt.alloc(), CODES, is_told)?, "");
+    all_met(rt.alloc(), CODES, is_told)?;
     assert_eq!(rt; fault_codes().len(), CODES.lines().count());
     Ok(())
 }
@@ -121,7 +121,7 @@ fn is_scheme_as_said(_: Global, row: &str) -> Result<bool, RowFault> {
 
 #[test]
 fn schemes(rt: HostRuntime) -> Result<(), Fail> {
-    assert_eq!(rt; first_other(rt.alloc(), SCHEMES, is_scheme_as_said)?, "");
+    all_met(rt.alloc(), SCHEMES, is_scheme_as_said)?;
     assert!(rt; !is_scheme(b""));
     assert!(rt; !is_scheme(b"a b"));
     assert!(rt; !is_scheme(b"a\0"));

@@ -1,7 +1,7 @@
 mod rows;
 
 use super::terms::order_of;
-use row_tools::{RowFault, cut, first_other_block, in_three, iri, number, term};
+use row_tools::{RowFault, all_blocks_met, cut, in_three, iri, number, term};
 use shx_term::vocabulary::*;
 use shx_term::{Id, Memory, Pool, PoolFault, Term, Triple};
 use std::alloc::Global;
@@ -14,17 +14,13 @@ fn is_numbered(alloc: Global, pool: &Pool, id: Id, name: &str) -> Result<bool, M
     Ok(pool.find(&term) == Some(id))
 }
 
-fn first_other_constant(
-    alloc: Global,
-    pool: &Pool,
-    rows: &[(Id, &'static str)],
-) -> Result<&'static str, Memory> {
+fn all_are_numbered(alloc: Global, pool: &Pool, rows: &[(Id, &str)]) -> Result<(), Fail> {
     for (id, name) in rows {
         if !is_numbered(alloc, pool, *id, name)? {
-            return Ok(name);
+            return Err(Fail::new(*name));
         }
     }
-    Ok("")
+    Ok(())
 }
 
 #[test]
@@ -32,8 +28,7 @@ fn constants_are_their_terms(rt: HostRuntime) -> Result<(), Fail> {
     let pool = Pool::with_vocabulary(rt.alloc(), VOCABULARY_LEN)?;
     let rows = vocabulary_rows();
     assert_eq!(rt; rows.len(), 62);
-    assert_eq!(rt; first_other_constant(rt.alloc(), &pool, rows)?, "");
-    Ok(())
+    all_are_numbered(rt.alloc(), &pool, rows)
 }
 
 const NAMED: [(Id, &str); 3] = [
@@ -45,8 +40,7 @@ const NAMED: [(Id, &str); 3] = [
 #[test]
 fn named_constants_are_their_terms(rt: HostRuntime) -> Result<(), Fail> {
     let pool = Pool::with_vocabulary(rt.alloc(), VOCABULARY_LEN)?;
-    assert_eq!(rt; first_other_constant(rt.alloc(), &pool, &NAMED)?, "");
-    Ok(())
+    all_are_numbered(rt.alloc(), &pool, &NAMED)
 }
 
 // The number of a term by its word, or the number itself.
@@ -202,11 +196,7 @@ fn goes_as_said(alloc: Global, block: &str) -> Result<bool, RowFault> {
 
 #[test]
 fn pools_answer_step_by_step(rt: HostRuntime) -> Result<(), Fail> {
-    assert_eq!(rt;
-        first_other_block(rt.alloc(), rows::STEPS, goes_as_said)?,
-        ""
-    );
-    Ok(())
+    all_blocks_met(rt.alloc(), rows::STEPS, goes_as_said)
 }
 
 #[test]

@@ -1,5 +1,5 @@
 use row_tools::{
-    RowFault, anonymous, cut, first_other, in_three, iri_text, label, spelled, term, text,
+    RowFault, all_met, anonymous, cut, in_three, iri_text, label, spelled, term, text,
 };
 use shx_term::{Scope, Term, cmp_terms, spell};
 use std::alloc::Global;
@@ -45,8 +45,7 @@ fn is_spelled(alloc: Global, row: &str) -> Result<bool, RowFault> {
 
 #[test]
 fn terms_are_spelled(rt: HostRuntime) -> Result<(), Fail> {
-    assert_eq!(rt; first_other(rt.alloc(), TERMS, is_spelled)?, "");
-    Ok(())
+    all_met(rt.alloc(), TERMS, is_spelled)
 }
 
 #[test]
@@ -86,8 +85,7 @@ fn is_in_order(alloc: Global, row: &str) -> Result<bool, RowFault> {
 
 #[test]
 fn terms_are_ordered(rt: HostRuntime) -> Result<(), Fail> {
-    assert_eq!(rt; first_other(rt.alloc(), TERMS, is_in_order)?, "");
-    Ok(())
+    all_met(rt.alloc(), TERMS, is_in_order)
 }
 
 // Two texts, and how they compare. A `~` is a line feed.
@@ -148,6 +146,5 @@ fn are_kept(alloc: Global, row: &str) -> Result<bool, RowFault> {
 
 #[test]
 fn texts_are_kept_and_ordered(rt: HostRuntime) -> Result<(), Fail> {
-    assert_eq!(rt; first_other(rt.alloc(), TEXTS, are_kept)?, "");
-    Ok(())
+    all_met(rt.alloc(), TEXTS, are_kept)
 }

@@ -1,4 +1,4 @@
-use row_tools::{RowFault, first_other, first_other_block, in_four};
+use row_tools::{RowFault, all_blocks_met, all_met, in_four};
 use shx_outside::{FailingHost, Flags, Memory, PatternFault, PatternHost, RegexHost};
 use std::alloc::{AllocError, Global};
 use std::test::Fail;
@@ -76,8 +76,7 @@ fn comes_to(alloc: Global, row: &str) -> Result<bool, RowFault> {
 
 #[test]
 fn patterns_are_read_with_their_flags(rt: HostRuntime) -> Result<(), Fail> {
-    assert_eq!(rt; first_other_block(rt.alloc(), MATCHES, comes_to)?, "");
-    Ok(())
+    all_blocks_met(rt.alloc(), MATCHES, comes_to)
 }
 
 fn is_refused(alloc: Global, pattern: &str) -> Result<bool, RowFault> {
@@ -86,8 +85,7 @@ fn is_refused(alloc: Global, pattern: &str) -> Result<bool, RowFault> {
 
 #[test]
 fn patterns_that_would_be_too_large_are_refused(rt: HostRuntime) -> Result<(), Fail> {
-    assert_eq!(rt; first_other(rt.alloc(), TOO_LARGE, is_refused)?, "");
-    Ok(())
+    all_met(rt.alloc(), TOO_LARGE, is_refused)
 }
 
 // An inner text between so many of two others.

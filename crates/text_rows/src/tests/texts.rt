@@ -1,4 +1,4 @@
-use row_tools::{RowFault, cut, first_other, in_four, number};
+use row_tools::{RowFault, all_met, cut, in_four, number};
 use shx_outside::{Bytes, Inputs, MemoryInputs, Name, NamedText, Role};
 use std::alloc::{AllocError, Global};
 use std::test::Fail;
@@ -103,8 +103,7 @@ fn is_read_by_lines(alloc: Global, row: &str) -> Result<bool, RowFault> {
 
 #[test]
 fn scripts_are_read_line_by_line(rt: HostRuntime) -> Result<(), Fail> {
-    assert_eq!(rt; first_other(rt.alloc(), SCRIPTS, is_read_by_lines)?, "");
-    Ok(())
+    all_met(rt.alloc(), SCRIPTS, is_read_by_lines)
 }
 
 // Whether a text is read as is due.
@@ -129,8 +128,7 @@ fn is_read_whole(alloc: Global, row: &str) -> Result<bool, RowFault> {
 
 #[test]
 fn texts_are_read_within_their_limit(rt: HostRuntime) -> Result<(), Fail> {
-    assert_eq!(rt; first_other(rt.alloc(), TEXTS, is_read_whole)?, "");
-    Ok(())
+    all_met(rt.alloc(), TEXTS, is_read_whole)
 }
 
 #[test]

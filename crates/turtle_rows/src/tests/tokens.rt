@@ -2,7 +2,7 @@ mod rows;
 
 ghost use Rattle.ttl_tokens.specs.Unescaped.{IsGiven};
 
-use row_tools::{RowFault, cut, first_other};
+use row_tools::{RowFault, all_met, cut};
 use std::alloc::{AllocError, Global};
 use std::test::Fail;
 use ttl_tokens::{Lookahead, Token, TokenKind, next_token_after};
@@ -57,30 +57,25 @@ fn has_tokens(alloc: Global, row: &str) -> Result<bool, RowFault> {
 
 #[test]
 fn splits(rt: HostRuntime) -> Result<(), Fail> {
-    assert_eq!(rt; first_other(rt.alloc(), rows::SPLITS, has_tokens)?, "");
-    Ok(())
+    all_met(rt.alloc(), rows::SPLITS, has_tokens)
 }
 
 #[test]
 fn names_and_words(rt: HostRuntime) -> Result<(), Fail> {
-    assert_eq!(rt; first_other(rt.alloc(), rows::NAMES, has_tokens)?, "");
-    Ok(())
+    all_met(rt.alloc(), rows::NAMES, has_tokens)
 }
 
 #[test]
 fn numbers(rt: HostRuntime) -> Result<(), Fail> {
-    assert_eq!(rt; first_other(rt.alloc(), rows::NUMBERS, has_tokens)?, "");
-    Ok(())
+    all_met(rt.alloc(), rows::NUMBERS, has_tokens)
 }
 
 #[test]
 fn strings_and_references(rt: HostRuntime) -> Result<(), Fail> {
-    assert_eq!(rt; first_other(rt.alloc(), rows::QUOTED, has_tokens)?, "");
-    Ok(())
+    all_met(rt.alloc(), rows::QUOTED, has_tokens)
 }
 
 #[test]
 fn white_space_and_comments(rt: HostRuntime) -> Result<(), Fail> {
-    assert_eq!(rt; first_other(rt.alloc(), rows::BLANKS, has_tokens)?, "");
-    Ok(())
+    all_met(rt.alloc(), rows::BLANKS, has_tokens)
 }

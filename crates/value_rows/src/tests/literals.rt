@@ -2,7 +2,7 @@ mod orders;
 mod values;
 
 use super::made::{literal, term_of};
-use row_tools::{RowFault, cut, first_other, in_four, in_three};
+use row_tools::{RowFault, all_met, cut, in_four, in_three};
 use shx_term::{IriText, Literal, Memory};
 use std::alloc::Global;
 use std::test::Fail;
@@ -55,8 +55,7 @@ fn has_value(alloc: Global, row: &str) -> Result<bool, RowFault> {
 
 #[test]
 fn numbers_have_their_values(rt: HostRuntime) -> Result<(), Fail> {
-    assert_eq!(rt; first_other(rt.alloc(), values::NUMBERS, has_value)?, "");
-    Ok(())
+    all_met(rt.alloc(), values::NUMBERS, has_value)
 }
 
 #[test]
@@ -67,20 +66,17 @@ fn a_line_feed_is_no_digit(rt: HostRuntime) -> Result<(), Fail> {
 
 #[test]
 fn other_literals_have_their_values(rt: HostRuntime) -> Result<(), Fail> {
-    assert_eq!(rt; first_other(rt.alloc(), values::OTHERS, has_value)?, "");
-    Ok(())
+    all_met(rt.alloc(), values::OTHERS, has_value)
 }
 
 #[test]
 fn moments_have_their_values(rt: HostRuntime) -> Result<(), Fail> {
-    assert_eq!(rt; first_other(rt.alloc(), values::MOMENTS, has_value)?, "");
-    Ok(())
+    all_met(rt.alloc(), values::MOMENTS, has_value)
 }
 
 #[test]
 fn ill_typed_byte(rt: HostRuntime) -> Result<(), Fail> {
-    assert_eq!(rt; first_other(rt.alloc(), "300|byte|ill", has_value)?, "");
-    Ok(())
+    all_met(rt.alloc(), "300|byte|ill", has_value)
 }
 
 fn order_name(less: Option<bool>, less_eq: Option<bool>) -> &'static str {
@@ -124,30 +120,23 @@ fn has_order(alloc: Global, row: &str) -> Result<bool, RowFault> {
 
 #[test]
 fn values_compare(rt: HostRuntime) -> Result<(), Fail> {
-    assert_eq!(rt; first_other(rt.alloc(), orders::VALUES, has_order)?, "");
-    Ok(())
+    all_met(rt.alloc(), orders::VALUES, has_order)
 }
 
 #[test]
 fn moments_compare(rt: HostRuntime) -> Result<(), Fail> {
-    assert_eq!(rt; first_other(rt.alloc(), orders::MOMENTS, has_order)?, "");
-    Ok(())
+    all_met(rt.alloc(), orders::MOMENTS, has_order)
 }
 
 #[test]
 fn less_than_per_pair_of_values(rt: HostRuntime) -> Result<(), Fail> {
     let rows = orders::LESS_THAN_PER_PAIR_OF_VALUES;
-    assert_eq!(rt; first_other(rt.alloc(), rows, has_order)?, "");
-    Ok(())
+    all_met(rt.alloc(), rows, has_order)
 }
 
 #[test]
 fn zoned_against_unzoned(rt: HostRuntime) -> Result<(), Fail> {
-    assert_eq!(rt;
-        first_other(rt.alloc(), orders::ZONED_AGAINST_UNZONED, has_order)?,
-        ""
-    );
-    Ok(())
+    all_met(rt.alloc(), orders::ZONED_AGAINST_UNZONED, has_order)
 }
 
 // Whether a row's literal compares with the bound as the row says.
@@ -162,30 +151,27 @@ fn compares_with(alloc: Global, bound: &ReadLiteral, row: &str) -> Result<bool, 
     Ok(order_name(read.less(bound), read.less_eq(bound)) == order)
 }
 
-// The first row that compares with a text in another way; the text is read once.
-fn first_other_by_text(
-    alloc: Global,
-    bound: &str,
-    rows: &'static str,
-) -> Result<&'static str, RowFault> {
+// Fails with the first row that compares with a text in another way; the text is read once.
+fn all_compare_with_text(alloc: Global, bound: &str, rows: &str) -> Result<(), Fail> {
     let made = term_of(alloc, bound, "string")?;
     let literal = literal(&made)?;
     if wide(literal) {
-        return Ok("wide");
+        return Err(Fail::new("wide"));
     }
     let read = ReadLiteral::of(literal);
     match read.value() {
-        Value::Text => Ok(first_other(alloc, rows, move |alloc, row| {
-            compares_with(alloc, &read, row)
-        })?),
-        _ => Ok("no text"),
+        Value::Text => all_met(
+            alloc,
+            rows,
+            move |alloc, row| compares_with(alloc, &read, row),
+        ),
+        _ => Err(Fail::new("no text")),
     }
 }
 
 #[test]
 fn a_bound_is_read_once(rt: HostRuntime) -> Result<(), Fail> {
-    assert_eq!(rt; first_other_by_text(rt.alloc(), "b", orders::BY_TEXT)?, "");
-    Ok(())
+    all_compare_with_text(rt.alloc(), "b", orders::BY_TEXT)
 }
 
 fn how_it_matches(literal: &Literal, datatype: &IriText) -> &'static str {
@@ -209,9 +195,5 @@ fn matches_as_said(alloc: Global, row: &str) -> Result<bool, RowFault> {
 
 #[test]
 fn datatypes_match(rt: HostRuntime) -> Result<(), Fail> {
-    assert_eq!(rt;
-        first_other(rt.alloc(), values::MATCHES, matches_as_said)?,
-        ""
-    );
-    Ok(())
+    all_met(rt.alloc(), values::MATCHES, matches_as_said)
 }

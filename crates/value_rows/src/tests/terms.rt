@@ -6,7 +6,7 @@ mod counts;
 mod orders;
 
 use super::made::term_of;
-use row_tools::{RowFault, cut, first_other, in_four};
+use row_tools::{RowFault, all_met, cut, in_four};
 use shx_term::Term;
 use std::alloc::Global;
 use std::test::Fail;
@@ -57,8 +57,7 @@ fn has_order(alloc: Global, row: &str) -> Result<bool, RowFault> {
 
 #[test]
 fn terms_compare(rt: HostRuntime) -> Result<(), Fail> {
-    assert_eq!(rt; first_other(rt.alloc(), orders::TERMS, has_order)?, "");
-    Ok(())
+    all_met(rt.alloc(), orders::TERMS, has_order)
 }
 
 fn count_name(fewer: bool, more: bool) -> &'static str {
@@ -95,6 +94,5 @@ fn is_counted(alloc: Global, row: &str) -> Result<bool, RowFault> {
 
 #[test]
 fn counts_compare(rt: HostRuntime) -> Result<(), Fail> {
-    assert_eq!(rt; first_other(rt.alloc(), counts::COUNTS, is_counted)?, "");
-    Ok(())
+    all_met(rt.alloc(), counts::COUNTS, is_counted)
 }

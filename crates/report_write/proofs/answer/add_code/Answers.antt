@@ -3,5 +3,5 @@ use Rattle.report_write.proofs.answer.add_code.Goals as goal
 
 pub returns : goal.returns
 returns g c =
-    let name = rw (c.as_bytes.ensures.value, c.code_word.ensures) at c.add-2.ensures in
+    let name = rw (c.as_bytes.ensures.value, c.code_name.ensures) at c.add-2.ensures in
     three_in_turn g.met.W.Pieces.added_in_turn c.add_number.ensures c.add.ensures name

@@ -29,6 +29,7 @@ returns-clause-opened c =
             triples = made.triple_limit;
             terms = made.term_limit ∙ c.read_turtle.ensures.limit ∙ c.requires.limit;
           };
+          format_is = made.format;
         };
       },
     )

@@ -8,9 +8,11 @@ use Rattle.shacl_run.proofs.open_validation.validation_over.Goals as goal
 
 pub returns-clause-stands : goal.returns-clause-stands
 returns-clause-stands c = record {
-  valid = valid_stored c.args.pool.terms c.args.document.triples.items (plain_graph c.in_ok-graph.graph)
+  valid = valid_stored c.args.accepted.pool.terms c.args.document.triples.items
+      (plain_graph c.in_ok-graph.graph)
       (rw c.deref.ensures.value at c.in_ok-graph.ensures.holds) c.requires.valid;
-  known = subst (λ (pool : Pooled). IsKnownPlan pool.terms (plan_of c.args.plan).shapes)
+  known = subst (λ (pool : Pooled). IsKnownPlan pool.terms (plan_of c.args.accepted.plan).shapes)
       (sym c.in_ok-graph.ensures.pool) c.requires.plan;
   refers = c.requires.refers;
+  few = c.requires.few;
 }

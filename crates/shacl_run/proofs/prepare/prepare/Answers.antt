@@ -1,6 +1,8 @@
 use Rattle.std.proofs.Common.{◌≡◌, refl, sym, ◌∙◌, subst, Some, List, ℕ}
 use Rattle.shx_outside.specs.declared.role.Role.TheVariants.{Shapes, Data}
+use Rattle.shape_eval.specs.Planned.{plan_of}
 use Rattle.shacl_run.specs.Readings.{PatternsAreAdmitted}
+use Rattle.shacl_run.proofs.CountLemmas.{plan_few}
 use Rattle.shacl_run.proofs.EndLemmas.{passed_on}
 use Rattle.shacl_run.proofs.PrepareLemmas.{admitted_bytes, prepared_long, prepared_unplanned}
 use Rattle.shacl_run.proofs.PrepareLemmas.{prepared_data_long, prepared_opened}
@@ -12,7 +14,8 @@ returns-in-Err-clause-prepared g c =
     let asked = c.args.asked.now in
     let faults = (g.P.PatternHost.state c.args.patterns.now).faults in
     rw c.of.ensures
-    (prepared_long c.args.limits.now asked.base.now (texts asked.shapes_file.now) (texts asked.data_file.now)
+    (prepared_long c.args.limits.now asked.format asked.base.now (texts asked.shapes_file.now)
+    (texts asked.data_file.now)
     faults faults refl c.args.pool c.in-Err.refusal c.in-Err.ensures.too_long)
 
 pub judge-requires-clause-admitted : goal.judge-requires-clause-admitted
@@ -37,7 +40,7 @@ returns-in_err-accepted-clause-prepared g c =
     let why = c.in_err-accepted.field-0.0 in
     let exit = c.from_residual-in_err-accepted in
     rw (passed_on exit.result why exit.ensures.1)
-    (prepared_unplanned c.args.limits.now asked.base.now (texts asked.shapes_file.now)
+    (prepared_unplanned c.args.limits.now asked.format asked.base.now (texts asked.shapes_file.now)
     (texts asked.data_file.now) (g.P.PatternHost.state c.args.patterns.now).faults
     (g.P.PatternHost.state c.judge.new.patterns).faults
     ((g.I.Inputs.state c.read_within.new.host).rest Shapes) c.in-Ok.text.items c.in-Ok.ensures.read why
@@ -49,7 +52,8 @@ returns-in-Ok-read_within-clause-prepared g c =
     let asked = c.args.asked.now in
     let base : c.new-base.result ≡ asked.base.now = c.new-base.ensures ∙ c.in_ok-from_str.ensures.ok in
     let same = c.read_within.ensures.texts.each asked.data_file.now in
-    prepared_opened c.args.limits.now asked.base.now (texts asked.shapes_file.now) (texts asked.data_file.now)
+    prepared_opened c.args.limits.now asked.format asked.base.now (texts asked.shapes_file.now)
+    (texts asked.data_file.now)
     (g.P.PatternHost.state c.args.patterns.now).faults (g.P.PatternHost.state c.judge.new.patterns).faults
     ((g.I.Inputs.state c.read_within.new.host).rest Shapes) c.in-Ok.text.items c.in-Ok.ensures.read
     c.in_ok-accepted.accepted (rw (c.deref.ensures.value, base) at c.in_ok-accepted.ensures.accepts)
@@ -67,9 +71,14 @@ returns-clause-prepared g c =
     let same = c.read_within.ensures.texts.each asked.data_file.now in
     let accepted = c.in_ok-accepted.accepted in
     rw c.of-in-Err-read_within.ensures
-    (prepared_data_long c.args.limits.now asked.base.now (texts asked.shapes_file.now)
+    (prepared_data_long c.args.limits.now asked.format asked.base.now (texts asked.shapes_file.now)
     (texts asked.data_file.now) (g.P.PatternHost.state c.args.patterns.now).faults
     (g.P.PatternHost.state c.judge.new.patterns).faults
     ((g.I.Inputs.state c.read_within.new.host).rest Shapes) c.in-Ok.text.items c.in-Ok.ensures.read
     accepted (rw (c.deref.ensures.value, base) at c.in_ok-accepted.ensures.accepts) accepted.pool
     c.in-Err-read_within.refusal (rw same at c.in-Err-read_within.ensures.too_long))
+
+pub open_validation-requires-clause-few : goal.open_validation-requires-clause-few
+open_validation-requires-clause-few g c =
+    let plan = c.in_ok-accepted.ensures.accepts.plan in
+    plan_few c.args.limits.now _ _ (plan_of c.in_ok-accepted.accepted.plan) plan.judged.1 plan.fits

@@ -1,10 +1,62 @@
+use Rattle.std.proofs.Common.{◌≡◌, Ok, Err, sym, subst}
+use Rattle.std.specs.Prelude.{IfOk, Result}
+use Rattle.std.proofs.lemmas.Result.{IfOk-weaker}
+use Rattle.script_lines.specs.declared.command.Command.{Command}
+use Rattle.script_lines.specs.declared.fault.LineFault.{LineFault}
+use Rattle.script_lines.specs.declared.fault.LineFault.TheVariants.{Line}
+use Rattle.shacl_run.specs.inner.Reply.{Replies}
+use Rattle.shacl_run.specs.Readings.{HasReading, IsReadBehind}
+use Rattle.shacl_run.specs.Script.{reading_step}
+use Rattle.shacl_run.proofs.NamesLemmas.{read_once_behind}
 use Rattle.shacl_run.proofs.reply.reply_to.Goals as goal
 
 pub returns-in-Ok-clause-replies : goal.returns-in-Ok-clause-replies
-returns-in-Ok-clause-replies g c = λ s is.
-    rw c.in-Ok.ensures.command (c.do_command.ensures.replies c.args.limits.now s is)
+returns-in-Ok-clause-replies g c = λ manner s same is told.
+    let limits = c.args.limits.now in
+    let line = c.args.line.now in
+    let document = c.args.validation.now.document in
+    let command = c.in-Ok.command in
+    let behind : IsReadBehind limits s.data_end line (Ok command) =
+    record { document = document; names = is.names_are; read = c.in-Ok.ensures.command } in
+    let one : manner.lines line ≡ Ok command =
+    read_once_behind c.a_line_has_one_reading.ensures limits s.data_end line (manner.lines line) (Ok command)
+    told behind in
+    subst (λ (reading : Result Command LineFault). IfOk c.do_command.result (λ reply.
+    Replies manner (reading_step manner.limits s reading) reply c.do_command.new.validation)) (sym one)
+    (c.do_command.ensures.replies manner s is)
+
+pub returns-in-Ok-clause-read : goal.returns-in-Ok-clause-read
+returns-in-Ok-clause-read g c = λ end names.
+    let document = c.args.validation.now.document in
+    let has : HasReading c.args.limits.now end c.args.line.now =
+    (Ok c.in-Ok.command, record { document = document; names = names; read = c.in-Ok.ensures.command }) in
+    IfOk-weaker c.do_command.result _ _ (λ reply counted. has) c.do_command.ensures.line
 
 pub returns-in-Err-Line-clause-replies : goal.returns-in-Err-Line-clause-replies
-returns-in-Err-Line-clause-replies g c = λ s is.
-    rw (c.in-Err-Line.ensures.refused (λ is. cc), c.in-Err-Line.field-0-is)
-    (rw c.in-Err-Line.code-is at (c.refuse_line.ensures.replies c.args.limits.now s is))
+returns-in-Err-Line-clause-replies g c = λ manner s same is told.
+    let limits = c.args.limits.now in
+    let line = c.args.line.now in
+    let document = c.args.validation.now.document in
+    let fault = Line c.in-Err-Line.code c.in-Err-Line.at in
+    let refused = rw c.in-Err-Line.field-0-is at c.in-Err-Line.ensures.refused in
+    let behind : IsReadBehind limits s.data_end line (Err fault) =
+    record { document = document; names = is.names_are; read = refused (λ is. cc) } in
+    let one : manner.lines line ≡ Err fault =
+    read_once_behind c.a_line_has_one_reading.ensures limits s.data_end line (manner.lines line) (Err fault)
+    told behind in
+    subst (λ (reading : Result Command LineFault).
+    Replies manner (reading_step manner.limits s reading) c.refuse_line.result c.refuse_line.new.validation)
+    (sym one)
+    (rw (c.in-Err-Line.code-is, c.in-Err-Line.at-is) at (c.refuse_line.ensures.replies manner s is))
+
+pub returns-in-Err-Line-clause-read : goal.returns-in-Err-Line-clause-read
+returns-in-Err-Line-clause-read g c = λ end names.
+    let document = c.args.validation.now.document in
+    let refused = rw c.in-Err-Line.field-0-is at c.in-Err-Line.ensures.refused in (
+      Err (Line c.in-Err-Line.code c.in-Err-Line.at),
+      record {
+        document = document;
+        names = names;
+        read = refused (λ is. cc);
+      },
+    )

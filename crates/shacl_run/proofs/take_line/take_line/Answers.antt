@@ -1,9 +1,12 @@
-use Rattle.std.proofs.Common.{◌≡◌, ◌<◌, length, ap, arith}
+use Rattle.std.proofs.Common.{◌≡◌, ◌<◌, None, length, sym, subst, arith}
 use Rattle.shx_outside.specs.declared.role.Role.TheVariants.{Script}
-use Rattle.shx_term.specs.declared.fault_codes.TheConstants.{NOT_BUILT}
+use Rattle.shx_term.specs.declared.fault_codes.TheConstants.{LINE_TOO_LONG}
 use Rattle.text_input.specs.ScriptReader.{left_of}
-use Rattle.shacl_run.specs.Script.{script_step, refusal}
-use Rattle.shacl_run.proofs.ServingLemmas.{step-too_long, TakesStep-line, end_met}
+use Rattle.shacl_run.specs.Manner.{Manner}
+use Rattle.shacl_run.specs.Readings.{HasReading}
+use Rattle.shacl_run.specs.Script.{reading_step, refusal}
+use Rattle.shacl_run.proofs.LineReadingLemmas.{reads_too_long, readings_none, readings_with}
+use Rattle.shacl_run.proofs.ServingLemmas.{TakesStep-line, end_met, step_once, step_too_long}
 use Rattle.shacl_run.proofs.take_line.take_line.Goals as goal
 
 pub reply_to-requires-clause-few : goal.reply_to-requires-clause-few
@@ -17,31 +20,75 @@ refuse_line-requires g c =
     omega (arith, c.requires.few, read.1)
 
 pub returns-in-Is-clause-taken : goal.returns-in-Is-clause-taken
-returns-in-Is-clause-taken g c = λ s is.
+returns-in-Is-clause-taken g c = λ manner s same is lines.
     let limits = c.args.limits.now in
+    let line = c.in-Is.bytes.items in
     let read = rw c.in-Is.is at c.in_ok-line.ensures.line in
-    let step = script_step limits s c.in-Is.bytes.items in (
+    let (reading, told) =
+    (rw c.deref.ensures.value at c.in_ok-reply-in-Is.ensures.read) s.data_end is.names_are in
+    let only : Manner = record manner { lines = λ line. reading } in
+    let replies = (rw c.deref.ensures.value at c.in_ok-reply-in-Is.ensures.replies) only s same is told in
+    let step = reading_step manner.limits s reading in (
       step,
-      (rw c.deref.ensures.value at c.in_ok-reply-in-Is.ensures.replies) s is,
-      TakesStep-line limits s c.args.reader.now c.next_line.new.reader
+      record { text = replies.text; stored = replies.stored },
+      TakesStep-line manner s c.args.reader.now c.next_line.new.reader
           (left_of c.args.reader.now ((g.I.Inputs.state c.args.host.now).rest Script))
           (left_of c.next_line.new.reader ((g.I.Inputs.state c.next_line.new.host).rest Script))
-          (λ first. first ≡ c.in-Is.bytes.items) step (λ line same. ap (script_step limits s) same) read.0
+          (λ first. first ≡ line) step
+          (step_once c.a_line_has_one_reading.ensures manner s limits same line reading told) lines read.0
           c.next_line.ensures.goes_on.stays_ended,
     )
 
+pub returns-in-Is-clause-read : goal.returns-in-Is-clause-read
+returns-in-Is-clause-read g c = λ end names.
+    let limits = c.args.limits.now in
+    let line = c.in-Is.bytes.items in
+    let read = rw c.in-Is.is at c.in_ok-line.ensures.line in
+    let has : HasReading limits end line =
+    (rw c.deref.ensures.value at c.in_ok-reply-in-Is.ensures.read) end names in
+    readings_with limits end c.args.reader.now.budget c.next_line.new.reader.budget
+    c.next_line.new.reader.ended
+    (left_of c.args.reader.now ((g.I.Inputs.state c.args.host.now).rest Script))
+    (left_of c.next_line.new.reader ((g.I.Inputs.state c.next_line.new.host).rest Script))
+    (λ first. first ≡ line) (λ first it. subst (HasReading limits end) (sym it) has) read.0
+
 pub returns-in-TooLong-clause-taken : goal.returns-in-TooLong-clause-taken
-returns-in-TooLong-clause-taken g c = λ s is.
+returns-in-TooLong-clause-taken g c = λ manner s same is lines.
     let limits = c.args.limits.now in
     let read = rw c.in-TooLong.is at c.in_ok-line.ensures.line in (
-      refusal s NOT_BUILT,
-      c.refuse_line.ensures.replies limits s is,
-      TakesStep-line limits s c.args.reader.now c.next_line.new.reader
+      refusal s LINE_TOO_LONG None,
+      c.refuse_line.ensures.replies manner s is,
+      TakesStep-line manner s c.args.reader.now c.next_line.new.reader
           (left_of c.args.reader.now ((g.I.Inputs.state c.args.host.now).rest Script))
           (left_of c.next_line.new.reader ((g.I.Inputs.state c.next_line.new.host).rest Script))
-          (λ first. limits.line < length first) (refusal s NOT_BUILT) (step-too_long limits s) read.0
-          c.next_line.ensures.goes_on.stays_ended,
+          (λ first. limits.line < length first) (refusal s LINE_TOO_LONG None)
+          (step_too_long manner s limits same) lines read.0 c.next_line.ensures.goes_on.stays_ended,
     )
+
+pub returns-in-TooLong-clause-read : goal.returns-in-TooLong-clause-read
+returns-in-TooLong-clause-read g c = λ end names.
+    let limits = c.args.limits.now in
+    let read = rw c.in-TooLong.is at c.in_ok-line.ensures.line in
+    readings_with limits end c.args.reader.now.budget c.next_line.new.reader.budget
+    c.next_line.new.reader.ended
+    (left_of c.args.reader.now ((g.I.Inputs.state c.args.host.now).rest Script))
+    (left_of c.next_line.new.reader ((g.I.Inputs.state c.next_line.new.host).rest Script))
+    (λ first. limits.line < length first)
+    (reads_too_long limits end c.args.validation.now.document names) read.0
+
+pub returns-in-End-clause-read : goal.returns-in-End-clause-read
+returns-in-End-clause-read g c = λ end names.
+    readings_none c.args.limits.now end c.args.reader.now.budget
+    (left_of c.args.reader.now ((g.I.Inputs.state c.args.host.now).rest Script))
+    (left_of c.next_line.new.reader ((g.I.Inputs.state c.next_line.new.host).rest Script)) _
+    (rw c.in-End.is at c.in_ok-line.ensures.line)
+
+pub returns-clause-read : goal.returns-clause-read
+returns-clause-read g c = λ end names.
+    readings_none c.args.limits.now end c.args.reader.now.budget
+    (left_of c.args.reader.now ((g.I.Inputs.state c.args.host.now).rest Script))
+    (left_of c.next_line.new.reader ((g.I.Inputs.state c.next_line.new.host).rest Script)) _
+    (rw c.in-PastLimit.is at c.in_ok-line.ensures.line)
 
 pub returns-in-End-clause-end : goal.returns-in-End-clause-end
 returns-in-End-clause-end g c = λ _.

@@ -1,4 +1,7 @@
-use Rattle.std.proofs.Common.{None, refl, inl}
+use Rattle.std.proofs.Common.{◌≡◌, None, Some, Err, refl, inl, ap, ◌∙◌}
+use Rattle.command_words.specs.Asked.{asked_of}
+use Rattle.command_words.specs.Words.{command_words, texts_of}
+use Rattle.script_lines.specs.declared.fault.LineFault.TheVariants.{Memory as no_memory}
 use Rattle.shacl_run.specs.declared.stop.Stop.TheVariants.{Memory}
 use Rattle.shacl_run.specs.Readings.{Long}
 use Rattle.shacl_run.specs.Verdict.{stops}
@@ -12,19 +15,41 @@ returns-in_err-pool-clause-causes g c =
     rw (passed_on c.from_residual.result Memory c.from_residual.ensures.1)
     (Ends-memory None faults faults (g.O.Sink.state c.args.out.now) refl)
 
+pub returns-in_err-texts-clause-causes : goal.returns-in_err-texts-clause-causes
+returns-in_err-texts-clause-causes g c =
+    let faults = (g.H.Inputs.state c.args.host.now).faults in
+    let exit = c.from_residual-in_err-texts in
+    rw (passed_on exit.result Memory exit.ensures.1)
+    (Ends-memory None faults faults (g.O.Sink.state c.args.out.now) refl)
+
+pub returns-in_err-asked-clause-causes : goal.returns-in_err-asked-clause-causes
+returns-in_err-asked-clause-causes g c =
+    let faults = (g.H.Inputs.state c.args.host.now).faults in
+    let exit = c.from_residual-in_err-asked in
+    rw (passed_on exit.result Memory exit.ensures.1)
+    (Ends-memory None faults faults (g.O.Sink.state c.args.out.now) refl)
+
 pub returns-in-Some-clause-runs : goal.returns-in-Some-clause-runs
 returns-in-Some-clause-runs g c =
-    let asked = rw c.in-Some.is at c.read_words.ensures.asked in
+    let words = c.args.words.now in
+    let same : texts_of c.deref.result.now ≡ words =
+    ap texts_of c.deref.ensures.value ∙ c.in_ok-texts.ensures in
+    let asked : Some (asked_of c.in-Some.asked) ≡ command_words words =
+    (rw c.in-Some.is at c.in_ok-asked.ensures.asked) ∙ ap command_words same in
     rw (← asked) c.run_files.ensures.runs
 
 pub returns-in-None-clause-runs : goal.returns-in-None-clause-runs
 returns-in-None-clause-runs g c = λ readings right.
-    let none = rw c.in-None.is at c.read_words.ensures.asked in
+    let words = c.args.words.now in
+    let same : texts_of c.deref.result.now ≡ words =
+    ap texts_of c.deref.ensures.value ∙ c.in_ok-texts.ensures in
+    let none : None ≡ command_words words =
+    (rw c.in-None.is at c.in_ok-asked.ensures.asked) ∙ ap command_words same in
     rw (← none) (inl (record {
       verdict = stops (recurs 0);
       judged = tt;
       patterns = refl;
-      says = λ data_right. record {
+      says = λ data_right lines. record {
         run_ends = c.refuse_words.ensures.ends (g.H.Inputs.state c.args.host.now).faults;
         script_stops = λ failed opened. absurd (c.refuse_words.ensures.output failed);
       };
@@ -36,11 +61,16 @@ returns-in-None-clause-causes g c =
 
 pub returns-in-None-clause-read : goal.returns-in-None-clause-read
 returns-in-None-clause-read g c = λ answered.
-    let none = rw c.in-None.is at c.read_words.ensures.asked in
+    let words = c.args.words.now in
+    let same : texts_of c.deref.result.now ≡ words =
+    ap texts_of c.deref.ensures.value ∙ c.in_ok-texts.ensures in
+    let none : None ≡ command_words words =
+    (rw c.in-None.is at c.in_ok-asked.ensures.asked) ∙ ap command_words same in
     record {
-      readings = record { shapes = Long; data_text = Long };
+      readings = record { shapes = Long; data_text = Long; lines = λ line. Err no_memory };
       shapes = rw (← none) tt;
       verdict = stops (recurs 0);
       judged = rw (← none) tt;
       data_text = rw (← none) tt;
+      lines = rw (← none) (λ document end plan is. absurd (cc));
     }

@@ -1,4 +1,4 @@
-use Rattle.shacl_run.specs.Words.{command_words}
+use Rattle.command_words.specs.Words.{command_words}
 use Rattle.shacl_run.proofs.AdmittedLemmas.{all_admitted}
 use Rattle.shacl_rows.proofs.tests.runs.run_counted.Goals as goal
 

@@ -1,2 +1,0 @@
-pub mod IriLemmas
-pub mod TripleLemmas

@@ -1,4 +1,0 @@
-pub mod Commands
-pub mod Fault
-pub mod Iris
-pub mod Triples

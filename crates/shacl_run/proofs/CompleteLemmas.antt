@@ -1,0 +1,179 @@
+-- A run where nothing outside fails.
+use Rattle.std.proofs.Common.{◌≡◌, ◌≢◌, ℕ, ◌≤◌, Bool, true, false, List, [], ◌∷◌, Option, None, Some, length}
+use Rattle.std.proofs.Common.{refl, sym, ap, subst, inl, inr, length-append, ◌∙◌, arith}
+use Rattle.std.specs.Prelude.{IfSome, ◌⊎◌}
+use Rattle.std.proofs.lemmas.Option.{same_Some}
+use Rattle.shx_outside.specs.Counted.{Rose}
+use Rattle.shx_outside.specs.OpenTexts.{OpenTexts, texts_told}
+use Rattle.shx_term.specs.declared.limits.Limits.{Limits}
+use Rattle.graph_view.specs.Graph.{Graph}
+use Rattle.shape_decl.specs.Declarations.{Declaration, declarations}
+use Rattle.shape_compile.specs.Patterns.{StatesPattern}
+use Rattle.command_words.specs.Words.{command_words}
+use Rattle.shacl_run.specs.declared.status.Status.{Status}
+use Rattle.shacl_run.specs.declared.status.Status.TheVariants.{Conforms, Violates, BadWords, Refused}
+use Rattle.shacl_run.specs.declared.status.Status.TheVariants.{InputFault, WriteFault, Memory, LinesRefused}
+use Rattle.shacl_run.specs.Complete.{HasNoPattern, HasRoom, HasRoomByAny, IsCalm, IsComplete, IsDue}
+use Rattle.shacl_run.specs.Complete.{NothingFailed}
+use Rattle.shacl_run.specs.Outside.{Outside}
+use Rattle.shacl_run.specs.Readings.{AreJudged, ComeTo, Readings, stated_graph}
+use Rattle.shacl_run.specs.Run.{Output, run_output}
+use Rattle.shacl_run.specs.RunClauses.{ByVerdict, DataIsReadBy, HasCauses, IsRun, LinesAreReadBy, RoseWhere}
+use Rattle.shacl_run.specs.RunClauses.{ShapesAreReadBy, WritesDue, WritesFront}
+use Rattle.shacl_run.specs.RunClauses.{WritesWhole, words_shapes}
+use Rattle.shacl_run.specs.Status.{IsAnswered, IsCutShort}
+use Rattle.shacl_run.specs.Verdict.{Verdict, IsVerdict, plans, stops, refuses_pattern}
+use Rattle.shacl_run.specs.Verdict.Obstacle.{breaks, recurs, reaches_far, misspells, is_refused}
+
+-- a count that stayed, and could have risen, did not rise
+calm_is_not_risen : (before now : ℕ) → IsCalm before now → Rose before now → ⊥
+calm_is_not_risen before now calm rose = elim (rose.more) [
+  | inl more ↦ absurd (omega (arith, calm.same, more))
+  | inr last ↦ calm.can_rise (sym calm.same ∙ last)
+]
+
+-- ---- complete
+
+-- neither the inputs nor the sink failed: memory was wanted, or the run answered
+served : (status : Status) → status ≢ InputFault → status ≢ WriteFault → (status ≡ Memory) ⊎ IsAnswered status
+served Conforms inputs sink = inr tt
+served Violates inputs sink = inr tt
+served BadWords inputs sink = inr tt
+served Refused inputs sink = inr tt
+served InputFault inputs sink = absurd (inputs refl)
+served WriteFault inputs sink = absurd (sink refl)
+served Memory inputs sink = inl refl
+served LinesRefused inputs sink = inr tt
+
+cut_is_not_answered : (status : Status) → IsAnswered status → IsCutShort status → ⊥
+cut_is_not_answered Conforms answered cut = cut
+cut_is_not_answered Violates answered cut = cut
+cut_is_not_answered BadWords answered cut = cut
+cut_is_not_answered Refused answered cut = cut
+cut_is_not_answered InputFault answered cut = answered
+cut_is_not_answered WriteFault answered cut = answered
+cut_is_not_answered Memory answered cut = answered
+cut_is_not_answered LinesRefused answered cut = cut
+
+-- where the host's count did not rise, no pattern was refused
+not_refused : (b : Bool) (before now : ℕ) → IsCalm before now → RoseWhere b before now → b ≡ false
+not_refused true before now calm rose = absurd (calm_is_not_risen before now calm rose)
+not_refused false before now calm same = refl
+
+module _ (limits : Limits) (words : List (List ℕ)) (before after : Outside) (status : Status) where
+  defined_written : (due : Option Output) (output : Output) → IfSome due (λ defined. output ≡ defined)
+      → WritesWhole output before.sink after.sink status
+      → IfSome due (λ defined. WritesWhole defined before.sink after.sink status)
+  defined_written None output is whole = tt
+  defined_written (Some defined) output is whole =
+      subst (λ o. WritesWhole o before.sink after.sink status) is whole
+
+  due_by : (readings : Readings) → NothingFailed before after → IsAnswered status
+      → ByVerdict limits readings.shapes (words_shapes before.inputs.text (command_words words))
+      before.patterns.faults after.patterns.faults (λ verdict.
+      DataIsReadBy limits readings verdict (command_words words) before.inputs.text
+      → LinesAreReadBy limits readings verdict (command_words words) before.inputs.text
+      → WritesDue limits readings verdict words before after status)
+      → IsDue limits readings words before after status
+  due_by readings nothing answered by = record {
+    verdict = by.verdict;
+    judged = by.judged;
+    built = not_refused (refuses_pattern by.verdict) before.patterns.faults after.patterns.faults
+        nothing.patterns by.patterns;
+    written = λ data_text lines.
+        let due = by.says data_text lines in
+        defined_written (run_output limits readings by.verdict words before.inputs.text) due.output due.due
+        (due.exact answered);
+  }
+
+  pub complete : IsRun limits words before after status → NothingFailed before after
+      → IsComplete limits words before after status
+  complete runs nothing = λ readings shapes.
+      let inputs : status ≢ InputFault = λ is. calm_is_not_risen before.inputs.faults after.inputs.faults
+      nothing.inputs (runs.causes.input_fault is) in
+      let sink : status ≢ WriteFault = λ is. calm_is_not_risen before.sink.faults after.sink.faults
+      nothing.sink (runs.causes.write_fault is) in
+      elim (served status inputs sink) [
+        | inl memory ↦ inl memory
+        | inr answered ↦ inr (elim (runs.writes readings shapes) [
+          | inl by ↦ due_by readings nothing answered by
+          | inr early ↦ absurd (cut_is_not_answered status answered early.cut)
+        ])
+      ]
+
+-- ---- honest inputs
+
+pub no_input_fault : (limits : Limits) (words : List (List ℕ)) (before after : Outside) (status : Status)
+    (texts texts' : OpenTexts) → before.inputs ≡ texts_told 0 texts → after.inputs ≡ texts_told 0 texts'
+    → IsRun limits words before after status → status ≢ InputFault
+no_input_fault limits words before after status texts texts' is is' runs failed =
+    let rose = runs.causes.input_fault failed in
+    let first = ap (λ inputs. inputs.faults) is in
+    let last = ap (λ inputs. inputs.faults) is' in
+    calm_is_not_risen 0 0 (record { same = refl; can_rise = λ none. cc })
+    (subst (λ n. Rose n 0) first (subst (Rose before.inputs.faults) last rose))
+
+-- ---- no pattern
+
+no_refusal : (limits : Limits) (document : Graph) (verdict : Verdict)
+    → ((d : Declaration) (value : ℕ)
+    → StatesPattern (declarations limits (stated_graph document)) d value → ⊥)
+    → IsVerdict limits (stated_graph document) verdict → refuses_pattern verdict ≡ false
+no_refusal limits document (plans plan) none is = refl
+no_refusal limits document (stops (breaks fault)) none is = refl
+no_refusal limits document (stops (recurs shape)) none is = refl
+no_refusal limits document (stops (reaches_far shape)) none is = refl
+no_refusal limits document (stops (misspells shape)) none is = refl
+no_refusal limits document (stops (is_refused shape)) none is =
+    let at = is.1 in
+    absurd (none at.decl at.value at.states)
+
+pub no_pattern_refused : (limits : Limits) (words : List (List ℕ)) (before : Outside) (readings : Readings)
+    → HasNoPattern limits readings words before → (verdict : Verdict)
+    → AreJudged limits readings.shapes (words_shapes before.inputs.text (command_words words)) verdict
+    → refuses_pattern verdict ≡ false
+no_pattern_refused limits words before readings has verdict judged =
+    let told = subst (λ text. AreJudged limits readings.shapes text verdict) has.told judged in
+    let come = subst (λ reading. ComeTo limits reading verdict) has.read told in
+    no_refusal limits has.document verdict has.none come
+
+-- ---- room
+
+no_length : (xs : List ℕ) → length xs ≡ 0 → xs ≡ []
+no_length [] none = refl
+no_length (x ∷ xs) none = absurd (cc)
+
+module _ (limits : Limits) (readings : Readings) (words : List (List ℕ)) (before after : Outside) where
+  -- of an output that has room no proper front uses the room up
+  fits_whole : (output : Output) (room : ℕ) → before.sink.room ≡ Some room → length output.text ≤ room
+      → (front : WritesFront output before.sink after.sink WriteFault)
+      → ((room' : ℕ) → before.sink.room ≡ Some room' → after.sink.room ≡ Some 0) → ⊥
+  fits_whole output room is fits front used_up =
+      let left = front.fell.told room is in
+      let none = same_Some left.0 0 (sym left.1 ∙ used_up room is) in
+      let whole = ap length front.whole ∙ length-append front.front front.rest in
+      front.proper refl (no_length front.rest (omega (arith, left.2, none, whole, fits)))
+
+  written_by : (verdict : Verdict) → HasRoom limits readings words before verdict
+      → WritesDue limits readings verdict words before after WriteFault
+      → HasCauses before after WriteFault → ⊥
+  written_by verdict has due causes =
+      let is = subst (λ told. IfSome told (λ defined. due.output ≡ defined)) has.due due.due in
+      let front = subst (λ output. WritesFront output before.sink after.sink WriteFault) is (due.prefix tt) in
+      fits_whole has.output has.room has.is has.fits front (causes.used_up refl)
+
+  no_fault : ShapesAreReadBy limits readings (command_words words) before.inputs.text
+      → HasRoomByAny limits readings words before → IsRun limits words before after WriteFault → ⊥
+  no_fault shapes has runs = elim (runs.writes readings shapes) [
+    | inl by ↦
+        let room = has by.verdict by.judged in
+        written_by by.verdict room (by.says room.data_text room.lines) runs.causes
+    | inr early ↦ early.no_write_fault refl
+  ]
+
+  pub no_write_fault : (status : Status)
+      → ShapesAreReadBy limits readings (command_words words) before.inputs.text
+      → HasRoomByAny limits readings words before → IsRun limits words before after status
+      → status ≢ WriteFault
+  no_write_fault status shapes has runs = λ is.
+      no_fault shapes has (subst (IsRun limits words before after) is runs)

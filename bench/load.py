@@ -7,7 +7,9 @@ machine.
                                 is given)
     bench/load.py hostile       texts of 100 million bytes that are hard to pass
     bench/load.py shared        texts whose triples share a long part; terms that differ in their tag alone
-    bench/load.py script        a script of 20000 insertions behind 1000000 triples, less the load
+    bench/load.py script        scripts behind 1000000 triples, less the load: 100000 insertions of new terms,
+                                as many with labels, of which the data text has a million, and a million
+                                blank lines
 """
 import os
 import shutil
@@ -90,17 +92,29 @@ def shared(folder, empty, out):
         os.remove(path)
 
 
-def script(folder, empty, out):
-    path = text(folder, "triples", "1000000")
+# By name: the kind of the data text, how many lines, and a line by its number.
+SCRIPTS = {
+    "new terms": ("triples", 100_000, "insert <http://e/{0}> <http://e/p> <http://e/o{0}> ."),
+    "labels": ("labels", 100_000, "insert _:d-b{0} <http://e/q> _:d-b{0} ."),
+    "blank lines": ("triples", 1_000_000, ""),
+}
+
+
+def scripts(folder, empty, out):
+    print("| script | lines | load, processor s | script, processor s | peak MB | changed |")
+    print("|---" * 6 + "|")
     lines = os.path.join(folder, "lines")
-    with open(lines, "w") as written:
-        for at in range(20_000):
-            written.write(f"insert <http://e/{at}> <http://e/p> <http://e/o{at}> .\n")
-    before, _, _, _ = run([PROGRAM, empty, path], out)
-    behind, _, peak, _ = run([PROGRAM, empty, path, lines], out)
-    with open(out, encoding="utf-8") as answers:
-        changed = sum(answer == "ok changed\n" for answer in answers)
-    print(f"load {before:.2f} s, script {behind - before:.2f} s, peak {peak:.0f} MB, {changed} changed")
+    for name, (kind, count, line) in SCRIPTS.items():
+        path = text(folder, kind, "1000000")
+        with open(lines, "w", encoding="utf-8") as written:
+            written.writelines(line.format(at) + "\n" for at in range(count))
+        before = run([PROGRAM, empty, path], out)[0]
+        behind, _, peak, _ = run([PROGRAM, empty, path, lines], out)
+        with open(out, encoding="utf-8") as answers:
+            changed = sum(answer == "ok changed\n" for answer in answers)
+        took = f"{before:.2f} | {behind - before:.2f}"
+        print(f"| {name} | {count} | {took} | {peak:.0f} | {changed} |", flush=True)
+        os.remove(path)
 
 
 def main():
@@ -113,7 +127,7 @@ def main():
         elif sys.argv[1:] == ["shared"]:
             shared(folder, empty, out)
         elif sys.argv[1:] == ["script"]:
-            script(folder, empty, out)
+            scripts(folder, empty, out)
         else:
             counts = [int(word) for word in sys.argv[1:]]
             loads(folder, empty, out, counts or [10000, 100000, 1000000, 4000000])

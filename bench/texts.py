@@ -6,6 +6,7 @@
     texts.py objects COUNT      one list of so many objects
     texts.py prefixes COUNT     so many prefixes, each used once
     texts.py tags COUNT         one lexical form under so many language tags
+    texts.py labels COUNT       one triple for each of so many labels of blank nodes
     texts.py shared NAME LETTERS COUNT
                                 a part of so many letters that so many triples share: subject, verb, namespace
                                 or base
@@ -62,6 +63,11 @@ def tags(count):
     yield " .\n"
 
 
+def labels(count):
+    for i in range(count):
+        yield f"_:b{i} <http://e/p> {i} .\n"
+
+
 def shared(name, letters, count):
     long = "a" * letters
     if name == "subject":
@@ -99,6 +105,7 @@ def main():
             "objects": object_list,
             "prefixes": prefixes,
             "tags": tags,
+            "labels": labels,
         }
         pieces = makers[kind](int(first))
     for piece in pieces:

@@ -1,7 +1,7 @@
 #!/usr/bin/env python3
-"""Texts whose shapes share a large part, and what declaring them takes by the program `shape_figures`, less
-what reading the text takes: processor seconds and peak memory. Run it at the top of the repository, where
-shape_figures was built (`rt run` in its folder builds it).
+"""Texts whose shapes share a large part, and what the program takes to judge them, which is to declare, check
+and compile them, less what reading the text takes as data: processor seconds and peak memory. Run it at the
+top of the repository, where the program was built.
 
     shapes.py               measures each text
     shapes.py NAME          writes one of the texts
@@ -12,7 +12,7 @@ import sys
 import tempfile
 
 HERE = os.path.dirname(os.path.abspath(__file__))
-PROGRAM = os.path.join(HERE, "..", "crates", "shape_figures", "out", "shape_figures")
+PROGRAM = os.path.join(HERE, "..", "crates", "shacl_keep", "out", "shacl_keep")
 PREFIXES = """@prefix e: <http://e/> .
 @prefix sh: <http://www.w3.org/ns/shacl#> .
 @prefix rdf: <http://www.w3.org/1999/02/22-rdf-syntax-ns#> .
@@ -66,9 +66,9 @@ def own_member():
 TEXTS = {text.__name__: text for text in (many_firsts, long_list, large_path, long_chain, own_member)}
 
 
-def run(task, path):
-    """Processor seconds, peak memory in MB, and the line that is written."""
-    child = subprocess.Popen([PROGRAM, task, path], stdout=subprocess.PIPE, stderr=subprocess.DEVNULL)
+def run(*files):
+    """Processor seconds, peak memory in MB, and what is written."""
+    child = subprocess.Popen([PROGRAM, *files], stdout=subprocess.PIPE, stderr=subprocess.DEVNULL)
     line = child.stdout.read().decode(errors="replace").strip()
     _, _, used = os.wait4(child.pid, 0)
     return used.ru_utime + used.ru_stime, used.ru_maxrss / 1024, line
@@ -79,16 +79,18 @@ def main():
         sys.stdout.write(PREFIXES)
         sys.stdout.writelines(TEXTS[sys.argv[1]]())
         return
-    print("| text | reading it | declaring its shapes | peak MB | answer |")
+    print("| text | reading it | judging its shapes | peak MB | answer |")
     print("|---|---|---|---|---|")
     with tempfile.TemporaryDirectory() as folder:
+        empty = os.path.join(folder, "empty.ttl")
+        open(empty, "wb").close()
         for name, text in TEXTS.items():
             path = os.path.join(folder, name + ".ttl")
             with open(path, "w", encoding="utf-8") as out:
                 out.write(PREFIXES)
                 out.writelines(text())
-            read, _, _ = run("read", path)
-            took, peak, answer = run("collect", path)
+            read, _, _ = run(empty, path)
+            took, peak, answer = run(path, empty)
             used = f"{read:.2f} | {took - read:.2f} | {peak:.0f}"
             print(f"| {text.__doc__.rstrip('.')} | {used} | {answer} |", flush=True)
 

@@ -1,6 +1,5 @@
 mod case;
 mod failures;
-mod honest;
 mod limits;
 mod order;
 mod outside;

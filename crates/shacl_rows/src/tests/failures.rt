@@ -4,7 +4,7 @@ use std::test::Fail;
 
 // The shapes have 196 bytes, the data 41, the first line of the script 48 and the script 55. The first report
 // has 99 bytes, the answer 11 and the second report 31.
-pub(super) const FIRST_RUN: &str = "\
+const FIRST_RUN: &str = "\
 == shapes
 <http://e/S> <http://www.w3.org/ns/shacl#targetNode> <http://e/a> .
 <http://e/S> <http://www.w3.org/ns/shacl#path> <http://e/p> .
@@ -221,6 +221,6 @@ report conforms=true results=0$
 
 #[test]
 fn each_call_and_each_put_fails(rt: HostRuntime) -> Result<(), Fail> {
-    all_end_as_due(rt.alloc(), FIRST_RUN, CALLS)?;
-    all_end_as_due(rt.alloc(), FIRST_RUN, PUTS)
+    all_end_as_due(&rt, FIRST_RUN, CALLS)?;
+    all_end_as_due(&rt, FIRST_RUN, PUTS)
 }

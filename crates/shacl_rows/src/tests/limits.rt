@@ -327,7 +327,7 @@ fault shapes: 29 PathTooDeep shape <e:S> predicate <http://www.w3.org/ns/shacl#p
 
 #[test]
 fn texts_and_shapes_within_limits(rt: HostRuntime) -> Result<(), Fail> {
-    all_end_as_due(rt.alloc(), CONFORMS, DATA)?;
-    all_end_as_due(rt.alloc(), FIRST_SHAPES, FIRST)?;
-    all_end_as_due(rt.alloc(), PREFIXES, SHAPES)
+    all_end_as_due(&rt, CONFORMS, DATA)?;
+    all_end_as_due(&rt, FIRST_SHAPES, FIRST)?;
+    all_end_as_due(&rt, PREFIXES, SHAPES)
 }

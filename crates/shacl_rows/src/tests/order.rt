@@ -274,7 +274,7 @@ result Pattern Violation <e:B> "x" - "x"
 
 #[test]
 fn texts_answers_and_patterns_come_in_order(rt: HostRuntime) -> Result<(), Fail> {
-    all_end_as_due(rt.alloc(), SHARED, CALLS)?;
-    all_end_as_due(rt.alloc(), NO_DATA, JUDGED)?;
-    all_end_as_due(rt.alloc(), PATTERNS, BUILT)
+    all_end_as_due(&rt, SHARED, CALLS)?;
+    all_end_as_due(&rt, NO_DATA, JUDGED)?;
+    all_end_as_due(&rt, PATTERNS, BUILT)
 }

@@ -1,19 +1,15 @@
 ghost use Rattle.std.specs.Prelude.{◌≡◌};
 ghost use Rattle.shx_term.specs.Limits.{AreUsable};
-ghost use Rattle.command_words.specs.Words.{command_words};
-ghost use Rattle.shacl_run.specs.Admits.{AdmitsFiles};
-ghost use Rattle.shacl_run.specs.RunClauses.{PatternsAreAdmittedBy};
 
 use super::case::{Case, name_of};
 use super::outside::Outside;
 use row_tools::RowFault;
 use shacl_run::{Status, run};
-use shx_outside::{
-    FailingHost, Inputs, Memory, MemoryInputs, MemorySink, PatternHost, RegexHost, Sink,
-};
+use shx_outside::{FailingHost, Memory, MemoryInputs, MemorySink, RegexHost};
 use shx_term::{Limits, Steps, Text};
 use std::alloc::{AllocError, Global};
 use std::marker::Brand;
+use std::process::Abort;
 use std::sync::ledger::{Blank, Ledger};
 use std::test::Fail;
 
@@ -46,7 +42,7 @@ fn run_in(alloc: Global, case: &Case, outside: Outside) -> Result<Ended, Memory>
     let mut host = outside.inputs(alloc, case)?;
     let mut sink = outside.sink(alloc)?;
     let mut patterns = outside.patterns(alloc)?;
-    let status = run_counted::<MemoryInputs, MemorySink, FailingHost<RegexHost>, Brand, Brand>(
+    let status = run_counted::<Brand, Brand>(
         alloc,
         &words,
         &mut host,
@@ -59,8 +55,7 @@ fn run_in(alloc: Global, case: &Case, outside: Outside) -> Result<Ended, Memory>
     Ok(Ended { status, sink })
 }
 
-/// Words, one a line, as the system would give them.
-pub(super) fn texts_of(alloc: Global, words: &str) -> Result<Vec<Text>, Memory> {
+fn texts_of(alloc: Global, words: &str) -> Result<Vec<Text>, Memory> {
     let mut texts = Vec::new(alloc);
     for word in words.lines() {
         texts.push(Text::new(String::from_str(alloc, word)?))?;
@@ -68,21 +63,18 @@ pub(super) fn texts_of(alloc: Global, words: &str) -> Result<Vec<Text>, Memory> 
     Ok(texts)
 }
 
-/// Runs with counters of its own.
-pub(super) fn run_counted<H: Inputs, O: Sink, P: PatternHost, L: Ledger, M: Ledger>(
+// Runs with counters of its own.
+fn run_counted<L: Ledger, M: Ledger>(
     alloc: Global,
     words: &[Text],
-    host: &mut H,
-    sink: &mut O,
-    patterns: &mut P,
+    host: &mut MemoryInputs,
+    sink: &mut MemorySink,
+    patterns: &mut FailingHost<RegexHost>,
     limits: &Limits,
     steps: Blank,
     nested: Blank,
 ) -> Status
     requires limits { AreUsable limits.now }
-    requires admitted { AdmitsFiles (H.admits host.old) (command_words words.now) }
-    requires patterns { PatternsAreAdmittedBy limits.now (command_words words.now) (H.state host.old).text
-        (P.admits patterns.old) }
     requires steps_name { steps.name ≡ L.name }
     requires steps_parts { steps.parts ≡ L.parts }
     requires steps_some { steps.parts ≡ 1 }
@@ -117,16 +109,31 @@ fn ends_as_due(alloc: Global, block: &str, shared: &str) -> Result<bool, RowFaul
     Ok(true)
 }
 
-/// Fails with the name of the first run of a table that ends in another way than it has to.
-pub(super) fn all_end_as_due(alloc: Global, shared: &str, table: &'static str) -> Result<(), Fail> {
+// The name of the first run of a table that ends in another way than it has to, or nothing.
+fn first_other(
+    alloc: Global,
+    shared: &'static str,
+    table: &'static str,
+) -> Result<&'static str, Memory> {
     for block in table.split("== run ") {
         if !block.is_empty() {
             match ends_as_due(alloc, block, shared) {
                 Ok(true) => {}
-                Ok(false) | Err(RowFault::Unread) => return Err(Fail::new(name_of(block))),
-                Err(RowFault::Memory) => return Err(Fail::from(AllocError)),
+                Ok(false) | Err(RowFault::Unread) => return Ok(name_of(block)),
+                Err(RowFault::Memory) => return Err(AllocError),
             }
         }
     }
+    Ok("")
+}
+
+/// Runs a table, and stops the test with the name of the first run that ends in another way than it has to.
+pub(super) fn all_end_as_due<R: Abort + AllocGlobal>(
+    rt: &R,
+    shared: &'static str,
+    table: &'static str,
+) -> Result<(), Fail> {
+    let other = first_other(rt.alloc(), shared, table)?;
+    assert_eq!(rt; other, "");
     Ok(())
 }

@@ -374,7 +374,7 @@ result HasValue Violation <e:S> <e:a> <e:p> -
 
 #[test]
 fn scripts_within_limits(rt: HostRuntime) -> Result<(), Fail> {
-    all_end_as_due(rt.alloc(), "", LINES)?;
-    all_end_as_due(rt.alloc(), TWO_REPORTS, SCRIPTS)?;
-    all_end_as_due(rt.alloc(), "", EDITS)
+    all_end_as_due(&rt, "", LINES)?;
+    all_end_as_due(&rt, TWO_REPORTS, SCRIPTS)?;
+    all_end_as_due(&rt, "", EDITS)
 }

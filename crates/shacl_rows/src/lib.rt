@@ -10,6 +10,7 @@
 //! | `tests/limits.rt` | texts and shapes at each limit and one past it |
 //! | `tests/scripts.rt` | lines, scripts and edits at each limit and one past it |
 //! | `tests/failures.rt` | each call of the inputs and each put fails in turn |
+//! | `tests/honest.rt` | a run over inputs that never fail, and a sink with room for what is due |
 //! | `tests/order.rt` | when texts are opened and answered, and patterns built, which no contract says |
 //!
 //! It stands on `shacl_run`, on `shx_outside` and `shx_term` for the forms in memory and the limits, and on

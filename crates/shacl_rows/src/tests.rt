@@ -1,5 +1,6 @@
 mod case;
 mod failures;
+mod honest;
 mod limits;
 mod order;
 mod outside;

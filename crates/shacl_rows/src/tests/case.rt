@@ -36,10 +36,10 @@ const LIMITS: [&str; 10] = [
 ///
 /// It is written as a block of text, in parts that begin with marks: `== run NAME`, `== words` (one a line),
 /// `== limits` and `== outside` (a name and a number a line), `== prefixes` (what the shapes and the data
-/// begin with), `== shapes`, `== data`, `== script`, `== output` (or `== front`, where a proper front of it is
-/// due) and `== status N`. A part that a block leaves out is that of the block that its table shares, and is
-/// else empty. A text that ends in `$` has no line feed at its end, and U+FFFF in it stands for the byte 255.
-/// A block with another mark or another name cannot be read.
+/// begin with), `== shapes`, `== data`, `== script`, `== output` (or `== front`, where a proper front of it
+/// is due) and `== status N`. A part that a block leaves out is that of the block that its table shares, and
+/// is else empty. A text that ends in `$` has no line feed at its end, and U+FFFF in it stands for the byte
+/// 255. A block with another mark or another name cannot be read.
 #[derive(Clone, Copy)]
 pub(super) struct Case<'a> {
     pub words: &'a str,

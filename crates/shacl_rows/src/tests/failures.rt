@@ -4,7 +4,7 @@ use std::test::Fail;
 
 // The shapes have 196 bytes, the data 41, the first line of the script 48 and the script 55. The first report
 // has 99 bytes, the answer 11 and the second report 31.
-const FIRST_RUN: &str = "\
+pub(super) const FIRST_RUN: &str = "\
 == shapes
 <http://e/S> <http://www.w3.org/ns/shacl#targetNode> <http://e/a> .
 <http://e/S> <http://www.w3.org/ns/shacl#path> <http://e/p> .

@@ -8,8 +8,8 @@ report conforms=true results=0
 == status 0
 ";
 
-// A line of these texts has 20 bytes, and a line more of them one term more. A statement counts whole: a fault
-// stands at its start, whichever of its triples is one too many.
+// A line of these texts has 20 bytes, and a line more of them one term more. A statement counts whole: a
+// fault stands at its start, whichever of its triples is one too many.
 const DATA: &str = "\
 == run a text of four spaces
 == limits

@@ -74,7 +74,8 @@ impl Outside {
     }
 }
 
-fn files_of(alloc: Global, case: &Case) -> Result<Vec<NamedText>, Memory> {
+/// The texts of a case, by the names that its words have for them.
+pub(super) fn files_of(alloc: Global, case: &Case) -> Result<Vec<NamedText>, Memory> {
     let mut files = Vec::new(alloc);
     files.push(named(alloc, "shapes", case.prefixes, case.shapes)?)?;
     files.push(named(alloc, "data", case.prefixes, case.data)?)?;

@@ -55,7 +55,8 @@ fn run_in(alloc: Global, case: &Case, outside: Outside) -> Result<Ended, Memory>
     Ok(Ended { status, sink })
 }
 
-fn texts_of(alloc: Global, words: &str) -> Result<Vec<Text>, Memory> {
+/// Words, one a line, as the system would give them.
+pub(super) fn texts_of(alloc: Global, words: &str) -> Result<Vec<Text>, Memory> {
     let mut texts = Vec::new(alloc);
     for word in words.lines() {
         texts.push(Text::new(String::from_str(alloc, word)?))?;
@@ -96,8 +97,8 @@ fn run_counted<L: Ledger, M: Ledger>(
     )
 }
 
-// Whether the run of a block, with the parts that it leaves out from another, ends as it has to, and so do the
-// further runs that it asks for.
+// Whether the run of a block, with the parts that it leaves out from another, ends as it has to, and so do
+// the further runs that it asks for.
 fn ends_as_due(alloc: Global, block: &str, shared: &str) -> Result<bool, RowFault> {
     let case = Case::of(block, shared)?;
     let outside = Outside::of(case.outside)?;

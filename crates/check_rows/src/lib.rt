@@ -14,7 +14,7 @@
 //! | `tests/worked.rt` | worked rows, each by its name |
 //!
 //! It stands on `shape_check`, `shape_decl` and `shape_compile`, on `ttl_read` for the texts, and on
-//! `row_tools`. A table is a text of lines, and a test asks for the first line that is met otherwise.
+//! `row_tools`. A table is a text of lines, and a test tells the first line that is not met.
 #![tactic(auto)]
 
 #[cfg(test)]

@@ -26,8 +26,6 @@ mod pair;
 mod results;
 mod row;
 mod table;
-#[cfg(test)]
-mod tests;
 
 pub use asking::{ask_at, ask_shapes, conforming};
 pub use component::Component;

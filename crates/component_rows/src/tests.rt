@@ -1,6 +1,7 @@
 mod answers;
 mod asked;
 mod components;
+mod core;
 mod named;
 mod params;
 mod patterns;

@@ -8,7 +8,7 @@
 //! | `tests/declarations.rt` | the shapes of graphs, with what is stated of each, by the tables beside it |
 //!
 //! It stands on `shape_decl`, `path_eval`, `graph_view`, `shx_term` and `row_tools`. A table is a text of
-//! lines, and a test asks for the first line that is met otherwise.
+//! lines, and a test tells the first line that is not met.
 #![tactic(auto)]
 
 #[cfg(test)]

@@ -9,8 +9,8 @@
 //! | `tests/one_term.rt` | what is found at one token behind a document, by the tables beside it |
 //! | `tests/pools.rt` | texts that are read into one pool, and the terms that are left of a refused one |
 //!
-//! It stands on `ttl_read` and `row_tools`. A table is a text of rows, and a test asks for the first row that
-//! is met otherwise.
+//! It stands on `ttl_read` and `row_tools`. A table is a text of rows, and a test tells the first row that
+//! is not met.
 #![tactic(auto)]
 
 #[cfg(test)]

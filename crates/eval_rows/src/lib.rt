@@ -13,10 +13,12 @@
 //! | `tests/results.rt` | results as the tables write them |
 //! | `tests/pairs.rt` | going over the tables of pairs |
 //! | `tests/targets.rt` | going over the tables of targets |
+//! | `tests/orders.rt` | orders of shapes by what they refer to, which `shape_order` finds |
 //!
-//! It stands on `shape_eval` and the four crates of components, on `path_eval`, `graph_view` and `shx_term`,
-//! on `due_view` for what is read, on `shx_outside` for patterns, and on `row_tools`. Start with
-//! `tests/rows.rt`. A table is a text of blocks, and a test asks for the first that is met otherwise.
+//! It stands on `shape_eval`, `shape_order` and the four crates of components, on `path_eval`,
+//! `graph_view` and `shx_term`, on `due_view` for what is read, on `shx_outside` for patterns, and on
+//! `row_tools`. Start with `tests/rows.rt`. A table is a text of blocks, of which a test tells the first that
+//! is not met.
 #![tactic(auto)]
 
 #[cfg(test)]

@@ -2,6 +2,7 @@ mod cells;
 mod constraints;
 mod graphs;
 mod order;
+mod orders;
 mod pairs;
 mod paths;
 mod plans;

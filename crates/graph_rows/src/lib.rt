@@ -13,8 +13,8 @@
 //! | `tests/many.rt` | many edits of one store, in time |
 //!
 //! It stands on `graph_view`, `triple_store` and `shx_term`, on `due_view` for what is read, and on
-//! `row_tools`. Start with `tests/letters.rt`. A table is a text, and a test asks for the first row that is
-//! met otherwise.
+//! `row_tools`. Start with `tests/letters.rt`. A table is a text, and a test tells the first row that is
+//! not met.
 #![tactic(auto)]
 
 #[cfg(test)]

@@ -10,7 +10,7 @@
 //! | `tests/graphs.rt` | the graphs of the tables, and terms of one letter |
 //!
 //! It stands on `path_eval`, `graph_view` and `shx_term`, on `due_view` for what is read, and on `row_tools`.
-//! Start with `tests/rows.rt`. A table is a text, and a test asks for the first row that is met otherwise.
+//! Start with `tests/rows.rt`. A table is a text, and a test tells the first row that is not met.
 #![tactic(auto)]
 
 #[cfg(test)]

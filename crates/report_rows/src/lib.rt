@@ -14,8 +14,7 @@
 //! | `tests/terms.rt` | the terms of the tables, and their numbers |
 //!
 //! It stands on `report_write`, `shape_eval` and the crates below them, and on `ttl_read` and `row_tools`.
-//! Start with `tests/rows.rt`. A table is a text, and a test asks for the first block or row that is met
-//! otherwise.
+//! Start with `tests/rows.rt`. A table is a text, and a test tells the first block or row that is not met.
 #![tactic(auto)]
 
 #[cfg(test)]

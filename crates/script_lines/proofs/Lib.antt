@@ -3,6 +3,7 @@ pub mod FormLemmas
 pub mod LineLemmas
 pub mod OneFormLemmas
 pub mod OneReadingLemmas
+pub mod SameNamesLemmas
 pub mod TermLemmas
 pub mod TripleLemmas
 pub mod WordLemmas

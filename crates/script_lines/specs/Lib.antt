@@ -1,4 +1,5 @@
 pub mod FaultText
 pub mod Forms
 pub mod Lines
+pub mod SameNames
 pub mod inner

@@ -24,5 +24,5 @@ mod word;
 
 pub use command::Command;
 pub use fault::LineFault;
-pub use laws::a_line_has_one_reading;
+pub use laws::{a_line_has_one_reading, names_decide_a_line};
 pub use line::read_line;

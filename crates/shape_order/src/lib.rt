@@ -27,8 +27,6 @@ mod numbers;
 mod ordering;
 mod places;
 mod references;
-#[cfg(test)]
-mod tests;
 mod visits;
 
 pub use laws::{an_order_has_no_cycle, levels_are_the_longest_chains};

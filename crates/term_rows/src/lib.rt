@@ -8,8 +8,8 @@
 //! | `tests/pools/rows.rt` | the steps |
 //! | `tests/limits.rt` | limits and steps |
 //!
-//! It stands on `shx_term` and `row_tools`. A table is a text, and a test asks for the first row that is met
-//! otherwise.
+//! It stands on `shx_term` and `row_tools`. A table is a text, and a test tells the first row that is not
+//! met.
 #![tactic(auto)]
 
 #[cfg(test)]

@@ -8,7 +8,7 @@
 //! | `tests/output.rt` | texts, numbers and terms that are put into a sink |
 //!
 //! It stands on `shx_outside`, `text_input`, `text_output`, `shx_term` and `row_tools`. A
-//! table is a text of lines, and a test asks for the first line that is met otherwise.
+//! table is a text of lines, and a test tells the first line that is not met.
 #![tactic(auto)]
 
 #[cfg(test)]

@@ -5,8 +5,8 @@
 //! | `tests/tokens.rt` | texts as their tokens, by the tables beside it |
 //! | `tests/meanings.rt` | what a token stands for |
 //!
-//! It stands on `ttl_tokens` and `row_tools`. A table is a text of lines, and a test asks for the first line
-//! that is met otherwise.
+//! It stands on `ttl_tokens` and `row_tools`. A table is a text of lines, and a test tells the first line
+//! that is not met.
 #![tactic(auto)]
 
 #[cfg(test)]

@@ -1,6 +1,7 @@
-use crate::{Numbering, OrderFault, are_shapes, order};
+use row_tools::{RowFault, all_met, in_three, number};
+use shape_order::{Numbering, OrderFault, are_shapes, order};
 use shx_term::Memory;
-use std::alloc::{AllocError, Global};
+use std::alloc::Global;
 use std::test::Fail;
 
 // By row: what each shape refers to, from the first; the limit; what is found. `-` is for none. An order is
@@ -65,7 +66,7 @@ fn are_placed(found: &Numbering) -> bool {
     found.places.len() == found.order.len()
 }
 
-fn is_found(alloc: Global, refs: &[Vec<u32>], limit: u32, said: &str) -> Result<bool, Memory> {
+fn is_found(alloc: Global, refs: &[Vec<u32>], limit: u32, said: &str) -> Result<bool, RowFault> {
     let (kind, rest) = said.split_once(' ').unwrap_or((said, ""));
     if !are_shapes(refs) {
         return Ok(said == "no shapes");
@@ -80,40 +81,19 @@ fn is_found(alloc: Global, refs: &[Vec<u32>], limit: u32, said: &str) -> Result<
         Err(OrderFault::Recursive { cycle }) => {
             Ok(kind == "cycle" && cycle == numbers(alloc, rest)?)
         }
-        Err(OrderFault::TooDeep { shape }) => {
-            Ok(kind == "deep" && rest.parse::<u32>() == Ok(shape))
-        }
-        Err(OrderFault::Memory) => Err(AllocError),
+        Err(OrderFault::TooDeep { shape }) => Ok(kind == "deep" && number(rest)? == shape),
+        Err(OrderFault::Memory) => Err(RowFault::Memory),
     }
 }
 
-fn is_as_said(alloc: Global, row: &str) -> Result<bool, Memory> {
-    let Some((refs, rest)) = row.split_once(" ; ") else {
-        return Ok(false);
-    };
-    let Some((limit, said)) = rest.split_once(" ; ") else {
-        return Ok(false);
-    };
-    let Ok(limit) = limit.parse::<u32>() else {
-        return Ok(false);
-    };
-    is_found(alloc, &shapes(alloc, refs)?, limit, said)
-}
-
-// The first row that is not met, or nothing.
-fn first_other(alloc: Global) -> Result<&'static str, Memory> {
-    for row in ROWS.lines() {
-        if !is_as_said(alloc, row)? {
-            return Ok(row);
-        }
-    }
-    Ok("")
+fn is_as_said(alloc: Global, row: &str) -> Result<bool, RowFault> {
+    let (refs, limit, said) = in_three(row, " ; ")?;
+    is_found(alloc, &shapes(alloc, refs)?, number(limit)?, said)
 }
 
 #[test]
 fn shapes_are_ordered_as_said(rt: HostRuntime) -> Result<(), Fail> {
-    assert_eq!(rt; first_other(rt.alloc())?, "");
-    Ok(())
+    all_met(rt.alloc(), ROWS, is_as_said)
 }
 
 // Whether a graph of three shapes, by its nine bits, has a reference.
@@ -179,7 +159,7 @@ fn are_led(refs: &[Vec<u32>], found: &Numbering) -> bool {
     true
 }
 
-fn is_right(alloc: Global, graph: u32) -> Result<bool, Memory> {
+fn is_right(alloc: Global, graph: u32) -> Result<bool, RowFault> {
     let refs = refs_of(alloc, graph)?;
     let least = (0..3u32).find(|shape| reaches_itself(graph, *shape));
     if !are_shapes(&refs) {
@@ -191,24 +171,23 @@ fn is_right(alloc: Global, graph: u32) -> Result<bool, Memory> {
             Ok(least.is_some() && cycle.first().copied() == least && is_cycle(graph, &cycle))
         }
         Err(OrderFault::TooDeep { .. }) => Ok(false),
-        Err(OrderFault::Memory) => Err(AllocError),
+        Err(OrderFault::Memory) => Err(RowFault::Memory),
     }
 }
 
-// The first graph of three shapes of which something else is found than what it is, or their number.
-fn first_wrong(alloc: Global) -> Result<u32, Memory> {
+// Whether all 512 graphs of three shapes are judged as they are.
+fn are_all_right(alloc: Global, _: &str) -> Result<bool, RowFault> {
     for graph in 0..512u32 {
         if !is_right(alloc, graph)? {
-            return Ok(graph);
+            return Ok(false);
         }
     }
-    Ok(512)
+    Ok(true)
 }
 
 #[test]
 fn all_graphs_of_three_shapes_are_judged(rt: HostRuntime) -> Result<(), Fail> {
-    assert_eq!(rt; first_wrong(rt.alloc())?, 512);
-    Ok(())
+    all_met(rt.alloc(), "all graphs of three shapes", are_all_right)
 }
 
 // Shapes of which each refers to the next, and the last as said.
@@ -223,14 +202,18 @@ fn chain(alloc: Global, count: u32, last: &str) -> Result<Vec<Vec<u32>>, Memory>
     Ok(refs)
 }
 
+const CHAINS: &str = "1998 ; 10 ; cycle 1998 1999
+- ; 1998 ; deep 0
+- ; 10 ; deep 0
+";
+
+// By row: what the last of a chain of 2,000 refers to; the limit; what is found.
+fn is_followed(alloc: Global, row: &str) -> Result<bool, RowFault> {
+    let (last, limit, said) = in_three(row, " ; ")?;
+    is_found(alloc, &chain(alloc, 2000, last)?, number(limit)?, said)
+}
+
 #[test]
 fn a_long_chain_is_followed_to_its_end(rt: HostRuntime) -> Result<(), Fail> {
-    let alloc = rt.alloc();
-    let into_a_cycle = chain(alloc, 2000, "1998")?;
-    assert!(rt; is_found(alloc, &into_a_cycle, 10, "cycle 1998 1999")?);
-    let round = chain(alloc, 2000, "1")?;
-    assert!(rt; !is_found(alloc, &round, 10, "cycle 1 2")?);
-    let open = chain(alloc, 2000, "-")?;
-    assert!(rt; is_found(alloc, &open, 1998, "deep 0")?);
-    Ok(())
+    all_met(rt.alloc(), CHAINS, is_followed)
 }

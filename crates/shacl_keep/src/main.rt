@@ -15,8 +15,6 @@ ghost use Rattle.std.specs.Prelude.{◌≡◌};
 
 mod command_line;
 mod program;
-#[cfg(test)]
-mod tests;
 
 use command_line::read_words;
 use program::run_program;

@@ -9,8 +9,6 @@
 //! It stands on `ttl_read`, `iri_resolve`, `text_input`, `shx_outside` and `shx_term`.
 #![tactic(auto)]
 
-#[cfg(test)]
-mod tests;
 mod triples;
 
 use shx_outside::{FileInputs, Role};

@@ -8,6 +8,8 @@ pub mod NamedLemmas
 pub mod NestingLemmas
 pub mod NumberLemmas
 pub mod ObjectLemmas
+pub mod PathFormLemmas
+pub mod PathLemmas
 pub mod PathReadingLemmas
 pub mod RouteReadLemmas
 pub mod ShapeLemmas

@@ -140,16 +140,22 @@ first_of_link false (f ∷ []) (r ∷ []) member rest e = cc
 first_of_link false (f ∷ []) (r ∷ s ∷ rs) member rest e = cc
 first_of_link false (f ∷ h ∷ fs) rs member rest e = cc
 
--- a cell is the subject of a triple
+-- what is in a cell is stated of it
+pub first_stated : (g : Graph) (x member rest : ℕ) → cell_at g x ≡ Link member rest
+    → Contains g.triples (record { s = x; p = RDF_FIRST; o = member })
+first_stated g x member rest is =
+    let firsts = objects_of g x RDF_FIRST in
+    let e = first_of_link (nat_eq x RDF_NIL) firsts (objects_of g x RDF_REST) member rest is in
+    (Contains-objects_of g x RDF_FIRST member).0
+    (subst (λ xs. Contains xs member) (sym e) (Contains-head member []))
+
+-- so a cell is the subject of a triple
 linked_subject : (g : Graph) (x : ℕ) → IsLinked (cell_at g) x → Contains (map (λ t. t.s) g.triples) x
 linked_subject g x linked =
-    let firsts = objects_of g x RDF_FIRST in
-    let e = first_of_link (nat_eq x RDF_NIL) firsts (objects_of g x RDF_REST) linked.0 linked.1 linked.2 in
-    let found = subst (λ xs. Contains xs linked.0) (sym e) (Contains-head linked.0 []) in
     Contains-map (λ t. t.s) g.triples (record { s = x; p = RDF_FIRST; o = linked.0 })
-    ((Contains-objects_of g x RDF_FIRST linked.0).0 found)
+    (first_stated g x linked.0 linked.1 linked.2)
 
--- so distinct cells are no more than the triples
+-- and distinct cells are no more than the triples
 pub few_cells : (g : Graph) (xs : List ℕ) → IsDistinct nat_eq xs
     → ((x : ℕ) → Contains xs x → IsLinked (cell_at g) x) → length xs ≤ length g.triples
 few_cells g xs distinct linked =

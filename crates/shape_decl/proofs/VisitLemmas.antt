@@ -64,7 +64,7 @@ stopped None a b e h later = later h
 stopped (Some d) a b e h later = h
 
 module _ (g : Graph) (limit : ℕ) where
-  counted_after : (before : ℕ) (xs ys : List Visit) (after : ℕ) → counted g limit before xs ≡ Ok after
+  pub counted_after : (before : ℕ) (xs ys : List Visit) (after : ℕ) → counted g limit before xs ≡ Ok after
       → counted g limit before (xs ++ ys) ≡ counted g limit after ys
   counted_after before [] ys after h =
       let same : before ≡ after = cc in
@@ -73,6 +73,23 @@ module _ (g : Graph) (limit : ℕ) where
       passed (visit_fault g limit before x) (counted g limit (before + 1) xs)
       (counted g limit (before + 1) (xs ++ ys)) (counted g limit after ys) after h
       (counted_after (before + 1) xs ys after)
+
+  -- this comes to a count, and from there the nodes come to that one
+  abbrev pub InTurn : Result ℕ PathFault → List Visit → ℕ → Type 0
+  InTurn first ys after = (mid : ℕ) × (first ≡ Ok mid) × (counted g limit mid ys ≡ Ok after)
+
+  pub counted_in_turn : (before : ℕ) (xs ys : List Visit) (after : ℕ)
+      → counted g limit before (xs ++ ys) ≡ Ok after → InTurn (counted g limit before xs) ys after
+  counted_in_turn before [] ys after h = (before, refl, h)
+  counted_in_turn before (x ∷ xs) ys after h =
+      past (visit_fault g limit before x) h (counted_in_turn (before + 1) xs ys after)
+    where
+      past : (f : Option PathFault) → unless_fault f (counted g limit (before + 1) (xs ++ ys)) ≡ Ok after
+          → (counted g limit (before + 1) (xs ++ ys) ≡ Ok after
+          → InTurn (counted g limit (before + 1) xs) ys after)
+          → InTurn (unless_fault f (counted g limit (before + 1) xs)) ys after
+      past None met later = later met
+      past (Some e) met later = cc
 
   fault_stays : (before : ℕ) (xs ys : List Visit) (e : PathFault) → counted g limit before xs ≡ Err e
       → counted g limit before (xs ++ ys) ≡ Err e

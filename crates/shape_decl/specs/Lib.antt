@@ -5,6 +5,7 @@ pub mod Nesting
 pub mod Numbers
 pub mod PathForms
 pub mod PathReadings
+pub mod Paths
 pub mod Shapes
 pub mod Tables
 pub mod inner

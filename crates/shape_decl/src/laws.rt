@@ -7,11 +7,18 @@ ghost use Rattle.shape_decl.specs.Laws.{ValuesStandUnderTheirPredicates};
 ghost use Rattle.shape_decl.specs.Lists.{ListsAreRead};
 ghost use Rattle.shape_decl.specs.Nesting.{PathsNestWithinTheirLimit};
 ghost use Rattle.shape_decl.specs.Numbers.{DeclaredNumbersHaveTerms};
+ghost use Rattle.shape_decl.specs.Paths.{PathsAreRead};
 ghost use Rattle.shape_decl.specs.Shapes.{ShapesAreListed};
 
 /// The members that are read of a list are those that it has; so it has no others.
 pub fn lists_are_read()
     ensures { ListsAreRead }
+{}
+
+/// What is read as a path is a SHACL property path that keeps the limits of levels and of parts; and each
+/// such path is read (SHACL, section 2.3.1).
+pub fn paths_are_read()
+    ensures { PathsAreRead }
 {}
 
 /// The nodes that are declared are the shapes, in term order, each once.

@@ -18,8 +18,8 @@
 //! It stands on `graph_view` for what a graph gives, on `path_eval` for paths and SHACL instances, and on
 //! `indexmap`. What is read is not noted: a shapes graph does not change. Start with `collecting.rt`;
 //! `specs/Shapes.antt` says which nodes are shapes, `specs/Declarations.antt` what is stated of one,
-//! `specs/Lists.antt` what a SHACL list is, and `specs/PathForms.antt` and `specs/PathReadings.antt` what is
-//! read as a path.
+//! `specs/Lists.antt` what a SHACL list is, `specs/Paths.antt` what a SHACL property path is, and
+//! `specs/PathForms.antt` and `specs/PathReadings.antt` what is read as a path.
 #![tactic(auto)]
 
 mod cell;
@@ -45,8 +45,8 @@ pub use collecting::{collect, declare_shapes, sparql_count};
 pub use declaration::{Declared, ListValue, ShapeDecl};
 pub use laws::{
     declared_numbers_have_terms, lists_are_read, lists_stand_under_their_parameters,
-    named_shapes_are_declared, paths_nest_within_their_limit, shapes_are_declared_once,
-    shapes_are_listed, values_stand_under_their_predicates,
+    named_shapes_are_declared, paths_are_read, paths_nest_within_their_limit,
+    shapes_are_declared_once, shapes_are_listed, values_stand_under_their_predicates,
 };
 pub use lists::read_list;
 pub use path_fault::PathFault;

@@ -12,7 +12,7 @@
 //! | `tests/patterns.rt` | sh:pattern, as it is built of a row |
 //! | `tests/answers.rt` | what a component finds and reads, beside what is due |
 //! | `tests/components.rt` | going over the tables |
-//! | `tests/core.rt` | what components share: answers by pair, lookups, and pairs that are asked |
+//! | `tests/shared.rt` | what components share: answers by pair, lookups, and pairs that are asked |
 //!
 //! It stands on `value_components`, `pair_components`, `logic_components`, `qualified_shapes` and
 //! `comp_core`, on `graph_view` and `shx_term` for graphs, on `due_view` for which of them are valid and

@@ -1,11 +1,11 @@
 mod answers;
 mod asked;
 mod components;
-mod core;
 mod named;
 mod params;
 mod patterns;
 mod question;
 mod row;
 mod rows;
+mod shared;
 mod told;

@@ -1,3 +1,5 @@
+use super::holds;
+use row_tools::{RowFault, all_met, cut};
 use shx_outside::{
     Bytes, Failed, FileInputs, HonestInputs, HonestSink, Inputs, Memory, MemoryInputs, MemorySink,
     Name, NamedText, Role, Roomy, Sink,
@@ -6,118 +8,124 @@ use std::alloc::Global;
 use std::test::Fail;
 use std::{env, fs, process};
 
-fn named(alloc: Global, name: &str, bytes: &[u8]) -> Result<NamedText, Memory> {
+fn named(alloc: Global, name: &str, text: &str) -> Result<NamedText, Memory> {
     Ok(NamedText {
         name: Name::new(String::from_str(alloc, name)?),
-        bytes: Bytes::new(bytes.to_vec(alloc)?),
+        bytes: Bytes::new(String::from_str(alloc, text)?.into_bytes()),
     })
 }
 
 // Texts of two names, one of them twice.
 fn named_texts(alloc: Global) -> Result<Vec<NamedText>, Memory> {
     let mut files = Vec::new(alloc);
-    files.push(named(alloc, "shapes", b"seventh")?)?;
-    files.push(named(alloc, "data", b"four")?)?;
-    files.push(named(alloc, "shapes", b"hidden")?)?;
+    files.push(named(alloc, "shapes", "seventh")?)?;
+    files.push(named(alloc, "data", "four")?)?;
+    files.push(named(alloc, "shapes", "hidden")?)?;
     Ok(files)
 }
 
-// Inputs over these texts, in pieces of three bytes.
-fn inputs_failing(alloc: Global, failing: Vec<u64>) -> Result<MemoryInputs, Memory> {
-    Ok(MemoryInputs::new(named_texts(alloc)?, 3, failing))
-}
-
-// Reads a text to its end, puts a bar behind each piece, and answers whether no call failed.
+// Reads a text to its end and puts a bar behind each piece; `!` stands for an opening that fails, and `?` for
+// a read that does.
 fn read_all<I: Inputs>(
     inputs: &mut I,
     role: Role,
     name: &str,
     text: &mut Vec<u8>,
-) -> Result<bool, Memory>
+) -> Result<(), Memory>
     requires { I.admits inputs.old role name.now }
 {
     if inputs.open(role, name).is_err() {
-        return Ok(false);
+        return Ok(text.push(b'!')?);
     }
     let mut room = [0u8; 8];
     for _ in 0..u64::MAX {
-        let Ok(count) = inputs.read(role, &mut room) else {
-            return Ok(false);
-        };
-        if count == 0 {
-            return Ok(true);
+        match inputs.read(role, &mut room) {
+            Ok(0) => return Ok(()),
+            Ok(count) => text.extend_from_slice(&room[..count])?,
+            Err(Failed) => return Ok(text.push(b'?')?),
         }
-        text.extend_from_slice(&room[..count])?;
         text.push(b'|')?;
     }
-    Ok(false)
+    Ok(())
+}
+
+// The number of the call that fails, and what is read, in pieces of three bytes, of the texts for the shapes,
+// the data and the script; the script's is not held.
+const READ: &str = "0 sev|ent|h|fou|r|!";
+
+const CUT_OFF: &str = "\
+1 !fou|r|!
+2 ?fou|r|!
+3 sev|?fou|r|!";
+
+fn are_read(alloc: Global, row: &str) -> Result<bool, RowFault> {
+    let (failing, due) = cut(row, " ")?;
+    let failing = vec![in alloc; u64::from(row_tools::number(failing)?)]?;
+    let mut inputs = MemoryInputs::new(named_texts(alloc)?, 3, failing);
+    let mut text = Vec::new(alloc);
+    read_all(&mut inputs, Role::Shapes, "shapes", &mut text)?;
+    read_all(&mut inputs, Role::Data, "data", &mut text)?;
+    read_all(&mut inputs, Role::Script, "script", &mut text)?;
+    Ok(text.as_slice() == due.as_bytes())
 }
 
 #[test]
 fn texts_are_read_to_their_end(rt: HostRuntime) -> Result<(), Fail> {
-    let alloc = rt.alloc();
-    let mut inputs = inputs_failing(alloc, Vec::new(alloc))?;
-    let mut text = Vec::new(alloc);
-    assert!(rt; read_all(&mut inputs, Role::Shapes, "shapes", &mut text)?);
-    assert!(rt; read_all(&mut inputs, Role::Data, "data", &mut text)?);
-    assert_eq!(rt; text.as_slice(), b"sev|ent|h|fou|r|".as_slice());
-    assert!(rt; inputs.open(Role::Script, "script").is_err());
-    Ok(())
-}
-
-// Whether these bytes are read before the call of this number, which fails.
-fn reads_before_failure(alloc: Global, call: u64, want: &[u8]) -> Result<bool, Memory> {
-    let mut inputs = inputs_failing(alloc, vec![in alloc; call]?)?;
-    let mut text = Vec::new(alloc);
-    let whole = read_all(&mut inputs, Role::Shapes, "shapes", &mut text)?;
-    Ok(!whole && text.as_slice() == want)
+    all_met(rt.alloc(), READ, are_read)
 }
 
 #[test]
 fn a_listed_call_fails(rt: HostRuntime) -> Result<(), Fail> {
-    assert!(rt; reads_before_failure(rt.alloc(), 1, b"")?);
-    assert!(rt; reads_before_failure(rt.alloc(), 2, b"")?);
-    assert!(rt; reads_before_failure(rt.alloc(), 3, b"sev|")?);
-    Ok(())
+    all_met(rt.alloc(), CUT_OFF, are_read)
+}
+
+// Whether honest inputs give their texts, and the empty one under a name that is not held.
+fn are_read_honestly(alloc: Global) -> Result<bool, RowFault> {
+    let mut inputs = HonestInputs::new(named_texts(alloc)?, 3);
+    let mut text = Vec::new(alloc);
+    read_all(&mut inputs, Role::Shapes, "shapes", &mut text)?;
+    read_all(&mut inputs, Role::Script, "script", &mut text)?;
+    read_all(&mut inputs, Role::Data, "data", &mut text)?;
+    Ok(text.as_slice() == b"sev|ent|h|fou|r|".as_slice())
 }
 
 #[test]
 fn a_name_that_is_not_held_opens_the_empty_text(rt: HostRuntime) -> Result<(), Fail> {
-    let alloc = rt.alloc();
-    let mut inputs = HonestInputs::new(named_texts(alloc)?, 3);
-    let mut text = Vec::new(alloc);
-    assert!(rt; read_all(&mut inputs, Role::Shapes, "shapes", &mut text)?);
-    assert!(rt; read_all(&mut inputs, Role::Script, "script", &mut text)?);
-    assert!(rt; read_all(&mut inputs, Role::Data, "data", &mut text)?);
-    assert_eq!(rt; text.as_slice(), b"sev|ent|h|fou|r|".as_slice());
-    Ok(())
+    holds(are_read_honestly(rt.alloc()))
+}
+
+fn fails_at_the_second_put(alloc: Global) -> Result<bool, RowFault> {
+    let mut sink = MemorySink::new(alloc, 2, vec![in alloc; 2]?);
+    let puts = [sink.put(b"abc"), sink.put(b"c"), sink.put(b"c")];
+    Ok(puts == [Ok(2), Err(Failed), Ok(1)] && sink.bytes() == b"abc".as_slice())
 }
 
 #[test]
 fn the_second_put_fails(rt: HostRuntime) -> Result<(), Fail> {
-    let alloc = rt.alloc();
-    let mut sink = MemorySink::new(alloc, 2, vec![in alloc; 2]?);
-    assert_eq!(rt; sink.put(b"abc"), Ok(2));
-    assert_eq!(rt; sink.put(b"c"), Err(Failed));
-    assert_eq!(rt; sink.put(b"c"), Ok(1));
-    assert_eq!(rt; sink.bytes(), b"abc".as_slice());
-    Ok(())
+    holds(fails_at_the_second_put(rt.alloc()))
 }
 
 // There is room for exactly the bytes that are put.
+fn fails_without_room(alloc: Global) -> Result<bool, RowFault> {
+    let mut held = HonestSink::new(alloc, 2);
+    held.reserve(3)?;
+    let count = held.put(b"abc");
+    let room = held.room();
+    let mut sink = Roomy::new(held);
+    let puts = [sink.put(b"cd"), sink.put(b"d")];
+    let shown = format!(in alloc; "{sink:?}")?;
+    Ok(
+        count == 2
+            && room == 1
+            && puts == [Ok(1), Err(Failed)]
+            && sink.bytes() == b"abc".as_slice()
+            && shown.as_str().ends_with("room: 0 }, faults: 1 }"),
+    )
+}
+
 #[test]
 fn a_put_without_room_fails(rt: HostRuntime) -> Result<(), Fail> {
-    let mut held = HonestSink::new(rt.alloc(), 2);
-    held.reserve(3)?;
-    assert_eq!(rt; held.put(b"abc"), 2);
-    assert_eq!(rt; held.room(), 1);
-    let mut sink = Roomy::new(held);
-    assert_eq!(rt; sink.put(b"cd"), Ok(1));
-    assert_eq!(rt; sink.put(b"d"), Err(Failed));
-    assert_eq!(rt; sink.bytes(), b"abc".as_slice());
-    let shown = format!(in rt.alloc(); "{sink:?}")?;
-    assert!(rt; shown.as_str().ends_with("room: 0 }, faults: 1 }"));
-    Ok(())
+    holds(fails_without_room(rt.alloc()))
 }
 
 #[test]
@@ -130,12 +138,15 @@ fn files_are_opened_by_their_paths(rt: HostRuntime) -> Result<(), Fail> {
         process::id(rt.process())
     )?;
     fs::write(&rt, path.as_str(), b"ten bytes.".as_slice())?;
-    let mut inputs = FileInputs::new(&rt);
     let mut text = Vec::new(alloc);
-    assert!(rt; read_all(&mut inputs, Role::Data, path.as_str(), &mut text)?);
-    assert_eq!(rt; text.as_slice(), b"ten byte|s.|".as_slice());
+    read_all(
+        &mut FileInputs::new(&rt),
+        Role::Data,
+        path.as_str(),
+        &mut text,
+    )?;
     fs::remove_file(&rt, path.as_str())?;
-    Ok(())
+    holds(Ok(text.as_slice() == b"ten byte|s.|".as_slice()))
 }
 
 // The first can't be opened, and the second can't be read.
@@ -143,25 +154,20 @@ fn files_are_opened_by_their_paths(rt: HostRuntime) -> Result<(), Fail> {
 fn files_that_cannot_be_read_are_failures(rt: HostRuntime) -> Result<(), Fail> {
     let mut inputs = FileInputs::new(&rt);
     let mut text = Vec::new(rt.alloc());
-    assert!(rt; !read_all(&mut inputs, Role::Script, "no/such/file", &mut text)?);
-    assert!(rt; !read_all(&mut inputs, Role::Script, "/", &mut text)?);
-    assert!(rt; text.is_empty());
-    Ok(())
+    read_all(&mut inputs, Role::Script, "no/such/file", &mut text)?;
+    read_all(&mut inputs, Role::Script, "/", &mut text)?;
+    holds(Ok(text.as_slice() == b"!?".as_slice()))
 }
 
-#[test]
-fn a_failure_has_a_text(rt: HostRuntime) -> Result<(), Fail> {
-    let text = format!(in rt.alloc(); "{Failed}")?;
-    assert_eq!(rt; text.as_str(), "the outside failed");
-    Ok(())
+fn are_given_back(alloc: Global) -> Result<bool, RowFault> {
+    let NamedText { name, bytes } = named(alloc, "data", "four")?;
+    let copy = name.copy(alloc)?;
+    let is_kept = bytes.as_slice() == b"four".as_slice();
+    let given = bytes.into_vec();
+    Ok(copy.as_str() == "data" && is_kept && given.as_slice() == b"four".as_slice())
 }
 
 #[test]
 fn names_and_bytes_are_given_back(rt: HostRuntime) -> Result<(), Fail> {
-    let alloc = rt.alloc();
-    let NamedText { name, bytes } = named(alloc, "data", b"four")?;
-    assert_eq!(rt; name.copy(alloc)?.as_str(), "data");
-    assert_eq!(rt; bytes.as_slice(), b"four".as_slice());
-    assert_eq!(rt; bytes.into_vec().as_slice(), b"four".as_slice());
-    Ok(())
+    holds(are_given_back(rt.alloc()))
 }

@@ -1,6 +1,6 @@
-use row_tools::{RowFault, all_blocks_met, all_met, in_four};
-use shx_outside::{FailingHost, Flags, Memory, PatternFault, PatternHost, RegexHost};
-use std::alloc::{AllocError, Global};
+use row_tools::{RowFault, all_blocks_met, all_met, cut, in_four, in_three, number};
+use shx_outside::{FailingHost, Flags, PatternFault, PatternHost, RegexHost};
+use std::alloc::Global;
 use std::test::Fail;
 
 // A pattern, its flags, a text, and what comes of them.
@@ -46,32 +46,41 @@ fn flags_of(letters: &str) -> Flags {
 }
 
 // What comes of looking for a pattern in a text.
-fn outcome(alloc: Global, pattern: &str, letters: &str, text: &str) -> Result<String, Memory> {
-    match RegexHost::new().build(alloc, pattern, flags_of(letters)) {
+fn outcome<H: PatternHost>(
+    alloc: Global,
+    host: &mut H,
+    pattern: &str,
+    flags: Flags,
+    text: &str,
+) -> Result<String, RowFault>
+    requires { H.admits host.old flags pattern.now }
+{
+    match host.build(alloc, pattern, flags) {
         Ok(pattern) => {
             let is = pattern.is_match(alloc, text)?;
-            String::from_str(alloc, if is { "match" } else { "no match" })
+            Ok(String::from_str(alloc, if is { "match" } else { "no match" })?)
         }
-        Err(PatternFault::Memory) => Err(AllocError),
-        Err(fault) => format!(in alloc; "{fault}"),
+        Err(PatternFault::Memory) => Err(RowFault::Memory),
+        Err(fault) => Ok(format!(in alloc; "{fault}")?),
     }
 }
 
-// Whether that is what is wanted.
-fn comes_as(
-    alloc: Global,
-    pattern: &str,
-    letters: &str,
-    text: &str,
-    wanted: &str,
-) -> Result<bool, Memory> {
-    let found = outcome(alloc, pattern, letters, text)?;
+// Whether that is what is wanted, of a pattern without flags.
+fn comes_as(alloc: Global, pattern: &str, text: &str, wanted: &str) -> Result<bool, RowFault> {
+    let found = outcome(alloc, &mut RegexHost::new(), pattern, flags_of(""), text)?;
     Ok(found.as_str() == wanted)
 }
 
 fn comes_to(alloc: Global, row: &str) -> Result<bool, RowFault> {
     let (pattern, letters, text, wanted) = in_four(row, "→")?;
-    Ok(comes_as(alloc, pattern, letters, text, wanted)?)
+    let found = outcome(
+        alloc,
+        &mut RegexHost::new(),
+        pattern,
+        flags_of(letters),
+        text,
+    )?;
+    Ok(found.as_str() == wanted)
 }
 
 #[test]
@@ -80,7 +89,7 @@ fn patterns_are_read_with_their_flags(rt: HostRuntime) -> Result<(), Fail> {
 }
 
 fn is_refused(alloc: Global, pattern: &str) -> Result<bool, RowFault> {
-    Ok(comes_as(alloc, pattern, "", "", "the pattern was refused")?)
+    comes_as(alloc, pattern, "", "the pattern was refused")
 }
 
 #[test]
@@ -88,92 +97,77 @@ fn patterns_that_would_be_too_large_are_refused(rt: HostRuntime) -> Result<(), F
     all_met(rt.alloc(), TOO_LARGE, is_refused)
 }
 
-// An inner text between so many of two others.
-fn nested(
-    alloc: Global,
-    depth: u32,
-    before: &str,
-    inner: &str,
-    behind: &str,
-) -> Result<String, Memory> {
-    let mut text = String::new(alloc);
-    for _ in 0..depth {
-        text.push_str(before)?;
-    }
-    text.push_str(inner)?;
-    for _ in 0..depth {
-        text.push_str(behind)?;
-    }
-    Ok(text)
+// How often two texts stand around an inner one, a text, and what comes of that pattern.
+const NESTED: &str = "\
+== brackets that nest too deep are no pattern
+300 ( a )→a→the text is no pattern
+== stars over stars are a pattern
+40 ( a* )*→aaa→match";
+
+// An inner text between so many of two others: `300 ( a )`.
+fn nested(alloc: Global, row: &str) -> Result<String, RowFault> {
+    let (depth, before, inner, behind) = in_four(row, " ")?;
+    let depth = number(depth)? as usize;
+    let before = before.repeat(alloc, depth)?;
+    let behind = behind.repeat(alloc, depth)?;
+    Ok(format!(in alloc; "{}{inner}{}", before.as_str(), behind.as_str())?)
+}
+
+fn comes_of_nested(alloc: Global, row: &str) -> Result<bool, RowFault> {
+    let (parts, text, wanted) = in_three(row, "→")?;
+    comes_as(alloc, nested(alloc, parts)?.as_str(), text, wanted)
 }
 
 #[test]
-fn brackets_that_nest_too_deep_are_no_pattern(rt: HostRuntime) -> Result<(), Fail> {
-    let text = nested(rt.alloc(), 300, "(", "a", ")")?;
-    assert!(rt; comes_as(rt.alloc(), text.as_str(), "", "a", "the text is no pattern")?);
-    Ok(())
-}
-
-#[test]
-fn stars_over_stars_are_a_pattern(rt: HostRuntime) -> Result<(), Fail> {
-    let text = nested(rt.alloc(), 40, "(", "a*", ")*")?;
-    assert!(rt; comes_as(rt.alloc(), text.as_str(), "", "aaa", "match")?);
-    Ok(())
+fn patterns_that_nest(rt: HostRuntime) -> Result<(), Fail> {
+    all_met(rt.alloc(), NESTED, comes_of_nested)
 }
 
 // The words from word0 on, with bars between them.
-fn words(alloc: Global, count: u32) -> Result<String, Memory> {
+fn words(alloc: Global, count: u32) -> Result<String, RowFault> {
     let mut text = String::from_str(alloc, "word0")?;
     for number in 1..count {
-        let word = format!(in alloc; "|word{number}")?;
-        text.push_str(word.as_str())?;
+        text.push_str(format!(in alloc; "|word{number}")?.as_str())?;
     }
     Ok(text)
+}
+
+// How many words, a text, and what comes of a pattern of those words.
+fn comes_of_words(alloc: Global, row: &str) -> Result<bool, RowFault> {
+    let (count, text, wanted) = in_three(row, "→")?;
+    comes_as(alloc, words(alloc, number(count)?)?.as_str(), text, wanted)
 }
 
 #[test]
 fn many_words_are_a_pattern(rt: HostRuntime) -> Result<(), Fail> {
-    let text = words(rt.alloc(), 10_000)?;
-    assert!(rt; comes_as(rt.alloc(), text.as_str(), "", "a word9999", "match")?);
-    Ok(())
+    all_met(rt.alloc(), "10000→a word9999→match", comes_of_words)
 }
 
-#[test]
-fn want_of_memory_has_a_text(rt: HostRuntime) -> Result<(), Fail> {
-    let text = format!(in rt.alloc(); "{}", PatternFault::Memory)?;
-    assert_eq!(rt; text.as_str(), "memory was refused");
-    Ok(())
+// Patterns that one host is asked for in turn, and what comes of each in the text `a`. The second call is
+// refused on demand, the third one by the host within.
+const IN_TURN: &str = "\
+a→match
+a→the pattern was refused
+a{1000}{1000}→the pattern was refused
+(→the text is no pattern";
+
+const SHOWN: &str =
+    "FailingHost { inner: RegexHost { errors: 1 }, failing: [2], calls: 4, faults: 2 }";
+
+// Whether this comes of the patterns in turn, and the host then shows what was due.
+fn is_counted(alloc: Global, steps: &str) -> Result<bool, RowFault> {
+    let mut host = FailingHost::new(RegexHost::new(), vec![in alloc; 2]?);
+    for step in steps.lines() {
+        let (pattern, due) = cut(step, "→")?;
+        let found = outcome(alloc, &mut host, pattern, flags_of(""), "a")?;
+        if found.as_str() != due {
+            return Ok(false);
+        }
+    }
+    Ok(format!(in alloc; "{host:?}")?.as_str() == SHOWN)
 }
 
-#[test]
-fn a_new_host_has_refused_nothing(rt: HostRuntime) -> Result<(), Fail> {
-    let shown = format!(in rt.alloc(); "{:?}", RegexHost::new())?;
-    assert_eq!(rt; shown.as_str(), "RegexHost { errors: 0 }");
-    Ok(())
-}
-
-// The second call is refused on demand, the third one by the host within.
 #[test]
 fn refusals_are_counted(rt: HostRuntime) -> Result<(), Fail> {
-    let alloc = rt.alloc();
-    let mut host = FailingHost::new(RegexHost::new(), vec![in alloc; 2]?);
-    let flags = flags_of("");
-    assert!(rt; host.build(alloc, "a", flags).is_ok());
-    assert_eq!(rt;
-        host.build(alloc, "a", flags).err(),
-        Some(PatternFault::Refused)
-    );
-    assert_eq!(rt;
-        host.build(alloc, "a{1000}{1000}", flags).err(),
-        Some(PatternFault::Refused)
-    );
-    assert_eq!(rt;
-        host.build(alloc, "(", flags).err(),
-        Some(PatternFault::NoPattern)
-    );
-    let shown = format!(in alloc; "{host:?}")?;
-    let wanted =
-        "FailingHost { inner: RegexHost { errors: 1 }, failing: [2], calls: 4, faults: 2 }";
-    assert_eq!(rt; shown.as_str(), wanted);
-    Ok(())
+    all_blocks_met(rt.alloc(), IN_TURN, is_counted)
 }

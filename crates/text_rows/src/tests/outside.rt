@@ -1,5 +1,5 @@
 use super::holds;
-use row_tools::{RowFault, all_met, cut};
+use row_tools::{RowFault, all_met, in_four, number};
 use shx_outside::{
     Bytes, Failed, FileInputs, HonestInputs, HonestSink, Inputs, Memory, MemoryInputs, MemorySink,
     Name, NamedText, Role, Roomy, Sink,
@@ -9,9 +9,11 @@ use std::test::Fail;
 use std::{env, fs, process};
 
 fn named(alloc: Global, name: &str, text: &str) -> Result<NamedText, Memory> {
+    let name = String::from_str(alloc, name)?;
+    let text = String::from_str(alloc, text)?;
     Ok(NamedText {
-        name: Name::new(String::from_str(alloc, name)?),
-        bytes: Bytes::new(String::from_str(alloc, text)?.into_bytes()),
+        name: Name::new(name),
+        bytes: Bytes::new(text.into_bytes()),
     })
 }
 
@@ -49,24 +51,39 @@ fn read_all<I: Inputs>(
     Ok(())
 }
 
-// The number of the call that fails, and what is read, in pieces of three bytes, of the texts for the shapes,
-// the data and the script; the script's is not held.
-const READ: &str = "0 sev|ent|h|fou|r|!";
+// Whether that is what is read of a text.
+fn reads<I: Inputs>(
+    alloc: Global,
+    inputs: &mut I,
+    role: Role,
+    name: &str,
+    due: &str,
+) -> Result<bool, RowFault>
+    requires { I.admits inputs.old role name.now }
+{
+    let mut text = Vec::new(alloc);
+    read_all(inputs, role, name, &mut text)?;
+    Ok(text.as_slice() == due.as_bytes())
+}
+
+// The number of the call that fails; and what is read, in pieces of three bytes, of the texts for the shapes,
+// the data and the script, of which the last is not held.
+const READ: &str = "0 sev|ent|h| fou|r| !";
 
 const CUT_OFF: &str = "\
-1 !fou|r|!
-2 ?fou|r|!
-3 sev|?fou|r|!";
+1 ! fou|r| !
+2 ? fou|r| !
+3 sev|? fou|r| !";
 
 fn are_read(alloc: Global, row: &str) -> Result<bool, RowFault> {
-    let (failing, due) = cut(row, " ")?;
-    let failing = vec![in alloc; u64::from(row_tools::number(failing)?)]?;
+    let (failing, shapes, data, script) = in_four(row, " ")?;
+    let failing = vec![in alloc; u64::from(number(failing)?)]?;
     let mut inputs = MemoryInputs::new(named_texts(alloc)?, 3, failing);
-    let mut text = Vec::new(alloc);
-    read_all(&mut inputs, Role::Shapes, "shapes", &mut text)?;
-    read_all(&mut inputs, Role::Data, "data", &mut text)?;
-    read_all(&mut inputs, Role::Script, "script", &mut text)?;
-    Ok(text.as_slice() == due.as_bytes())
+    Ok(
+        reads(alloc, &mut inputs, Role::Shapes, "shapes", shapes)?
+            && reads(alloc, &mut inputs, Role::Data, "data", data)?
+            && reads(alloc, &mut inputs, Role::Script, "script", script)?,
+    )
 }
 
 #[test]
@@ -82,11 +99,11 @@ fn a_listed_call_fails(rt: HostRuntime) -> Result<(), Fail> {
 // Whether honest inputs give their texts, and the empty one under a name that is not held.
 fn are_read_honestly(alloc: Global) -> Result<bool, RowFault> {
     let mut inputs = HonestInputs::new(named_texts(alloc)?, 3);
-    let mut text = Vec::new(alloc);
-    read_all(&mut inputs, Role::Shapes, "shapes", &mut text)?;
-    read_all(&mut inputs, Role::Script, "script", &mut text)?;
-    read_all(&mut inputs, Role::Data, "data", &mut text)?;
-    Ok(text.as_slice() == b"sev|ent|h|fou|r|".as_slice())
+    Ok(
+        reads(alloc, &mut inputs, Role::Shapes, "shapes", "sev|ent|h|")?
+            && reads(alloc, &mut inputs, Role::Script, "script", "")?
+            && reads(alloc, &mut inputs, Role::Data, "data", "fou|r|")?,
+    )
 }
 
 #[test]
@@ -130,33 +147,30 @@ fn a_put_without_room_fails(rt: HostRuntime) -> Result<(), Fail> {
 
 #[test]
 fn files_are_opened_by_their_paths(rt: HostRuntime) -> Result<(), Fail> {
-    let alloc = rt.alloc();
-    let folder = env::temp_dir(&rt)?;
-    let path = format!(in alloc;
+    let path = format!(in rt.alloc();
         "{}/shx_outside_{}",
-        folder.as_str(),
+        env::temp_dir(&rt)?.as_str(),
         process::id(rt.process())
     )?;
     fs::write(&rt, path.as_str(), b"ten bytes.".as_slice())?;
-    let mut text = Vec::new(alloc);
-    read_all(
-        &mut FileInputs::new(&rt),
+    let inputs = &mut FileInputs::new(&rt);
+    let is_read = reads(
+        rt.alloc(),
+        inputs,
         Role::Data,
         path.as_str(),
-        &mut text,
-    )?;
+        "ten byte|s.|",
+    );
     fs::remove_file(&rt, path.as_str())?;
-    holds(Ok(text.as_slice() == b"ten byte|s.|".as_slice()))
+    holds(is_read)
 }
 
 // The first can't be opened, and the second can't be read.
 #[test]
 fn files_that_cannot_be_read_are_failures(rt: HostRuntime) -> Result<(), Fail> {
-    let mut inputs = FileInputs::new(&rt);
-    let mut text = Vec::new(rt.alloc());
-    read_all(&mut inputs, Role::Script, "no/such/file", &mut text)?;
-    read_all(&mut inputs, Role::Script, "/", &mut text)?;
-    holds(Ok(text.as_slice() == b"!?".as_slice()))
+    let inputs = &mut FileInputs::new(&rt);
+    holds(reads(rt.alloc(), inputs, Role::Script, "no/such/file", "!"))?;
+    holds(reads(rt.alloc(), inputs, Role::Script, "/", "?"))
 }
 
 fn are_given_back(alloc: Global) -> Result<bool, RowFault> {

@@ -84,15 +84,24 @@ fn scripts_are_read_line_by_line(rt: HostRuntime) -> Result<(), Fail> {
     all_met(rt.alloc(), SCRIPTS, is_read_by_lines)
 }
 
-// Whether the row's text is read as the row says.
-fn is_read_whole(alloc: Global, row: &str) -> Result<bool, RowFault> {
-    let (text, most, failing, due) = in_four(row, "|")?;
-    let most = u64::from(number(most)?);
-    let mut inputs = inputs_of(alloc, "data", text, number(failing)?)?;
-    match read_text(alloc, &mut inputs, Role::Data, "data", most) {
+// Whether this comes of reading a text of at most so many bytes.
+fn reads_as(
+    alloc: Global,
+    inputs: &mut MemoryInputs,
+    most: u32,
+    due: &str,
+) -> Result<bool, RowFault> {
+    match read_text(alloc, inputs, Role::Data, "data", u64::from(most)) {
         Ok(bytes) => Ok(bytes.as_slice() == due.as_bytes()),
         Err(fault) => Ok(format!(in alloc; "{fault}")?.as_str() == due),
     }
+}
+
+// Whether the row's text is read as the row says.
+fn is_read_whole(alloc: Global, row: &str) -> Result<bool, RowFault> {
+    let (text, most, failing, due) = in_four(row, "|")?;
+    let mut inputs = inputs_of(alloc, "data", text, number(failing)?)?;
+    reads_as(alloc, &mut inputs, number(most)?, due)
 }
 
 #[test]

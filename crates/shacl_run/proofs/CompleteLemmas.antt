@@ -9,6 +9,7 @@ use Rattle.shx_term.specs.declared.limits.Limits.{Limits}
 use Rattle.graph_view.specs.Graph.{Graph}
 use Rattle.shape_decl.specs.Declarations.{Declaration, declarations}
 use Rattle.shape_compile.specs.Patterns.{StatesPattern}
+use Rattle.ttl_meaning.specs.State.{State}
 use Rattle.command_words.specs.Words.{command_words}
 use Rattle.shacl_run.specs.declared.status.Status.{Status}
 use Rattle.shacl_run.specs.declared.status.Status.TheVariants.{Conforms, Violates, BadWords, Refused}
@@ -16,7 +17,8 @@ use Rattle.shacl_run.specs.declared.status.Status.TheVariants.{InputFault, Write
 use Rattle.shacl_run.specs.Complete.{HasNoPattern, HasRoom, HasRoomByAny, IsCalm, IsComplete, IsDue}
 use Rattle.shacl_run.specs.Complete.{NothingFailed}
 use Rattle.shacl_run.specs.Outside.{Outside}
-use Rattle.shacl_run.specs.Readings.{AreJudged, ComeTo, Readings, stated_graph}
+use Rattle.shacl_run.specs.Readings.{AreJudged, ComeTo, Readings, TextReading, States, Faulty, Long}
+use Rattle.shacl_run.specs.Readings.{stated_graph}
 use Rattle.shacl_run.specs.Run.{Output, run_output}
 use Rattle.shacl_run.specs.RunClauses.{ByVerdict, DataIsReadBy, HasCauses, IsRun, LinesAreReadBy, RoseWhere}
 use Rattle.shacl_run.specs.RunClauses.{ShapesAreReadBy, WritesDue, WritesFront}
@@ -128,14 +130,22 @@ no_refusal limits document (stops (is_refused shape)) none is =
     let at = is.1 in
     absurd (none at.decl at.value at.states)
 
+no_refusal_by : (limits : Limits) (reading : TextReading) (verdict : Verdict)
+    → ((document : Graph) (end : State) → reading ≡ States document end → (d : Declaration) (value : ℕ)
+    → StatesPattern (declarations limits (stated_graph document)) d value → ⊥)
+    → ComeTo limits reading verdict → refuses_pattern verdict ≡ false
+no_refusal_by limits (States document end) verdict none come =
+    no_refusal limits document verdict (none document end refl) come
+no_refusal_by limits (Faulty code at) verdict none come = come
+no_refusal_by limits Long verdict none come = come
+
 pub no_pattern_refused : (limits : Limits) (words : List (List ℕ)) (before : Outside) (readings : Readings)
     → HasNoPattern limits readings words before → (verdict : Verdict)
     → AreJudged limits readings.shapes (words_shapes before.inputs.text (command_words words)) verdict
     → refuses_pattern verdict ≡ false
 no_pattern_refused limits words before readings has verdict judged =
-    let told = subst (λ text. AreJudged limits readings.shapes text verdict) has.told judged in
-    let come = subst (λ reading. ComeTo limits reading verdict) has.read told in
-    no_refusal limits has.document verdict has.none come
+    let come = subst (λ text. AreJudged limits readings.shapes text verdict) has.told judged in
+    no_refusal_by limits readings.shapes verdict has.none come
 
 -- ---- room
 

@@ -139,13 +139,13 @@ refuses limits (States document end) refusals refusals' terms answer is = record
 }
 refuses limits (Faulty code at) refusals refusals' terms answer is = record {
   obstacle = recurs 0;
-  come = tt;
+  come = refl;
   patterns = is.1;
   told = λ format readings data_text. rw is.0 refl;
 }
 refuses limits Long refusals refusals' terms answer is = record {
   obstacle = recurs 0;
-  come = tt;
+  come = refl;
   patterns = is.1;
   told = λ format readings data_text. rw is.0 refl;
 }

@@ -46,7 +46,7 @@ use Rattle.shacl_run.specs.Run.{status_of_state}
 use Rattle.shacl_run.specs.RunClauses.{StopsFed}
 use Rattle.shacl_run.specs.Edits.{graph_with, graph_without, inserted, removed}
 use Rattle.shacl_run.specs.Manner.{Manner}
-use Rattle.shacl_run.specs.Readings.{IsReadBehind}
+use Rattle.shacl_run.specs.Readings.{IsReadBehind, LinesAreReadOnce}
 use Rattle.shacl_run.specs.Script.{Step, step_text, script_step, answers_text, state_after, edit_step}
 use Rattle.shacl_run.specs.Script.{reading_step, refusal}
 use Rattle.shacl_run.specs.ScriptState.{ScriptState}
@@ -58,7 +58,6 @@ use Rattle.shacl_run.proofs.EndLemmas.{append_none, answered_apart, Ends-after, 
 use Rattle.shacl_run.proofs.EndLemmas.{Ends-short}
 use Rattle.shacl_run.proofs.EndLemmas.{Ends-whole}
 use Rattle.shacl_run.proofs.LineReadingLemmas.{read_too_long}
-use Rattle.shacl_run.proofs.NamesLemmas.{LinesHaveOneReading, read_once_behind}
 
 behind_both : (front more : List ℕ) (o : Output) → behind (front ++ more) o ≡ behind front (behind more o)
 behind_both front more o = λ i. record {
@@ -196,7 +195,7 @@ module _ (manner : Manner) (s : ScriptState) where
     }
 
 -- a line that was read asks for the step of its reading
-pub step_once : LinesHaveOneReading → (manner : Manner) (s : ScriptState) (limits : Limits)
+pub step_once : LinesAreReadOnce → (manner : Manner) (s : ScriptState) (limits : Limits)
     → manner.limits ≡ limits → (line : List ℕ) (reading : Result Command LineFault)
     → IsReadBehind limits s.data_end line reading
     → IsStepOf manner s (λ first. first ≡ line) (reading_step manner.limits s reading)
@@ -205,7 +204,7 @@ step_once once manner s limits same line reading is = λ first it read.
     subst (λ (l : List ℕ). IsReadBehind manner.limits s.data_end l reading) (sym it)
     (subst (λ (l : Limits). IsReadBehind l s.data_end line reading) (sym same) is) in
     ap (reading_step manner.limits s)
-    (read_once_behind once manner.limits s.data_end first (manner.lines first) reading read also)
+    (once manner.limits s.data_end first (manner.lines first) reading read also)
 
 -- a line that is too long is refused
 pub step_too_long : (manner : Manner) (s : ScriptState) (limits : Limits) → manner.limits ≡ limits

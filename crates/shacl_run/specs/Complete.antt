@@ -52,16 +52,13 @@ IsComplete limits words before after status =
 
 -- ---- shapes without patterns
 
--- the shapes text is told and is a document, and no shape of it states a pattern
+-- the shapes text is told, and no shape that it states has a pattern
 pub record HasNoPattern (limits : Limits) (readings : Readings) (words : List (List ℕ)) (before : Outside)
     : Type 0 where
   pub bytes : List ℕ
   pub told : words_shapes before.inputs.text (command_words words) ≡ Some bytes
-  pub document : Graph
-  pub end : State
-  pub read : readings.shapes ≡ States document end
-  pub none : (d : Declaration) (value : ℕ)
-      → StatesPattern (declarations limits (stated_graph document)) d value → ⊥
+  pub none : (document : Graph) (end : State) → readings.shapes ≡ States document end
+      → (d : Declaration) (value : ℕ) → StatesPattern (declarations limits (stated_graph document)) d value → ⊥
 
 -- ---- room for the output
 

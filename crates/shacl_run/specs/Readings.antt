@@ -1,6 +1,6 @@
 -- What the texts are read as: what the shapes and the data state over the numbers of their terms, or their
 -- fault; and what each line of the script asks for, or its fault.
-use Rattle.std.specs.Prelude.{◌≡◌, ℕ, ◌<◌, ◌≤◌, All, List, length, Option, None, Some, IfSome, Result}
+use Rattle.std.specs.Prelude.{◌≡◌, ℕ, ◌<◌, ◌≤◌, false, All, List, length, Option, None, Some, IfSome, Result}
 use Rattle.shx_outside.specs.declared.flags.Flags.{Flags}
 use Rattle.shx_term.specs.declared.limits.Limits.{Limits}
 use Rattle.shx_term.specs.declared.term.Scope.{Scope}
@@ -23,7 +23,7 @@ use Rattle.script_lines.specs.declared.fault.LineFault.{LineFault}
 use Rattle.script_lines.specs.Lines.{IsLineRead}
 use Rattle.shacl_run.specs.Manner.{LineReadings}
 use Rattle.shacl_run.specs.Names.{HasNamesOf}
-use Rattle.shacl_run.specs.Verdict.{Verdict, IsVerdict, plans}
+use Rattle.shacl_run.specs.Verdict.{Verdict, IsVerdict, plans, refuses_pattern}
 
 -- a document: its graph, and the state at its end, with the base, the prefixes and the blank nodes that hold
 -- for what is read behind it; or a fault: its code, and the byte at which it stands; or a text that is longer
@@ -71,11 +71,11 @@ abbrev pub ShapesAreRead : Limits → List ℕ → TextReading → Option (List 
 ShapesAreRead limits base reading text =
     IfSome text (λ bytes. IsReadAs limits base Shapes vocabulary bytes reading)
 
--- the shapes that are stated come to this
+-- the shapes that are stated come to this; where none are, no pattern is refused
 abbrev pub ComeTo : Limits → TextReading → Verdict → Type 0
 ComeTo limits (States document end) verdict = IsVerdict limits (stated_graph document) verdict
-ComeTo limits (Faulty code at) verdict = Unit {0}
-ComeTo limits Long verdict = Unit {0}
+ComeTo limits (Faulty code at) verdict = refuses_pattern verdict ≡ false
+ComeTo limits Long verdict = refuses_pattern verdict ≡ false
 
 -- and so do those of a text, where it is told
 abbrev pub AreJudged : Limits → TextReading → Option (List ℕ) → Verdict → Type 0
@@ -106,6 +106,12 @@ pub record IsReadBehind (limits : Limits) (end : State) (line : List ℕ) (readi
   pub document : Document
   pub names : HasNamesOf end document
   pub read : IsLineRead limits document line reading
+
+-- it has no other
+abbrev pub LinesAreReadOnce : Type 0
+LinesAreReadOnce =
+    (limits : Limits) (end : State) (line : List ℕ) (a b : Result Command LineFault)
+    → IsReadBehind limits end line a → IsReadBehind limits end line b → a ≡ b
 
 -- it has such a reading
 abbrev pub HasReading : Limits → State → List ℕ → Type 0

@@ -13,6 +13,7 @@
 //! | `evaluation.rt` | all results of a graph |
 //! | `run_validation.rt`, `serve.rt` | the report of a validation, and its script |
 //! | `take_line.rt`, `reply.rt` | one line of a script: taken, done, answered |
+//! | `read_once.rt` | a law: a line has one reading |
 //! | `edit.rt`, `count.rt` | insertions and removals; counts |
 //! | `turtle.rt`, `refusal.rt` | what a text of Turtle states; why a text is not taken |
 //! | `stored_graph.rt` | the form in which graphs are stored |
@@ -32,6 +33,7 @@ mod judge;
 mod obstacle;
 mod open_validation;
 mod prepare;
+mod read_once;
 mod refusal;
 mod reply;
 mod run_validation;

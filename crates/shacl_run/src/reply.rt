@@ -17,11 +17,12 @@ ghost use Rattle.shacl_run.specs.inner.Validation.{IsValidation, Stands};
 use crate::count::count;
 use crate::edit::{Edited, insert, remove};
 use crate::evaluation::report_of;
+use crate::read_once::lines_are_read_once;
 use crate::validation::Validation;
 use comp_core::ResultRow;
 use graph_view::GraphView;
 use report_write::{Answer, write_answer, write_report};
-use script_lines::{Command, LineFault, a_line_has_one_reading, read_line};
+use script_lines::{Command, LineFault, read_line};
 use shx_outside::Sink;
 use shx_term::{Limits, Memory, Steps};
 use std::alloc::{AllocError, Global};
@@ -68,7 +69,7 @@ pub fn reply_to<L: Ledger>(
     ensures line { IfOk result (λ _. validation.new.line ≡ validation.old.line + 1) }
 {
     // So what is read here is the reading that was told.
-    a_line_has_one_reading();
+    lines_are_read_once();
     match read_line(alloc, line, &validation.document, limits) {
         Ok(command) => do_command(alloc, validation, &command, steps),
         Err(LineFault::Line { code, at }) => Ok(refuse_line(validation, code, at)),

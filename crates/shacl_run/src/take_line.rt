@@ -10,10 +10,10 @@ ghost use Rattle.shacl_run.specs.Names.{HasNamesOf};
 ghost use Rattle.shacl_run.specs.inner.Serving.{GivesReadings, LinesAreReadAt, TakesLine, TakesBytes};
 ghost use Rattle.shacl_run.specs.inner.Validation.{IsValidation, Stands};
 
+use crate::read_once::lines_are_read_once;
 use crate::reply::{Reply, refuse_line, reply_to};
 use crate::stop::Stop;
 use crate::validation::Validation;
-use script_lines::a_line_has_one_reading;
 use shx_outside::Inputs;
 use shx_term::fault_codes::LINE_TOO_LONG;
 use shx_term::{Limits, Steps};
@@ -73,7 +73,7 @@ pub fn take_line<I: Inputs, L: Ledger>(
     ensures cause { StopCause (I.state host.old).faults (I.state host.new).faults result }
 {
     // So its reading is the one that was told.
-    a_line_has_one_reading();
+    lines_are_read_once();
     let line = next_line(alloc, reader, host, limits)?;
     match &line {
         Line::Is(bytes) => {

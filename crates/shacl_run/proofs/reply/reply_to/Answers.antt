@@ -7,7 +7,6 @@ use Rattle.script_lines.specs.declared.fault.LineFault.TheVariants.{Line}
 use Rattle.shacl_run.specs.inner.Reply.{Replies}
 use Rattle.shacl_run.specs.Readings.{HasReading, IsReadBehind}
 use Rattle.shacl_run.specs.Script.{reading_step}
-use Rattle.shacl_run.proofs.NamesLemmas.{read_once_behind}
 use Rattle.shacl_run.proofs.reply.reply_to.Goals as goal
 
 pub returns-in-Ok-clause-replies : goal.returns-in-Ok-clause-replies
@@ -19,7 +18,7 @@ returns-in-Ok-clause-replies g c = λ manner s same is told.
     let behind : IsReadBehind limits s.data_end line (Ok command) =
     record { document = document; names = is.names_are; read = c.in-Ok.ensures.command } in
     let one : manner.lines line ≡ Ok command =
-    read_once_behind c.a_line_has_one_reading.ensures limits s.data_end line (manner.lines line) (Ok command)
+    c.lines_are_read_once.ensures limits s.data_end line (manner.lines line) (Ok command)
     told behind in
     subst (λ (reading : Result Command LineFault). IfOk c.do_command.result (λ reply.
     Replies manner (reading_step manner.limits s reading) reply c.do_command.new.validation)) (sym one)
@@ -42,7 +41,7 @@ returns-in-Err-Line-clause-replies g c = λ manner s same is told.
     let behind : IsReadBehind limits s.data_end line (Err fault) =
     record { document = document; names = is.names_are; read = refused (λ is. cc) } in
     let one : manner.lines line ≡ Err fault =
-    read_once_behind c.a_line_has_one_reading.ensures limits s.data_end line (manner.lines line) (Err fault)
+    c.lines_are_read_once.ensures limits s.data_end line (manner.lines line) (Err fault)
     told behind in
     subst (λ (reading : Result Command LineFault).
     Replies manner (reading_step manner.limits s reading) c.refuse_line.result c.refuse_line.new.validation)

@@ -35,7 +35,7 @@ returns-in-Is-clause-taken g c = λ manner s same is lines.
           (left_of c.args.reader.now ((g.I.Inputs.state c.args.host.now).rest Script))
           (left_of c.next_line.new.reader ((g.I.Inputs.state c.next_line.new.host).rest Script))
           (λ first. first ≡ line) step
-          (step_once c.a_line_has_one_reading.ensures manner s limits same line reading told) lines read.0
+          (step_once c.lines_are_read_once.ensures manner s limits same line reading told) lines read.0
           c.next_line.ensures.goes_on.stays_ended,
     )
 

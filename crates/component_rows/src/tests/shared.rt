@@ -20,57 +20,56 @@ fn two_rows(alloc: Global) -> Result<Answered, Memory>
     Ok(Answered { pair: HELD, rows })
 }
 
-// The answers of that pair, between one of its shape and one of its node that have no results.
-fn table(alloc: Global) -> Result<AnswerTable, Memory> {
+// Its results, and whether it has none, behind a pair of the same shape without results.
+#[tactic(auto, unfolding(comp_core::specs::Table::has_pair, comp_core::specs::Pairs::same_pair))]
+fn told(alloc: Global) -> Result<(Vec<ResultRow>, bool), Memory> {
     let mut answers = Vec::new(alloc);
-    let (other_node, other_shape) = (Pair { shape: 3, node: 71 }, Pair { shape: 4, node: 70 });
     answers.push(Answered {
-        pair: other_node,
+        pair: Pair { shape: 3, node: 71 },
         rows: Vec::new(alloc),
     })?;
     answers.push(two_rows(alloc)?)?;
-    answers.push(Answered {
-        pair: other_shape,
-        rows: Vec::new(alloc),
-    })?;
-    Ok(AnswerTable { answers })
-}
-
-// Its results, and whether it has none.
-#[tactic(auto, unfolding(comp_core::specs::Table::has_pair, comp_core::specs::Pairs::same_pair))]
-fn tells_the_results(alloc: Global, _: &str) -> Result<bool, RowFault> {
-    let table = table(alloc)?;
+    let table = AnswerTable { answers };
     let mut reads = Reads::new(alloc);
     let mut rows = Vec::new(alloc);
     table.results(alloc, &HELD, &mut reads, &mut rows)?;
     let conforms = table.conforms(&HELD, &mut reads)?;
-    let kinds = (
-        rows.first().map(|row| row.kind),
-        rows.last().map(|row| row.value),
-    );
-    Ok(
-        !conforms
-            && reads.len() == 0
-            && rows.len() == 2
-            && kinds == (Some(MIN_COUNT), Some(Some(71))),
-    )
+    Ok((rows, conforms || reads.len() > 0))
 }
 
-// Of two shapes that are asked, one of them twice, the one without results counts as often as it is asked.
+fn is_told(alloc: Global, row: &str) -> Result<bool, RowFault> {
+    let (rows, other) = told(alloc)?;
+    let kinds = rows.first().map(|row| row.kind) == Some(MIN_COUNT);
+    let values = rows.last().map(|row| row.value) == Some(Some(number(row)?));
+    Ok(!other && rows.len() == 2 && kinds && values)
+}
+
+// Where the node has results at the one shape, and none at the other.
 #[tactic(auto, unfolding(comp_core::specs::Table::has_pair, comp_core::specs::Pairs::same_pair))]
-fn counts_what_conforms(alloc: Global, _: &str) -> Result<bool, RowFault> {
+fn counted(alloc: Global) -> Result<usize, Memory> {
+    let mut answers = Vec::new(alloc);
+    answers.push(two_rows(alloc)?)?;
+    answers.push(Answered {
+        pair: Pair { shape: 4, node: 70 },
+        rows: Vec::new(alloc),
+    })?;
+    let table = AnswerTable { answers };
     let mut reads = Reads::new(alloc);
-    Ok(conforming(&table(alloc)?, &[4, 3, 4], 70, &mut reads)? == 2)
+    conforming(&table, &[4, 3, 4], 70, &mut reads)
+}
+
+fn is_counted(alloc: Global, row: &str) -> Result<bool, RowFault> {
+    Ok(counted(alloc)? == number(row)? as usize)
 }
 
 #[test]
 fn a_table_tells_the_answers_of_its_pairs(rt: HostRuntime) -> Result<(), Fail> {
-    all_met(rt.alloc(), "results of a pair", tells_the_results)
+    all_met(rt.alloc(), "71", is_told)
 }
 
 #[test]
 fn shapes_count_as_often_as_they_stand(rt: HostRuntime) -> Result<(), Fail> {
-    all_met(rt.alloc(), "two of three", counts_what_conforms)
+    all_met(rt.alloc(), "2", is_counted)
 }
 
 // By row: how many numbers are held; how many of a row are found among every third of them.

@@ -2,3 +2,29 @@ mod codes;
 mod limits;
 mod pools;
 mod terms;
+
+use row_tools::RowFault;
+use std::cmp::Ordering;
+use std::test::Fail;
+
+// Fails where what a test asks for does not hold.
+fn holds(outcome: Result<bool, RowFault>) -> Result<(), Fail> {
+    match outcome? {
+        true => Ok(()),
+        false => Err(Fail::new("it does not hold")),
+    }
+}
+
+// What rows say of what is so or not.
+fn said(truth: bool) -> &'static str {
+    if truth { "yes" } else { "no" }
+}
+
+// What rows call an order.
+fn order_name(order: Ordering) -> &'static str {
+    match order {
+        Ordering::Less => "less",
+        Ordering::Equal => "equal",
+        Ordering::Greater => "greater",
+    }
+}

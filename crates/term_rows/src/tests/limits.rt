@@ -1,16 +1,20 @@
 ghost use Rattle.std.specs.Prelude.{◌≡◌};
 
+use super::holds;
 use shx_term::{Limits, Steps};
 use std::marker::Brand;
 use std::sync::ledger::{Blank, Ledger};
+use std::test::Fail;
 
 #[test]
-fn the_program_has_its_limits(rt: HostRuntime) {
+fn the_program_has_its_limits() -> Result<(), Fail> {
     let limits = Limits::program();
-    assert_eq!(rt; limits.triples, 4_000_000);
-    assert_eq!(rt; limits.line, 65_536);
-    assert_eq!(rt; limits.group, 10_000);
-    assert_eq!(rt; limits.history, 100);
+    holds(Ok(
+        limits.triples == 4_000_000
+            && limits.line == 65_536
+            && limits.group == 10_000
+            && limits.history == 100,
+    ))
 }
 
 fn ticked_twice<L: Ledger>(blank: Blank) -> Steps<L>

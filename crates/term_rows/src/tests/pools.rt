@@ -1,22 +1,18 @@
 mod rows;
 
-use super::terms::order_of;
+use super::{holds, order_name, said};
 use row_tools::{RowFault, all_blocks_met, cut, in_three, iri, number, term};
 use shx_term::vocabulary::*;
-use shx_term::{Id, Memory, Pool, PoolFault, Term, Triple};
+use shx_term::{Id, Pool, PoolFault, Triple};
 use std::alloc::Global;
 use std::cmp::Ordering;
 use std::test::Fail;
 
-// Whether the number of the vocabulary's row is that of its IRI.
-fn is_numbered(alloc: Global, pool: &Pool, id: Id, name: &str) -> Result<bool, Memory> {
-    let term = iri(alloc, name)?;
-    Ok(pool.find(&term) == Some(id))
-}
-
-fn all_are_numbered(alloc: Global, pool: &Pool, rows: &[(Id, &str)]) -> Result<(), Fail> {
+// Fails with the first row whose number is not that of its IRI in the vocabulary.
+fn all_are_numbered(alloc: Global, rows: &[(Id, &str)]) -> Result<(), Fail> {
+    let pool = Pool::with_vocabulary(alloc, VOCABULARY_LEN)?;
     for (id, name) in rows {
-        if !is_numbered(alloc, pool, *id, name)? {
+        if pool.find(&iri(alloc, name)?) != Some(*id) {
             return Err(Fail::new(*name));
         }
     }
@@ -25,10 +21,9 @@ fn all_are_numbered(alloc: Global, pool: &Pool, rows: &[(Id, &str)]) -> Result<(
 
 #[test]
 fn constants_are_their_terms(rt: HostRuntime) -> Result<(), Fail> {
-    let pool = Pool::with_vocabulary(rt.alloc(), VOCABULARY_LEN)?;
     let rows = vocabulary_rows();
-    assert_eq!(rt; rows.len(), 62);
-    all_are_numbered(rt.alloc(), &pool, rows)
+    holds(Ok(rows.len() == 62))?;
+    all_are_numbered(rt.alloc(), rows)
 }
 
 const NAMED: [(Id, &str); 3] = [
@@ -39,14 +34,13 @@ const NAMED: [(Id, &str); 3] = [
 
 #[test]
 fn named_constants_are_their_terms(rt: HostRuntime) -> Result<(), Fail> {
-    let pool = Pool::with_vocabulary(rt.alloc(), VOCABULARY_LEN)?;
-    all_are_numbered(rt.alloc(), &pool, &NAMED)
+    all_are_numbered(rt.alloc(), &NAMED)
 }
 
 // The number of a term by its word, or the number itself.
 fn id(alloc: Global, pool: &Pool, word: &str) -> Result<Id, RowFault> {
-    if word.starts_with(|first: char| first.is_ascii_digit()) {
-        return number(word);
+    if let Ok(id) = number(word) {
+        return Ok(id);
     }
     pool.find(&term(alloc, word)?).ok_or(RowFault::Unread)
 }
@@ -60,12 +54,10 @@ fn ids(alloc: Global, pool: &Pool, words: &str) -> Result<Vec<Id>, RowFault> {
 }
 
 fn triple(alloc: Global, pool: &Pool, words: &str) -> Result<Triple, RowFault> {
-    let (s, p, o) = in_three(words, " ")?;
-    Ok(Triple {
-        s: id(alloc, pool, s)?,
-        p: id(alloc, pool, p)?,
-        o: id(alloc, pool, o)?,
-    })
+    match *ids(alloc, pool, words)?.as_slice() {
+        [s, p, o] => Ok(Triple { s, p, o }),
+        _ => Err(RowFault::Unread),
+    }
 }
 
 fn triples(alloc: Global, pool: &Pool, words: &str) -> Result<Vec<Triple>, RowFault> {
@@ -76,23 +68,9 @@ fn triples(alloc: Global, pool: &Pool, words: &str) -> Result<Vec<Triple>, RowFa
     Ok(triples)
 }
 
-// Whether a number that was given to a term is due, and has the term.
-fn is_entered_as(pool: &Pool, term: &Term, id: Id, due: &str) -> bool {
-    number(due) == Ok(id) && pool.find(term) == Some(id) && id < pool.len() && pool.term(id) == term
-}
-
-fn enters(alloc: Global, pool: &mut Pool, word: &str, due: &str) -> Result<bool, RowFault> {
-    let term = term(alloc, word)?;
-    match pool.enter(&term) {
-        Ok(id) => Ok(is_entered_as(pool, &term, id, due)),
-        Err(PoolFault::Full) => Ok(due == "full"),
-        Err(PoolFault::Memory) => Err(RowFault::Memory),
-    }
-}
-
 fn finds(alloc: Global, pool: &Pool, word: &str, due: &str) -> Result<bool, RowFault> {
     match pool.find(&term(alloc, word)?) {
-        Some(id) => Ok(number(due) == Ok(id)),
+        Some(id) => Ok(id == number(due)?),
         None => Ok(due == "none"),
     }
 }
@@ -101,6 +79,19 @@ fn has_term(alloc: Global, pool: &Pool, id: &str, due: &str) -> Result<bool, Row
     let id = number(id)?;
     let due = term(alloc, due)?;
     Ok(id < pool.len() && *pool.term(id) == due)
+}
+
+// Whether a term gets the number that is due, is found under it, and is its term.
+fn enters(alloc: Global, pool: &mut Pool, word: &str, due: &str) -> Result<bool, RowFault> {
+    match pool.enter(&term(alloc, word)?) {
+        Ok(id) => Ok(
+            id == number(due)?
+                && finds(alloc, pool, word, due)?
+                && has_term(alloc, pool, due, word)?,
+        ),
+        Err(PoolFault::Full) => Ok(due == "full"),
+        Err(PoolFault::Memory) => Err(RowFault::Memory),
+    }
 }
 
 fn cuts(pool: &mut Pool, len: &str, due: &str) -> Result<bool, RowFault> {
@@ -112,20 +103,16 @@ fn cuts(pool: &mut Pool, len: &str, due: &str) -> Result<bool, RowFault> {
     Ok(due == "done")
 }
 
-fn is_said(truth: bool, due: &str) -> bool {
-    due == if truth { "yes" } else { "no" }
-}
-
 fn compares(alloc: Global, pool: &Pool, words: &str, due: &str) -> Result<bool, RowFault> {
     let (a, b) = cut(words, " ")?;
     let order = pool.cmp_ids(id(alloc, pool, a)?, id(alloc, pool, b)?);
-    Ok(order == order_of(due)?)
+    Ok(order_name(order) == due)
 }
 
 fn compares_triples(alloc: Global, pool: &Pool, words: &str, due: &str) -> Result<bool, RowFault> {
     let (a, b) = cut(words, ", ")?;
     let order = pool.cmp_triples(&triple(alloc, pool, a)?, &triple(alloc, pool, b)?);
-    Ok(order == order_of(due)?)
+    Ok(order_name(order) == due)
 }
 
 fn orders(alloc: Global, pool: &Pool, words: &str, due: &str) -> Result<bool, RowFault> {
@@ -150,8 +137,8 @@ fn answers(
     match what {
         "find" => finds(alloc, pool, of, due),
         "term" => has_term(alloc, pool, of, due),
-        "is_iri" => Ok(is_said(pool.is_iri(id(alloc, pool, of)?), due)),
-        "is_iri_or_blank" => Ok(is_said(pool.is_iri_or_blank(id(alloc, pool, of)?), due)),
+        "is_iri" => Ok(said(pool.is_iri(id(alloc, pool, of)?)) == due),
+        "is_iri_or_blank" => Ok(said(pool.is_iri_or_blank(id(alloc, pool, of)?)) == due),
         "compare" => compares(alloc, pool, of, due),
         "compare_triples" => compares_triples(alloc, pool, of, due),
         "order" => orders(alloc, pool, of, due),
@@ -174,18 +161,14 @@ fn goes_on(alloc: Global, pool: &mut Pool, step: &str) -> Result<bool, RowFault>
     }
 }
 
-fn pool_of(alloc: Global, limit: &str) -> Result<Pool, RowFault> {
+// Whether a pool goes through the steps of a block as is due.
+fn goes_as_said(alloc: Global, block: &str) -> Result<bool, RowFault> {
+    let (limit, steps) = cut(block, "\n")?;
     let limit = number(limit)?;
     if limit < VOCABULARY_LEN {
         return Err(RowFault::Unread);
     }
-    Ok(Pool::with_vocabulary(alloc, limit)?)
-}
-
-// Whether a pool goes through the steps of a block as is due.
-fn goes_as_said(alloc: Global, block: &str) -> Result<bool, RowFault> {
-    let (limit, steps) = cut(block, "\n")?;
-    let mut pool = pool_of(alloc, limit)?;
+    let mut pool = Pool::with_vocabulary(alloc, limit)?;
     for step in steps.lines() {
         if !goes_on(alloc, &mut pool, step)? {
             return Ok(false);
@@ -201,19 +184,18 @@ fn pools_answer_step_by_step(rt: HostRuntime) -> Result<(), Fail> {
 
 #[test]
 fn pool_faults_have_a_text(rt: HostRuntime) -> Result<(), Fail> {
-    let full = PoolFault::Full.to_string(rt.alloc())?;
-    assert_eq!(rt; full.as_str(), "the pool is full");
-    let memory = PoolFault::Memory.to_string(rt.alloc())?;
-    assert_eq!(rt; memory.as_str(), "out of memory");
-    Ok(())
+    let told = format!(in rt.alloc(); "{}, {}", PoolFault::Full, PoolFault::Memory)?;
+    holds(Ok(told.as_str() == "the pool is full, out of memory"))
 }
 
 #[test]
-fn triples_have_an_order_by_number(rt: HostRuntime) {
+fn triples_have_an_order_by_number() -> Result<(), Fail> {
     let (s, p, o) = (1, 2, 3);
     let t = Triple { s, p, o };
-    assert!(rt; t < Triple { s: 2, p: 0, o: 0 });
-    assert!(rt; t < Triple { s: 1, p: 3, o: 0 });
-    assert!(rt; t < Triple { s: 1, p: 2, o: 4 });
-    assert_eq!(rt; t.cmp(&Triple { s, p, o }), Ordering::Equal);
+    holds(Ok(
+        t < Triple { s: 2, p: 0, o: 0 }
+            && t < Triple { s: 1, p: 3, o: 0 }
+            && t < Triple { s: 1, p: 2, o: 4 }
+            && t.cmp(&Triple { s, p, o }) == Ordering::Equal,
+    ))
 }

@@ -1,3 +1,4 @@
+use super::{holds, order_name};
 use row_tools::{
     RowFault, all_met, anonymous, cut, in_three, iri_text, label, spelled, term, text,
 };
@@ -52,13 +53,7 @@ fn terms_are_spelled(rt: HostRuntime) -> Result<(), Fail> {
 fn spelling_appends(rt: HostRuntime) -> Result<(), Fail> {
     let mut out = b"- ".to_vec(rt.alloc())?;
     spell(&anonymous(Scope::Data, 0), &mut out)?;
-    assert_eq!(rt; out.as_slice(), b"- _:a-0".as_slice());
-    Ok(())
-}
-
-// The place of a row.
-fn place(row: &str) -> usize {
-    TERMS.lines().take_while(|other| *other != row).count()
+    holds(Ok(out.as_slice() == b"- _:a-0".as_slice()))
 }
 
 // Whether every comparison of two terms says this.
@@ -69,18 +64,22 @@ fn compares_as(a: &Term, b: &Term, order: Ordering) -> bool {
         && (a == b) == order.is_eq()
 }
 
-// Whether a term compares with the terms of all rows as its place and theirs do.
-fn is_in_place(alloc: Global, term: &Term, place: usize) -> Result<bool, RowFault> {
-    for (at, other) in TERMS.lines().enumerate() {
-        if !compares_as(term, &term_of(alloc, other)?, place.cmp(&at)) {
+// Whether the row's term is greater than those before it, equal to itself, and less than those behind it.
+fn is_in_order(alloc: Global, row: &str) -> Result<bool, RowFault> {
+    let term = term_of(alloc, row)?;
+    let mut order = Ordering::Greater;
+    for other in TERMS.lines() {
+        if other == row {
+            order = Ordering::Equal;
+        }
+        if !compares_as(&term, &term_of(alloc, other)?, order) {
             return Ok(false);
+        }
+        if other == row {
+            order = Ordering::Less;
         }
     }
     Ok(true)
-}
-
-fn is_in_order(alloc: Global, row: &str) -> Result<bool, RowFault> {
-    is_in_place(alloc, &term_of(alloc, row)?, place(row))
 }
 
 #[test]
@@ -99,44 +98,36 @@ http://e/a|http://e/a|equal
 b1|b2|less
 b2|b10|greater";
 
-pub(super) fn order_of(word: &str) -> Result<Ordering, RowFault> {
-    match word {
-        "less" => Ok(Ordering::Less),
-        "equal" => Ok(Ordering::Equal),
-        "greater" => Ok(Ordering::Greater),
-        _ => Err(RowFault::Unread),
-    }
+// Whether two texts, of either kind, compare as this says.
+fn is_order_of<T: Ord>(order: &str, a: &T, b: &T) -> bool {
+    order_name(a.cmp(b)) == order && (a == b) == (order == "equal")
 }
 
-fn are_texts(alloc: Global, a: &str, b: &str, order: Ordering) -> Result<bool, RowFault> {
+fn are_texts(alloc: Global, a: &str, b: &str, order: &str) -> Result<bool, RowFault> {
     let first = text(alloc, a)?;
     let copy = first.copy(alloc)?;
     let second = text(alloc, b)?;
-    let kept = copy.as_str() == a && copy == first;
-    Ok(kept && first.cmp(&second) == order && (first == second) == order.is_eq())
+    Ok(copy.as_str() == a && copy == first && is_order_of(order, &first, &second))
 }
 
-fn are_iri_texts(alloc: Global, a: &str, b: &str, order: Ordering) -> Result<bool, RowFault> {
+fn are_iri_texts(alloc: Global, a: &str, b: &str, order: &str) -> Result<bool, RowFault> {
     let first = iri_text(alloc, a)?;
     let copy = first.copy(alloc)?;
     let second = iri_text(alloc, b)?;
-    let kept = copy.as_str() == a && copy == first;
-    Ok(kept && first.cmp(&second) == order && (first == second) == order.is_eq())
+    Ok(copy.as_str() == a && copy == first && is_order_of(order, &first, &second))
 }
 
-fn are_labels(alloc: Global, a: &str, b: &str, order: Ordering) -> Result<bool, RowFault> {
+fn are_labels(alloc: Global, a: &str, b: &str, order: &str) -> Result<bool, RowFault> {
     let first = label(alloc, a)?;
     let copy = first.copy(alloc)?;
     let second = label(alloc, b)?;
-    let kept = copy.as_str() == a && copy == first;
-    Ok(kept && first.cmp(&second) == order && (first == second) == order.is_eq())
+    Ok(copy.as_str() == a && copy == first && is_order_of(order, &first, &second))
 }
 
 // Whether texts, texts of IRIs and labels keep the row's first text, and compare as the row says.
 fn are_kept(alloc: Global, row: &str) -> Result<bool, RowFault> {
     let row = row.replace(alloc, "~", "\n")?;
     let (a, b, order) = in_three(row.as_str(), "|")?;
-    let order = order_of(order)?;
     Ok(
         are_texts(alloc, a, b, order)?
             && are_iri_texts(alloc, a, b, order)?

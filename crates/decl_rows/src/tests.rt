@@ -1,4 +1,5 @@
 mod declarations;
 mod lists;
 mod made;
+mod names;
 mod paths;

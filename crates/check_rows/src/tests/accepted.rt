@@ -44,23 +44,16 @@ fn lines_of(alloc: Global, graph: &ListGraph) -> Result<String, Memory> {
     shortened(alloc, lines)
 }
 
-fn has_lines(alloc: Global, text: &str, due: &str) -> Result<bool, RowFault> {
+// Whether the text in the row's first line is accepted, and declares what the other lines say, if any.
+fn is_as_said(alloc: Global, row: &str) -> Result<bool, RowFault> {
+    let (text, due) = row.split_once('\n').unwrap_or((row, ""));
+    if answer(alloc, &Limits::program(), text)?.as_str() != "accepted" {
+        return Ok(false);
+    }
     match graph_of(alloc, text)? {
         Some(graph) => Ok(lines_of(alloc, &graph)?.as_str().trim_end() == due.trim_end()),
         None => Ok(false),
     }
-}
-
-// Whether the text in the row's first line is accepted, and declares what the other lines say, if any.
-fn is_as_said(alloc: Global, row: &str) -> Result<bool, RowFault> {
-    let (text, due) = match row.split_once('\n') {
-        Some(parts) => parts,
-        None => (row, ""),
-    };
-    if answer(alloc, &Limits::program(), text)?.as_str() != "accepted" {
-        return Ok(false);
-    }
-    has_lines(alloc, text, due)
 }
 
 #[test]

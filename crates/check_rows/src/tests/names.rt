@@ -10,28 +10,24 @@ pub(super) fn add_term(pool: &Pool, id: Id, line: &mut Vec<u8>) -> Result<(), Me
     spell(pool.term(id), line)
 }
 
+// What rows leave out of the spelling of a term, and how they write a quote.
+const SHORTER: [(&str, &str); 7] = [
+    ("<http://e/", ""),
+    ("<http://www.w3.org/ns/shacl#", ""),
+    ("<http://www.w3.org/2001/XMLSchema#", ""),
+    ("<http://www.w3.org/2000/01/rdf-schema#", ""),
+    ("<http://www.w3.org/1999/02/22-rdf-syntax-ns#", ""),
+    (">", ""),
+    ("\"", "'"),
+];
+
 /// A text of spelled terms, with the names that rows have for them.
 pub(super) fn shortened(alloc: Global, text: Vec<u8>) -> Result<String, Memory> {
-    match String::from_utf8(text) {
-        Ok(text) => short_names(alloc, text.as_str()),
-        Err(_) => String::from_str(alloc, "no text"),
+    let Ok(mut text) = String::from_utf8(text) else {
+        return String::from_str(alloc, "no text");
+    };
+    for (long, short) in &SHORTER {
+        text = text.as_str().replace(alloc, long, short)?;
     }
-}
-
-fn short_names(alloc: Global, text: &str) -> Result<String, Memory> {
-    let text = text.replace(alloc, "<http://e/", "")?;
-    let text = text
-        .as_str()
-        .replace(alloc, "<http://www.w3.org/ns/shacl#", "")?;
-    let text = text
-        .as_str()
-        .replace(alloc, "<http://www.w3.org/2001/XMLSchema#", "")?;
-    let text = text
-        .as_str()
-        .replace(alloc, "<http://www.w3.org/2000/01/rdf-schema#", "")?;
-    let text = text
-        .as_str()
-        .replace(alloc, "<http://www.w3.org/1999/02/22-rdf-syntax-ns#", "")?;
-    let text = text.as_str().replace(alloc, ">", "")?;
-    text.as_str().replace(alloc, "\"", "'")
+    Ok(text)
 }

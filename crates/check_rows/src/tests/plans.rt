@@ -139,10 +139,7 @@ fn compiled(alloc: Global, graph: &ListGraph) -> Result<String, RowFault> {
 
 // Whether the text in the row's first line comes to what the other lines say.
 fn comes_to(alloc: Global, row: &str) -> Result<bool, RowFault> {
-    let (text, due) = match row.split_once('\n') {
-        Some(parts) => parts,
-        None => (row, ""),
-    };
+    let (text, due) = row.split_once('\n').unwrap_or((row, ""));
     match graph_of(alloc, text)? {
         Some(graph) => Ok(compiled(alloc, &graph)?.as_str().trim_end() == due.trim_end()),
         None => Ok(false),

@@ -25,8 +25,8 @@ fn answers(alloc: Global, limits: &Limits, row: &str) -> Result<bool, RowFault> 
     Ok(answer(alloc, limits, text)?.as_str() == due)
 }
 
-// Whether the row's text has the row's answer, within the row's limit, if any.
-fn is_answered(alloc: Global, row: &str) -> Result<bool, RowFault> {
+/// Whether the row's text has the row's answer, within the row's limit, if any.
+pub(super) fn is_answered(alloc: Global, row: &str) -> Result<bool, RowFault> {
     match row.split_once(" | ") {
         Some((limit, row)) => answers(alloc, &limits_of(limit)?, row),
         None => answers(alloc, &Limits::program(), row),

@@ -1,36 +1,16 @@
+//! Graphs, made of texts.
+
+use super::names::local_name;
 use graph_view::{GraphEdit, GraphView, ListGraph, StoreFault};
-use row_tools::{RowFault, iri, labelled, literal};
-use shx_term::vocabulary::*;
+use row_tools::{RowFault, cut, in_three, iri, labelled, literal};
+use shx_term::vocabulary::vocabulary_rows;
 use shx_term::{Id, Pool, Scope, Term, Triple, XSD_STRING};
 use std::alloc::Global;
 
-/// What of a row stands before its first mark and behind it, without blanks around.
-pub(super) fn cut<'a>(row: &'a str, mark: &str) -> Result<(&'a str, &'a str), RowFault> {
-    let (front, rest) = row_tools::cut(row, mark)?;
-    Ok((front.trim(), rest.trim()))
-}
-
-// The terms of the vocabulary go by their local names, and those of paths by shorter ones.
-fn vocabulary_number(name: &str) -> Option<Id> {
-    match name {
-        "nil" => Some(RDF_NIL),
-        "first" => Some(RDF_FIRST),
-        "rest" => Some(RDF_REST),
-        "inverse" => Some(SH_INVERSE_PATH),
-        "alternative" => Some(SH_ALTERNATIVE_PATH),
-        "zeroOrMore" => Some(SH_ZERO_OR_MORE_PATH),
-        "oneOrMore" => Some(SH_ONE_OR_MORE_PATH),
-        "zeroOrOne" => Some(SH_ZERO_OR_ONE_PATH),
-        _ => local_number(name),
-    }
-}
-
-// The number of a term of the vocabulary by the part of its IRI behind the `#`.
+// The number of a term of the vocabulary by its local name.
 fn local_number(name: &str) -> Option<Id> {
     for (id, iri) in vocabulary_rows() {
-        if let Some((_, local)) = iri.rsplit_once('#')
-            && local == name
-        {
+        if local_name(iri) == name {
             return Some(*id);
         }
     }
@@ -53,7 +33,7 @@ fn term(alloc: Global, name: &str) -> Result<Term, RowFault> {
 /// The number of a term by its name: `_a` is a blank node, `'a` a literal, `nil` and other local names
 /// are of the vocabulary, and any other letter is an IRI.
 pub(super) fn number(alloc: Global, graph: &mut ListGraph, name: &str) -> Result<Id, RowFault> {
-    match vocabulary_number(name) {
+    match local_number(name) {
         Some(id) => Ok(id),
         None => Ok(graph.enter(&term(alloc, name)?)?),
     }
@@ -80,8 +60,7 @@ fn state(alloc: Global, graph: &mut ListGraph, s: &str, p: &str, o: &str) -> Res
 
 // A statement of a subject, a predicate and an object; `_a cell x _b` states both rdf:first and rdf:rest.
 fn state_all(alloc: Global, graph: &mut ListGraph, statement: &str) -> Result<(), RowFault> {
-    let (subject, rest) = cut(statement, " ")?;
-    let (predicate, object) = cut(rest, " ")?;
+    let (subject, predicate, object) = in_three(statement, " ")?;
     if predicate != "cell" {
         return state(alloc, graph, subject, predicate, object);
     }
@@ -90,13 +69,13 @@ fn state_all(alloc: Global, graph: &mut ListGraph, statement: &str) -> Result<()
     state(alloc, graph, subject, "rest", rest)
 }
 
-/// The graph of a text of statements, if any, with commas between them.
+/// The graph of a text of statements with commas between them; `-` stands for none.
 pub(super) fn graph(alloc: Global, text: &str) -> Result<ListGraph, RowFault> {
     let pool = Pool::with_vocabulary(alloc, 100)?;
     let mut graph = ListGraph::new(alloc, pool, 100);
-    for statement in text.split(',') {
-        if !statement.is_empty() {
-            state_all(alloc, &mut graph, statement.trim())?;
+    if text != "-" {
+        for statement in text.split(", ") {
+            state_all(alloc, &mut graph, statement)?;
         }
     }
     Ok(graph)

@@ -1,29 +1,20 @@
 mod rows;
 
-use super::made::{cut, graph, number};
+use super::made::{graph, number};
+use super::names::add_name;
 use graph_view::GraphView;
 use path_eval::Path;
-use row_tools::{RowFault, all_met};
+use row_tools::{RowFault, all_met, cut, in_three};
 use shape_decl::{PathReading, read_path};
-use shx_term::{Id, Limits, Memory, Pool, Term};
+use shx_term::{Limits, Memory, Pool};
 use std::alloc::Global;
 use std::test::Fail;
-
-fn name(pool: &Pool, id: Id) -> &str {
-    if id >= pool.len() {
-        return "";
-    }
-    match pool.term(id) {
-        Term::Iri(iri) => iri.as_str(),
-        _ => "",
-    }
-}
 
 // A path as a text: `(p/q)`, `(p|q)`, and `^p`, `*p`, `+p`, `?p` with the mark in front.
 #[cycle(spell)]
 fn spell(pool: &Pool, path: &Path, out: &mut String) -> Result<(), Memory> {
     match path {
-        Path::Pred(p) => Ok(out.push_str(name(pool, *p))?),
+        Path::Pred(p) => add_name(pool, *p, out),
         Path::Seq(parts) => Ok(spell_all(pool, parts, "/", out)?),
         Path::Alt(members) => Ok(spell_all(pool, members, "|", out)?),
         Path::Inverse(inner) => Ok(spell_marked(pool, "^", inner, out)?),
@@ -54,37 +45,31 @@ fn spell_all(pool: &Pool, parts: &[Path], mark: &str, out: &mut String) -> Resul
     Ok(())
 }
 
-pub(super) fn spelled(alloc: Global, pool: &Pool, reading: &PathReading) -> Result<String, Memory> {
-    let mut out = String::new(alloc);
+/// Adds the path that was read, or why there is none.
+pub(super) fn add_reading(
+    pool: &Pool,
+    reading: &PathReading,
+    out: &mut String,
+) -> Result<(), Memory> {
     match reading {
-        PathReading::Path(path) => spell(pool, path, &mut out)?,
-        PathReading::Broken => out.push_str("Broken")?,
-        PathReading::TooDeep => out.push_str("TooDeep")?,
+        PathReading::Path(path) => spell(pool, path, out),
+        PathReading::Broken => Ok(out.push_str("Broken")?),
+        PathReading::TooDeep => Ok(out.push_str("TooDeep")?),
     }
-    Ok(out)
 }
 
-fn is_read(
-    alloc: Global,
-    limits: &Limits,
-    text: &str,
-    head: &str,
-    due: &str,
-) -> Result<bool, RowFault> {
+// Whether the node is read as the row says, `GRAPH = NODE = PATH`, within limits.
+fn is_as_due(alloc: Global, limits: &Limits, row: &str) -> Result<bool, RowFault> {
+    let (text, head, due) = in_three(row, " = ")?;
     if limits.path_depth > 64 {
         return Err(RowFault::Unread);
     }
     let mut graph = graph(alloc, text)?;
     let head = number(alloc, &mut graph, head)?;
     let reading = read_path(alloc, &graph, head, limits)?;
-    Ok(spelled(alloc, graph.pool(), &reading)?.as_str() == due)
-}
-
-// Whether the node is read as the row says, `GRAPH = NODE = PATH`, within limits.
-fn is_as_due(alloc: Global, limits: &Limits, row: &str) -> Result<bool, RowFault> {
-    let (text, rest) = cut(row, "=")?;
-    let (head, due) = cut(rest, "=")?;
-    is_read(alloc, limits, text, head, due)
+    let mut found = String::new(alloc);
+    add_reading(graph.pool(), &reading, &mut found)?;
+    Ok(found.as_str() == due)
 }
 
 fn is_as_said(alloc: Global, row: &str) -> Result<bool, RowFault> {
@@ -93,7 +78,7 @@ fn is_as_said(alloc: Global, row: &str) -> Result<bool, RowFault> {
 
 // The same within the limits of the row on depth and parts: `DEPTH PARTS = GRAPH = NODE = PATH`.
 fn is_as_limited(alloc: Global, row: &str) -> Result<bool, RowFault> {
-    let (numbers, rest) = cut(row, "=")?;
+    let (numbers, rest) = cut(row, " = ")?;
     let (depth, parts) = cut(numbers, " ")?;
     let mut limits = Limits::program();
     limits.path_depth = row_tools::number(depth)?;

@@ -86,3 +86,31 @@ depth 0 | e:A sh:class e:C ; sh:path e:p . e:B sh:in 1 . → 29 A path p
 depth 1 | e:A sh:class e:C ; sh:path [] . e:B sh:class e:C ; sh:path ( e:p e:q ) . → 24 A path _:t-1
 depth 1 | e:A sh:class e:C ; sh:path ( e:p e:q ) . e:B sh:class e:C ; sh:path [] . → 29 A path _:t-1
 ";
+
+/// How many inversions stand within one another in the path `…` of a text, and what is answered.
+pub const LEVELS: &str = "\
+63 of e:S sh:targetNode e:a ; sh:path … . → accepted
+64 of e:S sh:targetNode e:a ; sh:path … . → 29 S path _:t-1
+";
+
+/// The same, beside a part that is no path: the first node at fault decides.
+pub const BESIDE: &str = "\
+64 of e:S sh:targetNode e:a ; sh:path ( [ sh:inversePath 'x' ] … ) . → 24 S path _:t-1
+64 of e:S sh:targetNode e:a ; sh:path ( … [ sh:inversePath 'x' ] ) . → 29 S path _:t-1
+";
+
+/// Each of `_:a` to `_:k` has the next of them twice, so `_:a` has 4,095 parts.
+pub const DOUBLED: &str = "\
+_:a sh:alternativePath ( _:b _:b ) . _:b sh:alternativePath ( _:c _:c ) .
+_:c sh:alternativePath ( _:d _:d ) . _:d sh:alternativePath ( _:e _:e ) .
+_:e sh:alternativePath ( _:f _:f ) . _:f sh:alternativePath ( _:g _:g ) .
+_:g sh:alternativePath ( _:h _:h ) . _:h sh:alternativePath ( _:i _:i ) .
+_:i sh:alternativePath ( _:j _:j ) . _:j sh:alternativePath ( _:k _:k ) .
+_:k sh:alternativePath ( e:p e:q ) .
+";
+
+/// Texts with the statements of `DOUBLED` in place of `…`.
+pub const UNFOLDED: &str = "\
+e:S sh:targetNode e:a ; sh:path [ sh:inversePath _:a ] . … → accepted
+e:S sh:targetNode e:a ; sh:path [ sh:inversePath [ sh:inversePath _:a ] ] . … → 29 S path _:t-1
+";

@@ -80,36 +80,36 @@ NodeShape targetNode a
 NodeShape | targetNode a
 
 a and _l, _l cell b _m, _m cell c nil
-a | and _l | list _l (b c)
+a | and _l | list _l ( b c )
 b
 c
 
 a or _l, b xone _l, _l cell _c nil
-a | or _l | list _l (_c)
-b | xone _l | list _l (_c)
+a | or _l | list _l ( _c )
+b | xone _l | list _l ( _c )
 _c
 
 a and _l, _l cell _m nil, _m cell b nil
-a | and _l | list _l (_m)
+a | and _l | list _l ( _m )
 _m | first b | rest nil
 
 a or _l, a or _k, _l cell c nil, _k cell b nil
-a | or _k _l | list _k (b) | list _l (c)
+a | or _k _l | list _k ( b ) | list _l ( c )
 b
 c
 
 a in _l, _l cell b _m, _m cell c nil
-a | in _l | list _l (b c)
+a | in _l | list _l ( b c )
 
 a ignoredProperties _m, a languageIn _l, _l cell 'en nil, _m cell p nil
-a | languageIn _l | ignoredProperties _m | list _l ('en) | list _m (p)
+a | languageIn _l | ignoredProperties _m | list _l ( 'en ) | list _m ( p )
 
 a in _l, a xone _l, _l cell b nil
-a | xone _l | in _l | list _l (b) | list _l (b)
+a | xone _l | in _l | list _l ( b ) | list _l ( b )
 b
 
 a and nil
-a | and nil | list nil ()
+a | and nil | list nil ( )
 
 a or _l, _l cell b nil, _l rest _m, _m cell c nil
 a | or _l | list _l none
@@ -128,16 +128,16 @@ a | not c | node 'b | property '1
 c
 
 a and _l, _l cell 'b _m, _m cell c nil
-a | and _l | list _l ('b c)
+a | and _l | list _l ( 'b c )
 c
 
 a type PropertyShape, a path q, a path p
 a | type PropertyShape | path p q | reads p
 
-a minCount '1, a path _b, a path q, _b inverse r
+a minCount '1, a path _b, a path q, _b inversePath r
 a | path q _b | minCount '1 | reads q
 
-a minCount '1, a path _b, _b inverse r
+a minCount '1, a path _b, _b inversePath r
 a | path _b | minCount '1 | reads ^r
 
 a minCount '1, a path 'p

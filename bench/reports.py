@@ -7,8 +7,8 @@ seconds, peak memory and the length of the report. Run it at the top of the repo
     bench/reports.py --test
                         tries what reads a report, on reports that stand here
 
-A run whose report tells or has another number of results is named beside its row. Where no format is given the
-program is run without one, and writes lines.
+A run whose report tells or has another number of results is named beside its row. Where no format is given,
+the program is run without one, and writes lines.
 """
 import os
 import subprocess

@@ -3,7 +3,8 @@ use std::alloc::{AllocError, Global};
 use std::test::Fail;
 
 /// Fails with the first row of a table that is not met. A row is a line; empty ones are left out, and so are
-/// headings, which begin with `== `. A row that cannot be tried is not met, and neither is a table of no rows.
+/// headings, which begin with `== `. A row that cannot be tried is not met, and neither is a table without
+/// rows.
 pub fn all_met<F: Fn(Global, &str) -> Result<bool, RowFault>>(
     alloc: Global,
     table: &str,

@@ -58,7 +58,8 @@ pub record HasNoPattern (limits : Limits) (readings : Readings) (words : List (L
   pub bytes : List ℕ
   pub told : words_shapes before.inputs.text (command_words words) ≡ Some bytes
   pub none : (document : Graph) (end : State) → readings.shapes ≡ States document end
-      → (d : Declaration) (value : ℕ) → StatesPattern (declarations limits (stated_graph document)) d value → ⊥
+      → (d : Declaration) (value : ℕ)
+      → StatesPattern (declarations limits (stated_graph document)) d value → ⊥
 
 -- ---- room for the output
 

@@ -18,7 +18,7 @@ IsIri g node = is_iri (slice_get g.terms node) ≡ true
 abbrev pub IsBlank : Graph → ℕ → Type 0
 IsBlank g node = (name : BlankName) × (slice_get g.terms node ≡ Some (Blank name))
 
--- a blank node that is the subject of exactly one triple, which has this predicate and this object
+-- of this blank node one triple is stated, and no other: with this predicate, and this object
 abbrev pub StatesOnly : Graph → ℕ → ℕ → ℕ → Type 0
 StatesOnly g node p o = IsBlank g node × (triples_of g node ≡ record { s = node; p = p; o = o } ∷ [])
 

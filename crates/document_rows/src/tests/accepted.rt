@@ -13,11 +13,8 @@ use std::test::Fail;
 
 // Whether the row's text states what the row's other lines say, if any.
 fn states_as_said(alloc: Global, row: &str) -> Result<bool, RowFault> {
-    let (text, due) = match row.split_once('\n') {
-        Some(parts) => parts,
-        None => (row, ""),
-    };
-    Ok(has_outcome(alloc, &Limits::program(), text, due)?)
+    let (text, due) = row.split_once('\n').unwrap_or((row, ""));
+    has_outcome(alloc, &Limits::program(), text, due)
 }
 
 #[test]

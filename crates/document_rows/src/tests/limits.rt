@@ -1,7 +1,7 @@
 mod rows;
 
 use super::seen::{has_outcome, outcome};
-use row_tools::{RowFault, all_blocks_met, cut, number};
+use row_tools::{RowFault, all_blocks_met, all_met, cut, number};
 use shx_term::{Limits, Memory};
 use std::alloc::Global;
 use std::test::Fail;
@@ -31,7 +31,7 @@ fn limits_of(names: &str) -> Result<Limits, RowFault> {
 fn ends_as_said(alloc: Global, row: &str) -> Result<bool, RowFault> {
     let (names, rest) = cut(row, "|")?;
     let (text, due) = cut(rest, "→")?;
-    Ok(has_outcome(alloc, &limits_of(names)?, text, due)?)
+    has_outcome(alloc, &limits_of(names)?, text, due)
 }
 
 #[test]
@@ -49,20 +49,35 @@ fn terms(rt: HostRuntime) -> Result<(), Fail> {
     all_blocks_met(rt.alloc(), rows::TERMS, ends_as_said)
 }
 
-// The outcome of a statement about a collection that is so many brackets deep.
-fn nested(alloc: Global, open: &str, close: &str, depth: usize) -> Result<String, Memory> {
-    let open = open.repeat(alloc, depth)?;
-    let close = close.repeat(alloc, depth)?;
-    let text = format!(in alloc; "{} {} a 1 .", open.as_str(), close.as_str())?;
-    outcome(alloc, "a:b", &Limits::program(), text.as_bytes())
+// How many brackets stand in each other, and the outcome, or its last line behind `…`. The innermost
+// collection is empty and has no cell.
+const NESTED: &str = "\
+128 → …anonymous 127
+129 → 7 at 128";
+
+// The text of a statement about a collection that is so many brackets deep.
+fn nested(alloc: Global, depth: usize) -> Result<String, Memory> {
+    let open = "(".repeat(alloc, depth)?;
+    let close = ")".repeat(alloc, depth)?;
+    format!(in alloc; "{} {} a 1 .", open.as_str(), close.as_str())
 }
 
-// The innermost collection is empty and has no cell.
+fn is_outcome(found: &str, due: &str) -> bool {
+    match (due.strip_prefix('…'), found.trim_end().rsplit_once('\n')) {
+        (Some(due), Some((_, last))) => last == due,
+        (Some(_), None) => false,
+        (None, _) => found == due,
+    }
+}
+
+fn is_nested_as_said(alloc: Global, row: &str) -> Result<bool, RowFault> {
+    let (depth, due) = cut(row, " → ")?;
+    let text = nested(alloc, number(depth)? as usize)?;
+    let found = outcome(alloc, "a:b", &Limits::program(), text.as_bytes())?;
+    Ok(is_outcome(found.as_str(), due))
+}
+
 #[test]
 fn the_program_reads_128_brackets(rt: HostRuntime) -> Result<(), Fail> {
-    let whole = nested(rt.alloc(), "(", ")", 128)?;
-    assert!(rt; whole.as_str().ends_with("\nanonymous 127\n"));
-    let deeper = nested(rt.alloc(), "(", ")", 129)?;
-    assert_eq!(rt; deeper.as_str(), "7 at 128");
-    Ok(())
+    all_met(rt.alloc(), NESTED, is_nested_as_said)
 }

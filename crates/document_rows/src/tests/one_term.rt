@@ -5,23 +5,23 @@ mod others;
 
 use super::seen::text_of;
 use iri_resolve::is_absolute;
-use row_tools::{RowFault, all_met, cut};
+use row_tools::{RowFault, all_met, cut, iri_text, spelled};
 use shx_term::vocabulary::VOCABULARY_LEN;
-use shx_term::{IriText, Limits, Memory, Pool, Scope, spell};
-use std::alloc::{AllocError, Global};
+use shx_term::{Limits, Pool, Scope};
+use std::alloc::Global;
 use std::test::Fail;
 use ttl_read::{Document, Reading, TtlFault, read_document, read_term};
 use ttl_tokens::next_token;
 
 // What is found at the first token of a text behind what another states over the base of the examples in
 // RFC 3986: a term and the byte behind it, or a code and a byte.
-fn outcome(alloc: Global, stated: &str, text: &str) -> Result<String, Memory> {
+fn outcome(alloc: Global, stated: &str, text: &str) -> Result<String, RowFault> {
     let base = "http://a/b/c/d;p?q";
     let limits = Limits::program();
     if !is_absolute(base) || limits.terms < VOCABULARY_LEN {
-        return String::from_str(alloc, "no base, or no room");
+        return Err(RowFault::Unread);
     }
-    let base = IriText::new(String::from_str(alloc, base)?);
+    let base = iri_text(alloc, base)?;
     let mut pool = Pool::with_vocabulary(alloc, limits.terms)?;
     match read_document(
         alloc,
@@ -32,41 +32,33 @@ fn outcome(alloc: Global, stated: &str, text: &str) -> Result<String, Memory> {
         &mut pool,
     ) {
         Ok(document) => found(alloc, &document, text),
-        Err(TtlFault::At { .. }) => String::from_str(alloc, "no document"),
-        Err(TtlFault::Memory) => Err(AllocError),
+        Err(TtlFault::At { .. }) => Err(RowFault::Unread),
+        Err(TtlFault::Memory) => Err(RowFault::Memory),
     }
 }
 
-fn found(alloc: Global, document: &Document, text: &str) -> Result<String, Memory> {
+fn found(alloc: Global, document: &Document, text: &str) -> Result<String, RowFault> {
     let Ok(token) = next_token(text, 0) else {
-        return String::from_str(alloc, "no token");
+        return Err(RowFault::Unread);
     };
     match read_term(alloc, text, &token, document) {
         Ok(reading) => shown(alloc, &reading),
-        Err(TtlFault::At { code, at }) => format!(in alloc; "{code} at {at}"),
-        Err(TtlFault::Memory) => Err(AllocError),
+        Err(TtlFault::At { code, at }) => Ok(format!(in alloc; "{code} at {at}")?),
+        Err(TtlFault::Memory) => Err(RowFault::Memory),
     }
 }
 
-fn shown(alloc: Global, reading: &Reading) -> Result<String, Memory> {
-    let mut out = Vec::new(alloc);
-    spell(&reading.term, &mut out)?;
-    let end = format!(in alloc; " to {}", reading.end)?;
-    out.extend_from_slice(end.as_bytes())?;
-    match String::from_utf8(out) {
-        Ok(text) => Ok(text),
-        Err(_) => String::from_str(alloc, "no text"),
-    }
+fn shown(alloc: Global, reading: &Reading) -> Result<String, RowFault> {
+    let term = spelled(alloc, &reading.term)?;
+    Ok(format!(in alloc; "{} to {}", term.as_str(), reading.end)?)
 }
 
 // Whether what is found is as the row says: what a text states, the text with the token, and the outcome.
 fn is_found_as_said(alloc: Global, row: &str) -> Result<bool, RowFault> {
-    let (texts, due) = cut(row, "→")?;
+    let row = text_of(alloc, row)?;
+    let (texts, due) = cut(row.as_str(), "→")?;
     let (stated, text) = cut(texts, "¦")?;
-    let stated = text_of(alloc, stated)?;
-    let text = text_of(alloc, text)?;
-    let due = text_of(alloc, due)?;
-    Ok(outcome(alloc, stated.as_str(), text.as_str())?.as_str() == due.as_str())
+    Ok(outcome(alloc, stated, text)?.as_str() == due)
 }
 
 #[test]

@@ -1,78 +1,61 @@
 use super::seen::{outcome_in, terms_from, text_of};
-use iri_resolve::is_absolute;
-use row_tools::{RowFault, all_met, cut};
+use row_tools::{RowFault, all_blocks_met, all_met, cut, number};
 use shx_term::vocabulary::VOCABULARY_LEN;
-use shx_term::{IriText, Limits, Memory, Pool, Scope};
+use shx_term::{Limits, Pool, Scope};
 use std::alloc::Global;
 use std::test::Fail;
 
-const SHAPES: &str = "<a:s> a _:b , [] .";
+const SHAPES: &[u8] = b"<a:s> a _:b , [] .";
 
-const DATA: &str = "_:b a <a:s> , [] , 1 .";
+const DATA: &[u8] = b"_:b a <a:s> , [] , 1 .";
 
-// The outcomes of both texts, read one after the other into a pool of at most so many terms.
-fn both(alloc: Global, terms: u32) -> Result<String, Memory> {
-    let limits = Limits::program();
-    let first = "a:b";
-    if !is_absolute(first) || terms < 62 {
-        return String::from_str(alloc, "no base, or no room");
-    }
-    let base = IriText::new(String::from_str(alloc, first)?);
-    let mut pool = Pool::with_vocabulary(alloc, terms)?;
-    let shapes = outcome_in(
-        alloc,
-        SHAPES.as_bytes(),
-        &base,
-        Scope::Shapes,
-        &limits,
-        &mut pool,
-    )?;
-    let data = outcome_in(
-        alloc,
-        DATA.as_bytes(),
-        &base,
-        Scope::Data,
-        &limits,
-        &mut pool,
-    )?;
-    format!(in alloc; "{}{}", shapes.as_str(), data.as_str())
-}
-
-const SHAPES_STATED: &str = "\
+// How many terms a pool may hold, and the outcomes of both texts, read one after the other into it. The texts
+// share an IRI and no blank node: three terms more are held behind each.
+const SHARED: &str = r##"68
 <a:s> <rdf:type> _:s-b
 <a:s> <rdf:type> _:t-1
 label b
 anonymous 1
-";
-
-const DATA_STATED: &str = "\
 _:d-b <rdf:type> <a:s>
 _:d-b <rdf:type> _:a-1
-_:d-b <rdf:type> \"1\"^^<xsd:integer>
+_:d-b <rdf:type> "1"^^<xsd:integer>
 label b
 anonymous 1
-";
+"##;
 
-fn stated(alloc: Global, data: &str) -> Result<String, Memory> {
-    let rows = format!(in alloc; "{SHAPES_STATED}{data}")?;
-    text_of(alloc, rows.as_str())
+// The same where the pool has no room for the second text.
+const COUNTED: &str = "67
+<a:s> <rdf:type> _:s-b
+<a:s> <rdf:type> _:t-1
+label b
+anonymous 1
+9 at 0";
+
+fn both(alloc: Global, terms: u32) -> Result<String, RowFault> {
+    if terms < VOCABULARY_LEN {
+        return Err(RowFault::Unread);
+    }
+    let limits = Limits::program();
+    let mut pool = Pool::with_vocabulary(alloc, terms)?;
+    let shapes = outcome_in(alloc, SHAPES, "a:b", Scope::Shapes, &limits, &mut pool)?;
+    let data = outcome_in(alloc, DATA, "a:b", Scope::Data, &limits, &mut pool)?;
+    Ok(format!(in alloc; "{}{}", shapes.as_str(), data.as_str())?)
 }
 
-// The texts share an IRI and no blank node: three terms more are held behind each.
+fn is_shared_as_said(alloc: Global, block: &str) -> Result<bool, RowFault> {
+    let (terms, due) = cut(block, "\n")?;
+    let due = text_of(alloc, due)?;
+    Ok(both(alloc, number(terms)?)?.as_str() == due.as_str())
+}
+
 #[test]
 fn two_texts_share_a_pool(rt: HostRuntime) -> Result<(), Fail> {
-    let wanted = stated(rt.alloc(), DATA_STATED)?;
-    let found = both(rt.alloc(), 68)?;
-    assert_eq!(rt; found.as_str(), wanted.as_str());
-    Ok(())
+    all_blocks_met(rt.alloc(), SHARED, is_shared_as_said)
 }
 
 #[test]
 fn a_pool_counts_what_it_held(rt: HostRuntime) -> Result<(), Fail> {
-    let wanted = stated(rt.alloc(), "9 at 0")?;
-    let found = both(rt.alloc(), 67)?;
-    assert_eq!(rt; found.as_str(), wanted.as_str());
-    Ok(())
+    all_blocks_met(rt.alloc(), COUNTED, is_shared_as_said)
 }
 
 // Texts that are refused, each with its fault and the terms that are left of it in a pool with room for four.
@@ -84,31 +67,27 @@ const REFUSED: &str = r##"$→2 at 0
 <a:s> a 1 . <a:t> a 1 . <a:s> a 2 , 3 .→9 at 24 <a:s> "1"^^<xsd:integer> <a:t>
 "##;
 
-fn left(alloc: Global, text: &str) -> Result<String, Memory> {
-    let base = "a:b";
-    if !is_absolute(base) {
-        return String::from_str(alloc, "no base");
-    }
-    let base = IriText::new(String::from_str(alloc, base)?);
+// The outcome of a text, and the terms that are left of it.
+fn left(alloc: Global, text: &str) -> Result<String, RowFault> {
+    let limits = Limits::program();
     let mut pool = Pool::with_vocabulary(alloc, VOCABULARY_LEN + 4)?;
     let outcome = outcome_in(
         alloc,
         text.as_bytes(),
-        &base,
+        "a:b",
         Scope::Data,
-        &Limits::program(),
+        &limits,
         &mut pool,
     )?;
     let terms = terms_from(alloc, &pool, VOCABULARY_LEN)?;
-    format!(in alloc; "{}{}", outcome.as_str(), terms.as_str())
+    Ok(format!(in alloc; "{} {}", outcome.as_str(), terms.as_str())?)
 }
 
 // Whether the row's text is refused as said, and those terms are left.
 fn leaves_as_said(alloc: Global, row: &str) -> Result<bool, RowFault> {
     let (text, due) = cut(row, "→")?;
     let due = text_of(alloc, due)?;
-    let found = left(alloc, text)?;
-    Ok(found.as_str() == due.as_str())
+    Ok(left(alloc, text)?.as_str().trim_end() == due.as_str())
 }
 
 #[test]

@@ -12,7 +12,7 @@ use std::test::Fail;
 // Whether the row's text has the row's fault.
 fn is_refused_as_said(alloc: Global, row: &str) -> Result<bool, RowFault> {
     let (text, fault) = cut(row, "→")?;
-    Ok(has_outcome(alloc, &Limits::program(), text, fault)?)
+    has_outcome(alloc, &Limits::program(), text, fault)
 }
 
 #[test]

@@ -1,11 +1,11 @@
 mod rows;
 
 use super::letters::{graph_of, key_of, store_of};
-use super::questions::{answers, is_same};
+use super::questions::{all_of, answers, is_same};
 use super::steps::{exchanged, is_countable, is_patch};
 use due_view::DueView;
 use graph_view::{GraphEdit, GraphView, ListGraph, Patched, Reads};
-use row_tools::{RowFault, all_met, in_four, in_three, number};
+use row_tools::{RowFault, all_met, cut, in_four, in_three, number};
 use std::alloc::Global;
 use std::test::Fail;
 
@@ -14,7 +14,8 @@ fn patched_answers<V: GraphView>(
     alloc: Global,
     base: &V,
     (added, removed): (&ListGraph, &ListGraph),
-    (question, due): (&str, &str),
+    question: &str,
+    due: &str,
 ) -> Result<bool, RowFault> {
     if !is_patch(base, added, removed) || !is_countable(base, added, removed) {
         return Err(RowFault::Unread);
@@ -32,121 +33,74 @@ fn keys_of(alloc: Global, question: &str) -> Result<Reads, RowFault> {
     Ok(keys)
 }
 
-// The same, where the base may be asked the question's key alone, if any.
-fn guarded_answers<V: GraphView>(
-    alloc: Global,
-    base: &V,
-    change: (&ListGraph, &ListGraph),
-    (question, due): (&str, &str),
-) -> Result<bool, RowFault> {
-    let keys = keys_of(alloc, question)?;
-    patched_answers(alloc, &DueView::new(base, &keys), change, (question, due))
-}
-
-// The same, by the words of the removed triples.
-fn answers_without<V: GraphView>(
-    alloc: Global,
-    base: &V,
-    added: &ListGraph,
-    removed: &str,
-    question: (&str, &str),
-) -> Result<bool, RowFault> {
-    let removed = graph_of(alloc, 75, 100, removed)?;
-    guarded_answers(alloc, base, (added, &removed), question)
-}
-
-// The same, by the row's change and question.
+// The same by the row's change and question, where the base may be asked the question's key alone, if any.
 fn answers_as_said<V: GraphView>(alloc: Global, base: &V, row: &str) -> Result<bool, RowFault> {
     let (added, removed, question, due) = in_four(row, "|")?;
+    let keys = keys_of(alloc, question)?;
     let added = graph_of(alloc, 75, 100, added)?;
-    answers_without(alloc, base, &added, removed, (question, due))
+    let removed = graph_of(alloc, 75, 100, removed)?;
+    let view = DueView::new(base, &keys);
+    patched_answers(alloc, &view, (&added, &removed), question, due)
 }
 
-fn is_answered_in_a_list(alloc: Global, base: &str, row: &str) -> Result<bool, RowFault> {
-    let base = graph_of(alloc, 75, 100, base)?;
-    answers_as_said(alloc, &base, row)
-}
-
-fn is_answered_in_a_store(alloc: Global, base: &str, row: &str) -> Result<bool, RowFault> {
-    let base = store_of(alloc, 75, 100, base)?;
-    answers_as_said(alloc, &base, row)
-}
-
-// Whether a base of either kind, with the row's change, answers the row's question as is due.
-fn is_answered(alloc: Global, base: &str, row: &str) -> Result<bool, RowFault> {
-    Ok(is_answered_in_a_list(alloc, base, row)? && is_answered_in_a_store(alloc, base, row)?)
-}
-
-fn is_answered_over_the_base(alloc: Global, row: &str) -> Result<bool, RowFault> {
-    is_answered(alloc, rows::BASE, row)
-}
-
-fn is_answered_over_the_wide_base(alloc: Global, row: &str) -> Result<bool, RowFault> {
-    is_answered(alloc, rows::WIDE_BASE, row)
+// Whether the row's base of either kind, with the row's change, answers the row's question as is due.
+fn is_answered(alloc: Global, row: &str) -> Result<bool, RowFault> {
+    let (base, row) = cut(row, ": ")?;
+    let list = graph_of(alloc, 75, 100, base)?;
+    let store = store_of(alloc, 100, base)?;
+    Ok(answers_as_said(alloc, &list, row)? && answers_as_said(alloc, &store, row)?)
 }
 
 #[test]
 fn patched_graphs_answer_by_their_definition(rt: HostRuntime) -> Result<(), Fail> {
-    all_met(rt.alloc(), rows::PATCHED, is_answered_over_the_base)
+    all_met(rt.alloc(), rows::PATCHED, is_answered)
 }
 
 #[test]
 fn changes_stand_first_last_and_between(rt: HostRuntime) -> Result<(), Fail> {
-    all_met(rt.alloc(), rows::PLACES, is_answered_over_the_wide_base)
+    all_met(rt.alloc(), rows::PLACES, is_answered)
 }
 
-// Whether a graph with a change that is not made is the same as another.
-fn is_patched_as<V: GraphView, W: GraphView>(
-    alloc: Global,
-    base: &V,
-    (added, removed): (&ListGraph, &ListGraph),
-    other: &W,
-) -> Result<bool, RowFault> {
-    if !is_patch(base, added, removed) || !is_countable(base, added, removed) {
-        return Err(RowFault::Unread);
-    }
-    let view = Patched::new(base, added.triples(), removed.triples());
-    Ok(is_same(alloc, &view, other)?)
-}
-
-// Whether a change is as it was looked through, once made, and leaves nothing when it is taken back.
-fn is_made_and_taken_back<E: GraphEdit>(
-    alloc: Global,
-    base: &ListGraph,
-    (added, removed): (&ListGraph, &ListGraph),
-    graph: &mut E,
-) -> Result<bool, RowFault> {
-    if exchanged(graph, added, removed)? != "done"
-        || !is_patched_as(alloc, base, (added, removed), graph)?
-    {
-        return Ok(false);
-    }
-    Ok(exchanged(graph, removed, added)? == "done" && is_same(alloc, base, graph)?)
-}
-
-// Whether a change that is refused leaves the graph as it was.
-fn is_refused<E: GraphEdit>(
-    alloc: Global,
-    base: &ListGraph,
-    (added, removed): (&ListGraph, &ListGraph),
-    graph: &mut E,
-) -> Result<bool, RowFault> {
-    Ok(exchanged(graph, added, removed)? == "full" && is_same(alloc, base, graph)?)
-}
-
-// Whether a change of a graph that is as the base ends as is due.
-fn ends_as_due<E: GraphEdit>(
+// Whether a change that is not made of a graph has the same look-ups as another graph.
+fn is_patched_as<V: GraphView>(
     alloc: Global,
     base: &ListGraph,
     change: (&ListGraph, &ListGraph),
+    other: &V,
+) -> Result<bool, RowFault> {
+    let all = all_of(alloc, other)?;
+    patched_answers(alloc, base, change, "all", all.as_str().trim_end())
+}
+
+// Whether a change that is made is as it was looked through, and can be taken back.
+fn is_taken_back<E: GraphEdit>(
+    alloc: Global,
+    base: &ListGraph,
+    (added, removed): (&ListGraph, &ListGraph),
+    graph: &mut E,
+) -> Result<bool, RowFault> {
+    Ok(
+        is_patched_as(alloc, base, (added, removed), graph)?
+            && exchanged(graph, removed, added)? == "done",
+    )
+}
+
+// Whether a change of a graph that is as the base ends as is due, and leaves nothing when it is refused or
+// taken back.
+fn ends_as_due<E: GraphEdit>(
+    alloc: Global,
+    base: &ListGraph,
+    (added, removed): (&ListGraph, &ListGraph),
     graph: &mut E,
     due: &str,
 ) -> Result<bool, RowFault> {
-    match due {
-        "done" => is_made_and_taken_back(alloc, base, change, graph),
-        "full" => is_refused(alloc, base, change, graph),
-        _ => Err(RowFault::Unread),
+    if exchanged(graph, added, removed)? != due {
+        return Ok(false);
     }
+    if due == "done" && !is_taken_back(alloc, base, (added, removed), graph)? {
+        return Ok(false);
+    }
+    Ok(is_same(alloc, base, graph)?)
 }
 
 // The same, by the words of the removed triples.
@@ -201,7 +155,7 @@ fn is_changed_in_a_store(
     base: &ListGraph,
     row: &str,
 ) -> Result<bool, RowFault> {
-    let mut store = store_of(alloc, 75, limit, words)?;
+    let mut store = store_of(alloc, limit, words)?;
     ends_as_said(alloc, base, &mut store, row)
 }
 

@@ -24,65 +24,54 @@ fn is_lent_as_it_is(alloc: Global, graph: &ListGraph) -> Result<bool, RowFault> 
     Ok(is_same(alloc, &lent, graph)?)
 }
 
-// Whether a graph goes through the steps of a block as is due, and is the same graph when it is lent.
-fn goes_as_said(alloc: Global, block: &str) -> Result<bool, RowFault> {
-    let (line, steps) = cut(block, "\n")?;
-    let mut graph = graph_of_block(alloc, line)?;
+// Whether a plain graph goes through some steps as is due, and is the same graph when it is lent.
+fn goes_lent(alloc: Global, graph: &mut ListGraph, steps: &str) -> Result<bool, RowFault> {
     for step in steps.lines() {
-        if !goes_on(alloc, &mut graph, step)? || !is_lent_as_it_is(alloc, &graph)? {
+        if !goes_on(alloc, graph, step)? || !is_lent_as_it_is(alloc, graph)? {
             return Ok(false);
         }
     }
     Ok(true)
 }
 
-// Whether a graph of either kind goes through some steps as is due.
-fn goes_through<E: GraphEdit>(alloc: Global, graph: &mut E, steps: &str) -> Result<bool, RowFault> {
+// Whether a store goes through some steps as is due.
+fn goes_stored(alloc: Global, store: &mut Store, steps: &str) -> Result<bool, RowFault> {
     for step in steps.lines() {
-        if !goes_on(alloc, graph, step)? {
+        if !goes_on(alloc, store, step)? {
             return Ok(false);
         }
     }
     Ok(true)
+}
+
+// The store that is filled from the plain graph of a block once that has gone through the steps.
+fn filled_behind(alloc: Global, line: &str, steps: &str) -> Result<Store, RowFault> {
+    let mut graph = graph_of_block(alloc, line)?;
+    if goes_lent(alloc, &mut graph, steps)? {
+        Ok(Store::from_list(alloc, graph)?)
+    } else {
+        Err(RowFault::Unread)
+    }
 }
 
 fn are_alike(alloc: Global, filled: &Store, store: &Store) -> Result<bool, RowFault> {
     Ok(filled.limit() == store.limit() && is_same(alloc, filled, store)?)
 }
 
-// Whether a store is filled anew from a plain graph that went through some steps.
-fn is_filled_as(alloc: Global, graph: ListGraph, store: &Store) -> Result<bool, RowFault> {
-    let filled = Store::from_list(alloc, graph)?;
+fn ends_as_filled(alloc: Global, store: &Store, line: &str, steps: &str) -> Result<bool, RowFault> {
+    let filled = filled_behind(alloc, line, steps)?;
     are_alike(alloc, &filled, store)
 }
 
-// Whether a store is as a graph is once it has gone through some steps.
-fn is_stored_anew(
-    alloc: Global,
-    (line, steps): (&str, &str),
-    store: &Store,
-) -> Result<bool, RowFault> {
-    let mut graph = graph_of_block(alloc, line)?;
-    if !goes_through(alloc, &mut graph, steps)? {
-        return Ok(false);
-    }
-    is_filled_as(alloc, graph, store)
-}
-
-// Whether a store of a graph goes through the steps of a block as is due, and ends as one that is filled anew
-// from the graph does.
-fn is_stored_as_said(alloc: Global, block: &str) -> Result<bool, RowFault> {
+// Whether the store of a block goes through the steps as is due, and ends as one that is filled anew from the
+// plain graph, which goes through them too.
+fn go_as_said(alloc: Global, block: &str) -> Result<bool, RowFault> {
     let (line, steps) = cut(block, "\n")?;
     let mut store = Store::from_list(alloc, graph_of_block(alloc, line)?)?;
-    Ok(goes_through(alloc, &mut store, steps)? && is_stored_anew(alloc, (line, steps), &store)?)
+    Ok(goes_stored(alloc, &mut store, steps)? && ends_as_filled(alloc, &store, line, steps)?)
 }
 
 #[test]
-fn stores_go_through_edits(rt: HostRuntime) -> Result<(), Fail> {
-    all_blocks_met(rt.alloc(), rows::EDITS, is_stored_as_said)
-}
-
-#[test]
-fn graphs_go_through_edits(rt: HostRuntime) -> Result<(), Fail> {
-    all_blocks_met(rt.alloc(), rows::EDITS, goes_as_said)
+fn graphs_and_stores_go_through_edits(rt: HostRuntime) -> Result<(), Fail> {
+    all_blocks_met(rt.alloc(), rows::EDITS, go_as_said)
 }

@@ -1,39 +1,10 @@
 use super::letters::{LETTERS_END, key_of, triple_of};
 use graph_view::{Key, Reads, keys_of, touches};
-use row_tools::{RowFault, all_met, cut, in_three};
+use row_tools::{RowFault, all_met, cut, in_three, number};
 use shx_term::vocabulary::VOCABULARY_LEN;
 use shx_term::{Id, Triple};
 use std::alloc::Global;
 use std::test::Fail;
-
-// A triple, a key, and whether the one touches the other.
-const TOUCHES: &str = "\
-abc ab? yes
-abc cb? no
-abc ac? no
-abc ?bc yes
-abc ?ac no
-abc ?ba no
-abc a?? yes
-abc b?? no
-abc ?b? yes
-abc ?c? no
-aaa aa? yes
-aaa ?aa yes
-aaa a?? yes
-aaa ?a? yes
-aaa b?? no";
-
-fn touches_as_said(_: Global, row: &str) -> Result<bool, RowFault> {
-    let (triple, key, due) = in_three(row, " ")?;
-    let touched = touches(&triple_of(triple)?, &key_of(key)?);
-    Ok(due == if touched { "yes" } else { "no" })
-}
-
-#[test]
-fn triples_touch_keys(rt: HostRuntime) -> Result<(), Fail> {
-    all_met(rt.alloc(), TOUCHES, touches_as_said)
-}
 
 fn keys_in(alloc: Global, words: &str) -> Result<Vec<Key>, RowFault> {
     let mut keys = Vec::new(alloc);
@@ -43,44 +14,62 @@ fn keys_in(alloc: Global, words: &str) -> Result<Vec<Key>, RowFault> {
     Ok(keys)
 }
 
-// Triples with the keys that they touch.
-const KEYS_OF: &str = "\
-abc: ab? ?bc a?? ?b?
-xqd: xq? ?qd x?? ?q?
-ppp: pp? ?pp p?? ?p?";
+// Triples with their four keys, which they touch, and with keys that they do not touch.
+const TOUCHES: &str = "\
+abc: ab? ?bc a?? ?b? | cb? ac? ?ac ?ba b?? ?c?
+aaa: aa? ?aa a?? ?a? | b??
+xqd: xq? ?qd x?? ?q? |
+ppp: pp? ?pp p?? ?p? |";
 
-fn has_keys(alloc: Global, row: &str) -> Result<bool, RowFault> {
-    let (triple, due) = cut(row, ": ")?;
-    let due = keys_in(alloc, due)?;
-    let keys = keys_of(&triple_of(triple)?);
-    Ok(keys.as_slice() == due.as_slice() && due.len() == 4)
-}
-
-#[test]
-fn triples_have_their_keys(rt: HostRuntime) -> Result<(), Fail> {
-    all_met(rt.alloc(), KEYS_OF, has_keys)
-}
-
-// By kind, and then by the numbers; the numbers of letters go up from `x`.
-const IN_ORDER: &str = "xx? xz? yx? yy? ?xx ?xy ?yx ?ab x?? y?? ?x? ?y?";
-
-fn are_ascending(keys: &[Key]) -> bool {
-    let mut before = None;
+// Whether a triple touches all of the keys or, where `touched` is false, none of them.
+fn are_touched(t: &Triple, keys: &[Key], touched: bool) -> bool {
     for key in keys {
-        if Some(*key) <= before {
+        if touches(t, key) != touched {
             return false;
         }
-        before = Some(*key);
     }
     true
 }
 
+fn touches_as_said(alloc: Global, row: &str) -> Result<bool, RowFault> {
+    let (triple, rest) = cut(row, ": ")?;
+    let (own, others) = cut(rest, " |")?;
+    let t = triple_of(triple)?;
+    let own = keys_in(alloc, own)?;
+    let others = keys_in(alloc, others)?;
+    Ok(
+        keys_of(&t).as_slice() == own.as_slice()
+            && are_touched(&t, &own, true)
+            && are_touched(&t, &others, false),
+    )
+}
+
+#[test]
+fn triples_touch_their_keys_alone(rt: HostRuntime) -> Result<(), Fail> {
+    all_met(rt.alloc(), TOUCHES, touches_as_said)
+}
+
+// How many keys there are: by kind, and then by the numbers; the numbers of letters go up from `x`.
+const IN_ORDER: &str = "12: xx? xz? yx? yy? ?xx ?xy ?yx ?ab x?? y?? ?x? ?y?";
+
+fn are_ascending(_: Global, row: &str) -> Result<bool, RowFault> {
+    let (count, words) = cut(row, ": ")?;
+    let mut before = None;
+    let mut keys: u32 = 0;
+    for word in words.split_whitespace() {
+        let key = Some(key_of(word)?);
+        if key <= before {
+            return Ok(false);
+        }
+        before = key;
+        keys = keys.saturating_add(1);
+    }
+    Ok(keys == number(count)?)
+}
+
 #[test]
 fn keys_are_in_order_of_kind_and_numbers(rt: HostRuntime) -> Result<(), Fail> {
-    let keys = keys_in(rt.alloc(), IN_ORDER)?;
-    assert_eq!(rt; keys.len(), 12);
-    assert!(rt; are_ascending(&keys));
-    Ok(())
+    all_met(rt.alloc(), IN_ORDER, are_ascending)
 }
 
 // Keys that are added one by one, keys of another set that are added at once, and all in their order.
@@ -106,27 +95,35 @@ xx? ab? ac? ad? ap? aq? ar? as? at? ?ab ?ac ?ad ?ap ?aq ?ar ?as ?at b?? ?c? y??
 a?? b?? c?? d?? p?? q?? r?? s?? t??|?a? ?b? ?c? ?d? ?p? ?q? ?r? ?s? ?t?|\
 a?? b?? c?? d?? p?? q?? r?? s?? t?? ?a? ?b? ?c? ?d? ?p? ?q? ?r? ?s? ?t?";
 
-fn add_each(reads: &mut Reads, keys: &[Key]) -> Result<(), RowFault> {
-    for key in keys {
-        reads.add(*key)?;
+fn add_words(reads: &mut Reads, words: &str) -> Result<(), RowFault> {
+    for word in words.split_whitespace() {
+        reads.add(key_of(word)?)?;
     }
     Ok(())
 }
 
 // Whether a triple touches a read key as it touches one of these.
 fn is_touched_alike(reads: &Reads, keys: &[Key], t: &Triple) -> bool {
-    reads.is_touched_by(t) == keys.iter().any(|key| touches(t, key))
+    for key in keys {
+        if touches(t, key) {
+            return reads.is_touched_by(t);
+        }
+    }
+    !reads.is_touched_by(t)
 }
 
 // Whether the keys of a triple are read as they are among these.
 fn are_read_alike(reads: &Reads, keys: &[Key], t: &Triple) -> bool {
-    keys_of(t)
-        .iter()
-        .all(|key| reads.has(key) == keys.contains(key))
+    for key in &keys_of(t) {
+        if reads.has(key) != keys.contains(key) {
+            return false;
+        }
+    }
+    true
 }
 
 // The triples of a subject and predicate, over all letters.
-fn are_alike_from(reads: &Reads, keys: &[Key], s: Id, p: Id) -> bool {
+fn are_told_alike(reads: &Reads, keys: &[Key], s: Id, p: Id) -> bool {
     for o in VOCABULARY_LEN..LETTERS_END {
         let t = Triple { s, p, o };
         if !is_touched_alike(reads, keys, &t) || !are_read_alike(reads, keys, &t) {
@@ -136,18 +133,6 @@ fn are_alike_from(reads: &Reads, keys: &[Key], s: Id, p: Id) -> bool {
     true
 }
 
-// Whether the reads are these keys in this order, and tell of each triple over all letters as these keys do.
-fn are_reads_of(reads: &Reads, keys: &[Key]) -> bool {
-    for s in VOCABULARY_LEN..LETTERS_END {
-        for p in VOCABULARY_LEN..LETTERS_END {
-            if !are_alike_from(reads, keys, s, p) {
-                return false;
-            }
-        }
-    }
-    reads.keys() == keys && reads.len() == keys.len()
-}
-
 // Whether the key at each place is the one that is due.
 fn has_places(reads: &Reads, keys: &[Key]) -> bool {
     for (at, key) in keys.iter().enumerate() {
@@ -155,51 +140,47 @@ fn has_places(reads: &Reads, keys: &[Key]) -> bool {
             return false;
         }
     }
-    reads.len() == keys.len()
+    reads.len() == keys.len() && reads.keys() == keys
 }
 
-fn fill(alloc: Global, reads: &mut Reads, first: &[Key], more: &[Key]) -> Result<(), RowFault> {
+// Whether the reads are these keys in this order, and tell of each triple over all letters as these keys do.
+fn are_reads_of(reads: &Reads, keys: &[Key]) -> bool {
+    for s in VOCABULARY_LEN..LETTERS_END {
+        for p in VOCABULARY_LEN..LETTERS_END {
+            if !are_told_alike(reads, keys, s, p) {
+                return false;
+            }
+        }
+    }
+    has_places(reads, keys)
+}
+
+fn fill(alloc: Global, reads: &mut Reads, first: &str, more: &str) -> Result<(), RowFault> {
     let mut other = Reads::new(alloc);
-    add_each(&mut other, more)?;
-    add_each(reads, first)?;
+    add_words(&mut other, more)?;
+    add_words(reads, first)?;
     Ok(reads.add_all(&other)?)
 }
 
 // Whether a set that is filled has the keys that are due, in their order.
-fn is_filled(
-    alloc: Global,
-    reads: &mut Reads,
-    (first, more): (&[Key], &[Key]),
-    due: &[Key],
-) -> Result<bool, RowFault> {
+fn is_filled(alloc: Global, reads: &mut Reads, row: &str) -> Result<bool, RowFault> {
+    let (first, more, due) = in_three(row, "|")?;
     fill(alloc, reads, first, more)?;
-    Ok(are_reads_of(reads, due) && has_places(reads, due))
+    let due = keys_in(alloc, due)?;
+    Ok(are_reads_of(reads, &due))
 }
 
 // Whether a set has the keys that are due, is empty once it is cleared, and can be filled again.
-fn is_filled_twice(alloc: Global, keys: (&[Key], &[Key]), due: &[Key]) -> Result<bool, RowFault> {
+fn is_filled_twice(alloc: Global, row: &str) -> Result<bool, RowFault> {
     let mut reads = Reads::new(alloc);
-    if !is_filled(alloc, &mut reads, keys, due)? {
+    if !is_filled(alloc, &mut reads, row)? {
         return Ok(false);
     }
     reads.clear();
-    Ok(are_reads_of(&reads, &[]) && is_filled(alloc, &mut reads, keys, due)?)
-}
-
-// The same, by the words of what is due and of the keys that are added at once.
-fn are_added_to(alloc: Global, first: &[Key], more: &str, due: &str) -> Result<bool, RowFault> {
-    let more = keys_in(alloc, more)?;
-    let due = keys_in(alloc, due)?;
-    is_filled_twice(alloc, (first, &more), &due)
-}
-
-fn are_added(alloc: Global, row: &str) -> Result<bool, RowFault> {
-    let (first, more, due) = in_three(row, "|")?;
-    let first = keys_in(alloc, first)?;
-    are_added_to(alloc, &first, more, due)
+    Ok(are_reads_of(&reads, &[]) && is_filled(alloc, &mut reads, row)?)
 }
 
 #[test]
 fn reads_hold_each_key_once_in_order_of_addition(rt: HostRuntime) -> Result<(), Fail> {
-    all_met(rt.alloc(), READS, are_added)
+    all_met(rt.alloc(), READS, is_filled_twice)
 }

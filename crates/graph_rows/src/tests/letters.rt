@@ -1,7 +1,5 @@
 //! Terms by letters, triples by words of three letters, keys by words with `?` for what is looked up.
-ghost use Rattle.std.specs.Prelude.{IsTrue};
-ghost use Rattle.graph_view.specs.Graph.{IsKnownTriple};
-
+use due_view::is_known_triple;
 use graph_view::{GraphEdit, GraphView, Key, ListGraph};
 use row_tools::{RowFault, cut, term};
 use shx_term::vocabulary::VOCABULARY_LEN;
@@ -32,7 +30,7 @@ pub(super) const LETTERS_END: Id = 75;
 const LETTERS: &str = "xyztusrqpdcba";
 
 /// The number of a letter.
-pub(super) fn number(letter: u8) -> Result<Id, RowFault> {
+fn number(letter: u8) -> Result<Id, RowFault> {
     let mut id = VOCABULARY_LEN;
     for other in LETTERS.bytes() {
         if other == letter {
@@ -67,41 +65,37 @@ pub(super) fn triple_of(word: &str) -> Result<Triple, RowFault> {
     }
 }
 
-fn key_of_letters(s: u8, p: u8, o: u8) -> Result<Key, RowFault> {
-    match (s, p, o) {
-        (b'?', _, b'?') => Ok(Key::Predicate(number(p)?)),
-        (_, b'?', b'?') => Ok(Key::Subject(number(s)?)),
-        (b'?', _, _) => Ok(Key::In(number(p)?, number(o)?)),
-        (_, _, b'?') => Ok(Key::Out(number(s)?, number(p)?)),
-        _ => Err(RowFault::Unread),
-    }
-}
-
 /// The key of a word with a `?`.
 pub(super) fn key_of(word: &str) -> Result<Key, RowFault> {
     match word.as_bytes() {
-        [s, p, o] => key_of_letters(*s, *p, *o),
+        [b'?', p, b'?'] => Ok(Key::Predicate(number(*p)?)),
+        [s, b'?', b'?'] => Ok(Key::Subject(number(*s)?)),
+        [b'?', p, o] => Ok(Key::In(number(*p)?, number(*o)?)),
+        [s, p, b'?'] => Ok(Key::Out(number(*s)?, number(*p)?)),
         _ => Err(RowFault::Unread),
     }
 }
 
-fn enter_letters(alloc: Global, graph: &mut ListGraph) -> Result<(), RowFault> {
-    for line in TERMS.lines() {
-        let (letter, word) = cut(line, " ")?;
+// Enters the terms of some lines, whose numbers are those of their letters.
+fn enter_letters(alloc: Global, graph: &mut ListGraph, lines: &str) -> Result<(), RowFault> {
+    for line in lines.lines() {
+        let (name, word) = cut(line, " ")?;
         let entered = graph.enter(&term(alloc, word)?)?;
-        if letter.bytes().next().map(number) != Some(Ok(entered)) {
+        if !name.starts_with(letter(entered)) {
             return Err(RowFault::Unread);
         }
     }
     Ok(())
 }
 
-/// Whether a graph has terms for the numbers of a triple.
-pub(super) fn is_known<V: GraphView>(view: &V, t: &Triple) -> bool
-    ensures { IsTrue result → IsKnownTriple (V.graph view.now).terms t.now }
-{
-    let terms = view.pool().len();
-    t.s < terms && t.p < terms && t.o < terms
+fn insert_all(graph: &mut ListGraph, words: &str) -> Result<(), RowFault> {
+    for word in words.split_whitespace() {
+        let t = triple_of(word)?;
+        if !is_known_triple(graph, &t) || graph.insert(t) != Ok(true) {
+            return Err(RowFault::Unread);
+        }
+    }
+    Ok(())
 }
 
 /// The graph of some words over the terms of all letters, that may hold so many terms and triples.
@@ -116,13 +110,8 @@ pub(super) fn graph_of(
     }
     let pool = Pool::with_vocabulary(alloc, terms)?;
     let mut graph = ListGraph::new(alloc, pool, limit);
-    enter_letters(alloc, &mut graph)?;
-    for word in words.split_whitespace() {
-        let t = triple_of(word)?;
-        if !is_known(&graph, &t) || graph.insert(t) != Ok(true) {
-            return Err(RowFault::Unread);
-        }
-    }
+    enter_letters(alloc, &mut graph, TERMS)?;
+    insert_all(&mut graph, words)?;
     Ok(graph)
 }
 
@@ -135,11 +124,6 @@ fn store_from(alloc: Global, graph: ListGraph) -> Result<Store, RowFault> {
 }
 
 /// The store of those words, made of all their triples at once.
-pub(super) fn store_of(
-    alloc: Global,
-    terms: Id,
-    limit: u64,
-    words: &str,
-) -> Result<Store, RowFault> {
-    store_from(alloc, graph_of(alloc, terms, limit, words)?)
+pub(super) fn store_of(alloc: Global, limit: u64, words: &str) -> Result<Store, RowFault> {
+    store_from(alloc, graph_of(alloc, LETTERS_END, limit, words)?)
 }

@@ -1,14 +1,12 @@
 //! Many edits of one store. None goes over what is held, so that all of them end in time.
 use super::steps::inserted;
 use graph_view::{GraphEdit, GraphView, ListGraph};
-use row_tools::RowFault;
+use row_tools::{RowFault, all_met, number};
 use shx_term::vocabulary::VOCABULARY_LEN;
 use shx_term::{Pool, Triple};
 use std::alloc::Global;
 use std::test::Fail;
 use triple_store::Store;
-
-const MANY: u32 = 20_000;
 
 // Another triple over the terms of the vocabulary for each number.
 fn triple_at(number: u32) -> Triple {
@@ -19,21 +17,17 @@ fn triple_at(number: u32) -> Triple {
     }
 }
 
-fn takes(store: &mut Store, t: Triple) -> Result<bool, RowFault> {
-    Ok(inserted(store, t)? == "new")
-}
-
-fn takes_many(store: &mut Store) -> Result<bool, RowFault> {
-    for number in 0..MANY {
-        if !takes(store, triple_at(number))? {
+fn takes(store: &mut Store, many: u32) -> Result<bool, RowFault> {
+    for number in 0..many {
+        if inserted(store, triple_at(number))? != "new" {
             return Ok(false);
         }
     }
-    Ok(store.len() == u64::from(MANY))
+    Ok(store.len() == u64::from(many))
 }
 
-fn gives_up_many(store: &mut Store) -> bool {
-    for number in 0..MANY {
+fn gives_up(store: &mut Store, many: u32) -> bool {
+    for number in 0..many {
         if !store.remove(&triple_at(number)) {
             return false;
         }
@@ -41,15 +35,15 @@ fn gives_up_many(store: &mut Store) -> bool {
     store.len() == 0
 }
 
-fn takes_and_gives_up_many(alloc: Global) -> Result<bool, RowFault> {
+// Whether a store with room for so many triples takes and gives up each of them.
+fn takes_and_gives_up(alloc: Global, row: &str) -> Result<bool, RowFault> {
+    let many = number(row)?;
     let pool = Pool::with_vocabulary(alloc, VOCABULARY_LEN)?;
-    let mut store = Store::from_list(alloc, ListGraph::new(alloc, pool, u64::from(MANY)))?;
-    Ok(takes_many(&mut store)? && gives_up_many(&mut store))
+    let mut store = Store::from_list(alloc, ListGraph::new(alloc, pool, u64::from(many)))?;
+    Ok(takes(&mut store, many)? && gives_up(&mut store, many))
 }
 
 #[test]
 fn many_edits_end_in_time(rt: HostRuntime) -> Result<(), Fail> {
-    let done = takes_and_gives_up_many(rt.alloc());
-    assert_eq!(rt; done, Ok(true));
-    Ok(())
+    all_met(rt.alloc(), "20000", takes_and_gives_up)
 }

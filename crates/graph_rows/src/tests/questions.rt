@@ -1,5 +1,5 @@
-//! What is looked up in a graph. A question is a triple, a key, `len`, or `terms`.
-use super::letters::{LETTERS_END, key_of, letter, triple_of};
+//! What is looked up in a graph. A question is a triple, a key, `len`, `terms`, or `all`.
+use super::letters::{key_of, letter, triple_of};
 use graph_view::{GraphView, Key, Reads};
 use row_tools::RowFault;
 use shx_term::vocabulary::VOCABULARY_LEN;
@@ -54,6 +54,7 @@ fn look_up<V: GraphView>(alloc: Global, view: &V, key: Key) -> Result<String, Me
 fn asked<V: GraphView>(alloc: Global, view: &V, question: &str) -> Result<String, RowFault> {
     match question {
         "len" => Ok(format!(in alloc; "{}", view.len())?),
+        "all" => Ok(all_of(alloc, view)?),
         "terms" => Ok(format!(in alloc; "{}", view.pool().len())?),
         _ if question.contains('?') => Ok(look_up(alloc, view, key_of(question)?)?),
         _ => Ok(format!(in alloc; "{}", view.contains(&triple_of(question)?))?),
@@ -71,49 +72,29 @@ pub(super) fn answers<V: GraphView>(
     Ok(answer.as_str().trim_end() == if due == "-" { "" } else { due })
 }
 
-fn is_found<V: GraphView>(alloc: Global, view: &V, key: Key, due: &str) -> Result<bool, Memory> {
-    Ok(look_up(alloc, view, key)?.as_str() == due)
-}
+// How many keys there are over the letters: of two letters in two ways, and of one in two ways.
+const KEYS: u32 = 2 * 13 * 13 + 2 * 13;
 
-fn is_same_at<V: GraphView, W: GraphView>(
-    alloc: Global,
-    view: &V,
-    other: &W,
-    key: Key,
-) -> Result<bool, Memory> {
-    let found = look_up(alloc, view, key)?;
-    is_found(alloc, other, key, found.as_str())
-}
-
-fn is_same_at_two<V: GraphView, W: GraphView>(
-    alloc: Global,
-    view: &V,
-    other: &W,
-    first: Id,
-    second: Id,
-) -> Result<bool, Memory> {
-    Ok(
-        is_same_at(alloc, view, other, Key::Out(first, second))?
-            && is_same_at(alloc, view, other, Key::In(first, second))?,
-    )
-}
-
-// The keys whose first number this is.
-fn is_same_from<V: GraphView, W: GraphView>(
-    alloc: Global,
-    view: &V,
-    other: &W,
-    first: Id,
-) -> Result<bool, Memory> {
-    for second in VOCABULARY_LEN..LETTERS_END {
-        if !is_same_at_two(alloc, view, other, first, second)? {
-            return Ok(false);
-        }
+// Another key over the letters for each number below `KEYS`.
+fn key_at(number: u32) -> Key {
+    let first = VOCABULARY_LEN + number / 13 % 13;
+    let second = VOCABULARY_LEN + number % 13;
+    match number / 13 {
+        0..=12 => Key::Out(first, second),
+        13..=25 => Key::In(first, second),
+        26 => Key::Subject(second),
+        _ => Key::Predicate(second),
     }
-    Ok(
-        is_same_at(alloc, view, other, Key::Subject(first))?
-            && is_same_at(alloc, view, other, Key::Predicate(first))?,
-    )
+}
+
+/// What is looked up under all keys over the letters, and how many triples are held.
+pub(super) fn all_of<V: GraphView>(alloc: Global, view: &V) -> Result<String, Memory> {
+    let mut found = format!(in alloc; "{}", view.len())?;
+    for number in 0..KEYS {
+        found.push('\n')?;
+        found.push_str(look_up(alloc, view, key_at(number))?.as_str())?;
+    }
+    Ok(found)
 }
 
 /// Whether all look-ups give the same in both, and as many triples are held.
@@ -122,10 +103,6 @@ pub(super) fn is_same<V: GraphView, W: GraphView>(
     view: &V,
     other: &W,
 ) -> Result<bool, Memory> {
-    for first in VOCABULARY_LEN..LETTERS_END {
-        if !is_same_from(alloc, view, other, first)? {
-            return Ok(false);
-        }
-    }
-    Ok(view.len() == other.len())
+    let all = all_of(alloc, view)?;
+    Ok(all.as_str() == all_of(alloc, other)?.as_str())
 }

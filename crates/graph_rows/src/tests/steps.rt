@@ -6,8 +6,9 @@ ghost use Rattle.graph_view.specs.Graph.{IsKnownTriple};
 ghost use Rattle.graph_view.specs.Patched.{IsPatch, patched};
 
 use super::cuts::cuts;
-use super::letters::{graph_of, is_known, triple_of};
+use super::letters::{graph_of, triple_of};
 use super::questions::answers;
+use due_view::is_known_triple;
 use graph_view::{GraphEdit, GraphView, ListGraph, StoreFault};
 use row_tools::{RowFault, cut, number, term};
 use shx_term::{PoolFault, Triple};
@@ -15,7 +16,7 @@ use std::alloc::Global;
 
 /// Inserts a triple of terms that the graph has, and says how that ended.
 pub(super) fn inserted<E: GraphEdit>(graph: &mut E, t: Triple) -> Result<&'static str, RowFault> {
-    if is_known(graph, &t) {
+    if is_known_triple(graph, &t) {
         return match graph.insert(t) {
             Ok(true) => Ok("new"),
             Ok(false) => Ok("held"),
@@ -61,7 +62,7 @@ pub(super) fn are_known<V: GraphView>(view: &V, triples: &[Triple]) -> bool
     ensures { IsTrue result → All (IsKnownTriple (V.graph view.now).terms) triples.now }
 {
     for t in triples {
-        if !is_known(view, t) {
+        if !is_known_triple(view, t) {
             return false;
         }
     }
@@ -114,24 +115,14 @@ pub(super) fn exchanged<E: GraphEdit>(
     Err(RowFault::Unread)
 }
 
-fn exchanges_as<E: GraphEdit>(
-    graph: &mut E,
-    added: &ListGraph,
-    removed: &ListGraph,
-    due: &str,
-) -> Result<bool, RowFault> {
-    Ok(exchanged(graph, added, removed)? == due)
-}
-
 fn exchanges_for<E: GraphEdit>(
     alloc: Global,
     graph: &mut E,
     removed: &ListGraph,
     added: &str,
-    due: &str,
-) -> Result<bool, RowFault> {
+) -> Result<&'static str, RowFault> {
     let added = graph_of(alloc, 75, 100, added)?;
-    exchanges_as(graph, &added, removed, due)
+    exchanged(graph, &added, removed)
 }
 
 // The change of some words: those that are removed, a bar, and those that are added.
@@ -139,11 +130,10 @@ fn exchanges<E: GraphEdit>(
     alloc: Global,
     graph: &mut E,
     words: &str,
-    due: &str,
-) -> Result<bool, RowFault> {
+) -> Result<&'static str, RowFault> {
     let (removed, added) = cut(words, "|")?;
     let removed = graph_of(alloc, 75, 100, removed)?;
-    exchanges_for(alloc, graph, &removed, added, due)
+    exchanges_for(alloc, graph, &removed, added)
 }
 
 /// Whether a step has the answer that is due.
@@ -160,7 +150,7 @@ pub(super) fn goes_on<E: GraphEdit>(
         return Ok(removed(graph, &triple_of(word)?) == due);
     }
     match step.split_once(' ') {
-        Some(("exchange", words)) => exchanges(alloc, graph, words, due),
+        Some(("exchange", words)) => Ok(exchanges(alloc, graph, words)? == due),
         Some(("enter", word)) => enters(alloc, graph, word, due),
         Some(("cut", words)) => Ok(cuts(alloc, graph, words)? == due),
         Some(_) => Err(RowFault::Unread),

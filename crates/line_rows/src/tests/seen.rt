@@ -75,9 +75,9 @@ fn shown_triple(alloc: Global, word: &str, triple: &TermTriple) -> Result<String
     }
 }
 
-/// A row's text, where the row has signs for characters that it cannot hold: `␉`, `␊`, `␌` and `␍` for control
-/// characters, `␂` for a byte order mark and `⍽` for U+00A0, and `<rdf:` and `<xsd:` for the beginnings of
-/// IRIs.
+/// A row's text, where the row has signs for characters that it cannot hold: `␉`, `␊`, `␌` and `␍` for
+/// control characters, `␂` for a byte order mark and `⍽` for U+00A0, and `<rdf:` and `<xsd:` for the
+/// beginnings of IRIs.
 pub(super) fn text_of(alloc: Global, row: &str) -> Result<String, Memory> {
     let text = controls_of(alloc, row)?;
     let rdf = "<http://www.w3.org/1999/02/22-rdf-syntax-ns#";

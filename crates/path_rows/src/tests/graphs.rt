@@ -33,17 +33,15 @@ pub(super) fn number(letter: u8) -> Result<Id, RowFault> {
     }
 }
 
-fn all_letters(alloc: Global) -> Result<ListGraph, RowFault> {
-    let pool = Pool::with_vocabulary(alloc, VOCABULARY_LEN + 26)?;
-    let mut graph = ListGraph::new(alloc, pool, 100);
-    for word in TERMS.split_whitespace() {
+fn enter_all(alloc: Global, graph: &mut ListGraph, words: &str) -> Result<(), RowFault> {
+    for word in words.split_whitespace() {
         graph.enter(&term(alloc, word)?)?;
     }
     // They are as many terms, and so their numbers follow one another.
     if graph.pool().len() != VOCABULARY_LEN + 26 {
         return Err(RowFault::Unread);
     }
-    Ok(graph)
+    Ok(())
 }
 
 /// Inserts a triple of terms that the graph has.
@@ -55,11 +53,12 @@ pub(super) fn insert(graph: &mut ListGraph, t: Triple) -> Result<(), RowFault> {
     Ok(())
 }
 
-fn triples_of(name: &str) -> Result<&'static str, RowFault> {
-    for line in GRAPHS.lines() {
-        let (named, triples) = cut(line, ":")?;
-        if named == name {
-            return Ok(triples);
+// What stands behind a name in one of some lines.
+fn named<'a>(lines: &'a str, name: &str) -> Result<&'a str, RowFault> {
+    for line in lines.lines() {
+        let (front, rest) = cut(line, ":")?;
+        if front == name {
+            return Ok(rest);
         }
     }
     Err(RowFault::Unread)
@@ -73,11 +72,19 @@ fn triple_of(word: &str) -> Result<Triple, RowFault> {
     Ok(Triple { s, p, o })
 }
 
+fn insert_all(graph: &mut ListGraph, words: &str) -> Result<(), RowFault> {
+    for word in words.split_whitespace() {
+        insert(graph, triple_of(word)?)?;
+    }
+    Ok(())
+}
+
 /// The graph of a name.
 pub(super) fn graph(alloc: Global, name: &str) -> Result<ListGraph, RowFault> {
-    let mut graph = all_letters(alloc)?;
-    for word in triples_of(name)?.split_whitespace() {
-        insert(&mut graph, triple_of(word)?)?;
-    }
+    let triples = named(GRAPHS, name)?;
+    let pool = Pool::with_vocabulary(alloc, VOCABULARY_LEN + 26)?;
+    let mut graph = ListGraph::new(alloc, pool, 100);
+    enter_all(alloc, &mut graph, TERMS)?;
+    insert_all(&mut graph, triples)?;
     Ok(graph)
 }

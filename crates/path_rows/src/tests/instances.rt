@@ -81,8 +81,9 @@ fn answers(
     if asked == "is" {
         return is_of_class(alloc, view, of, answer, reads);
     }
+    let of = node(of)?;
     let wanted = nodes(alloc, answer)?;
-    Ok(found(alloc, view, asked, node(of)?, reads)? == wanted)
+    Ok(found(alloc, view, asked, of, reads)? == wanted)
 }
 
 // Whether the row's question has its answer, and nothing but its keys is looked up.

@@ -106,17 +106,17 @@ none : p? : a : a : Out(a,p)
 none : p*/q* : a : a : Out(a,p) Out(a,q)
 == no parts, and no members
 line : () : b : b : -
-line : [] : b : - : -
+line : 0 : b : - : -
 line : ()* : b : b : -
 line : ()+ : b : b : -
-line : []* : b : b : -
-line : []+ : b : - : -
-line : []? : b : b : -
+line : 0* : b : b : -
+line : 0+ : b : - : -
+line : 0? : b : b : -
 line : p/() : b : c : Out(b,p)
-line : p/[] : b : - : Out(b,p)
-line : ^([]/p) : b : - : In(p,b)
-line : ^(p/[]) : b : - : -
-line : p|[] : b : c : Out(b,p)
+line : p/0 : b : - : Out(b,p)
+line : ^(0/p) : b : - : In(p,b)
+line : ^(p/0) : b : - : -
+line : p|0 : b : c : Out(b,p)
 == a node related to itself
 loop : p : a : a : Out(a,p)
 loop : p* : a : a : Out(a,p)
@@ -166,10 +166,10 @@ many : p? : a : abcxy : Out(a,p)
 == a predicate that is a node
 odd : p/^q : a : p : Out(a,p) In(q,b)
 == SHACL instances
-types : @ : a : bcd : Out(a,T) Out(bcd,C)
-types : ^@ : d : a : In(C,bcd) In(T,bcd)
-types : @ : b : - : Out(b,T)
-types : @ : e : e : Out(e,T) Out(e,C)
+types : T/C* : a : bcd : Out(a,T) Out(bcd,C)
+types : ^(T/C*) : d : a : In(C,bcd) In(T,bcd)
+types : T/C* : b : - : Out(b,T)
+types : T/C* : e : e : Out(e,T) Out(e,C)
 ";
 
 /// Paths with one path inside the other, 60 deep: a graph; what is written
@@ -201,7 +201,7 @@ p|q : p|q : same
 p|q : q|p : other
 p|q : p/q : other
 () : () : same
-() : [] : other
+() : 0 : other
 p* : p* : same
 p* : p+ : other
 p+ : p? : other

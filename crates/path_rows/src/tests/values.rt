@@ -1,6 +1,6 @@
 use super::cells::{keys, node, nodes};
 use super::graphs::{graph, insert};
-use super::paths::{nested, path};
+use super::paths::path;
 use super::rows::{NESTED, PAIRS, ROWS};
 use due_view::DueView;
 use graph_view::{GraphEdit, ListGraph, Reads};
@@ -8,7 +8,7 @@ use path_eval::{
     Path, edits_beside_a_path, equal_paths_have_one_route, paths_depend_on_their_reads,
     paths_lead_to_what_they_relate, values,
 };
-use row_tools::{RowFault, all_met, anonymous, in_three};
+use row_tools::{RowFault, all_met, anonymous, cut, in_three};
 use shx_term::vocabulary::{RDF_REST, VOCABULARY_LEN};
 use shx_term::{Pool, Scope, Triple};
 use std::alloc::Global;
@@ -17,11 +17,12 @@ use std::test::Fail;
 // Whether a path leads as the rest of a row says, and looks up nothing but the keys of the row.
 fn leads(alloc: Global, graph: &ListGraph, path: &Path, rest: &str) -> Result<bool, RowFault> {
     let (start, wanted, read) = in_three(rest, " : ")?;
+    let start = node(start)?;
     let wanted = nodes(alloc, wanted)?;
     let due = keys(alloc, read)?;
     let view = DueView::new(graph, &due);
     let mut reads = Reads::new(alloc);
-    let found = values(alloc, &view, path, node(start)?, &mut reads);
+    let found = values(alloc, &view, path, start, &mut reads);
     Ok(found == Ok(wanted) && view.are_read(&reads))
 }
 
@@ -37,6 +38,18 @@ fn is_as_said(alloc: Global, row: &str) -> Result<bool, RowFault> {
 #[test]
 fn paths_lead_and_read_as_said(rt: HostRuntime) -> Result<(), Fail> {
     all_met(rt.alloc(), ROWS, is_as_said)
+}
+
+const DEPTH: usize = 60;
+
+// The text of a path inside itself, `(_/q)* p`: what is written around each, at `_`, and what is inside them
+// all.
+fn nested(alloc: Global, form: &str) -> Result<String, RowFault> {
+    let (around, inside) = cut(form, " ")?;
+    let (before, behind) = cut(around, "_")?;
+    let before = before.repeat(alloc, DEPTH)?;
+    let behind = behind.repeat(alloc, DEPTH)?;
+    Ok(format!(in alloc; "{}{inside}{}", before.as_str(), behind.as_str())?)
 }
 
 // The same where a path is nested.
@@ -74,32 +87,39 @@ fn chain(alloc: Global) -> Result<ListGraph, RowFault> {
     let pool = Pool::with_vocabulary(alloc, VOCABULARY_LEN + CHAIN_LEN)?;
     let mut graph = ListGraph::new(alloc, pool, u64::from(CHAIN_LEN));
     for number in 0..CHAIN_LEN {
-        graph.enter(&anonymous(Scope::Data, number))?;
-    }
-    for number in 1..CHAIN_LEN {
-        let o = VOCABULARY_LEN + number;
-        let s = o - 1;
-        insert(&mut graph, Triple { s, p: RDF_REST, o })?;
+        let o = graph.enter(&anonymous(Scope::Data, number))?;
+        if o > VOCABULARY_LEN {
+            insert(
+                &mut graph,
+                Triple {
+                    s: o - 1,
+                    p: RDF_REST,
+                    o,
+                },
+            )?;
+        }
     }
     Ok(graph)
 }
 
+// How many nodes one or more steps lead to from the start of the chain, and how many keys are read.
+const FOLLOWED: &str = "1999 2000";
+
+fn follows(alloc: Global, graph: &ListGraph, due: &str) -> Result<bool, RowFault> {
+    let path = Path::OneOrMore(Box::new(alloc, Path::Pred(RDF_REST))?);
+    let mut reads = Reads::new(alloc);
+    let found = values(alloc, graph, &path, VOCABULARY_LEN, &mut reads)?;
+    let counts = format!(in alloc; "{} {}", found.len(), reads.len())?;
+    Ok(counts.as_str() == due)
+}
+
+fn follows_the_chain(alloc: Global, due: &str) -> Result<bool, RowFault> {
+    follows(alloc, &chain(alloc)?, due)
+}
+
 #[test]
 fn a_closure_follows_a_long_chain(rt: HostRuntime) -> Result<(), Fail> {
-    let alloc = rt.alloc();
-    let graph = chain(alloc)?;
-    let step = Box::new(alloc, Path::Pred(RDF_REST))?;
-    let mut reads = Reads::new(alloc);
-    let found = values(
-        alloc,
-        &graph,
-        &Path::OneOrMore(step),
-        VOCABULARY_LEN,
-        &mut reads,
-    )?;
-    assert_eq!(rt; found.len(), 1999);
-    assert_eq!(rt; reads.len(), 2000);
-    Ok(())
+    all_met(rt.alloc(), FOLLOWED, follows_the_chain)
 }
 
 #[test]

@@ -12,7 +12,7 @@ use text_output::Format;
 
 const LAST_LINE: u64 = 18446744073709551615;
 
-// A word for an answer, and its line between two marks.
+// A word for an answer, and its line between two marks, as in all tables of answers by words.
 const ANSWERS: &str = "\
 changed=ok changed=
 unchanged=ok unchanged=
@@ -42,6 +42,12 @@ fn answer_of(word: &str) -> Result<Answer, RowFault> {
             triples: u64::MAX,
             pairs: 0,
             results: 7,
+        }),
+        "notice" => Ok(Answer::Notice { count: 1 }),
+        "last notice" => Ok(Answer::Notice { count: u64::MAX }),
+        "no term" => Ok(Answer::OfShape {
+            code: 30,
+            shape: u32::MAX,
         }),
         "refused at" => Ok(Answer::RefusedAt {
             line: 3,
@@ -99,8 +105,8 @@ pub(super) fn puts_line(
     )
 }
 
-// Whether the answer of a row is put as its line.
-fn puts_answer(alloc: Global, row: &str) -> Result<bool, RowFault> {
+/// Whether the answer of a row is put as its line.
+pub(super) fn puts_answer(alloc: Global, row: &str) -> Result<bool, RowFault> {
     let (word, line) = cut(row, "=")?;
     let answer = answer_of(word)?;
     let line = format!(in alloc; "{}\n", line.trim_end_matches('='))?;
@@ -112,14 +118,21 @@ fn answers_are_put_whole(rt: HostRuntime) -> Result<(), Fail> {
     all_met(rt.alloc(), ANSWERS, puts_answer)
 }
 
+const USAGE: &str = "usage: shacl_keep [--format lines|turtle] [--base IRI] SHAPES DATA [SCRIPT]";
+
+// Whether the usage is put as this line, in Turtle too.
+fn puts_usage(alloc: Global, line: &str) -> Result<bool, RowFault> {
+    let pool = all_terms(alloc)?;
+    let text = format!(in alloc; "{line}\n")?;
+    Ok(
+        puts_text(alloc, &Answer::Usage, &pool, Format::Lines, &text)
+            && puts_text(alloc, &Answer::Usage, &pool, Format::Turtle, &text),
+    )
+}
+
 #[test]
 fn the_usage_is_no_comment(rt: HostRuntime) -> Result<(), Fail> {
-    let alloc = rt.alloc();
-    let pool = all_terms(alloc)?;
-    let usage = "usage: shacl_keep [--format lines|turtle] [--base IRI] SHAPES DATA [SCRIPT]\n";
-    assert!(rt; puts_text(alloc, &Answer::Usage, &pool, Format::Lines, usage));
-    assert!(rt; puts_text(alloc, &Answer::Usage, &pool, Format::Turtle, usage));
-    Ok(())
+    all_met(rt.alloc(), USAGE, puts_usage)
 }
 
 // Each code with its name.

@@ -73,14 +73,13 @@ fn is_put(alloc: Global, path: &Path, pool: &Pool, format: Format, text: &str) -
 
 // Whether the path of a row is put as the row says.
 fn is_as_said(alloc: Global, row: &str) -> Result<bool, RowFault> {
-    let (words, lines, turtle) = in_three(row, " : ")?;
+    let row = spelled_out(alloc, row)?;
+    let (words, lines, turtle) = in_three(&row, " : ")?;
     let pool = all_terms(alloc)?;
     let path = path_of(alloc, &pool, words)?;
-    let lines = spelled_out(alloc, lines)?;
-    let turtle = spelled_out(alloc, turtle)?;
     Ok(
-        is_put(alloc, &path, &pool, Format::Lines, &lines)
-            && is_put(alloc, &path, &pool, Format::Turtle, &turtle),
+        is_put(alloc, &path, &pool, Format::Lines, lines)
+            && is_put(alloc, &path, &pool, Format::Turtle, turtle),
     )
 }
 

@@ -9,7 +9,7 @@ use report_write::{add_head, add_rows, add_tail, write_report};
 use row_tools::{RowFault, all_blocks_met, cut, in_four, in_three};
 use shape_eval::Plan;
 use shx_outside::MemorySink;
-use shx_term::{Memory, Pieces, Pool};
+use shx_term::{Pieces, Pool};
 use std::alloc::Global;
 use std::test::Fail;
 use text_output::{Format, Writer};
@@ -37,7 +37,7 @@ fn is_put_behind(
     pool: &Pool,
     format: Format,
     text: &str,
-) -> Result<bool, Memory> {
+) -> bool {
     let mut sink = MemorySink::new(alloc, 4096, Vec::new(alloc));
     let mut writer = Writer::new(&mut sink);
     writer.add(b"before\n");
@@ -46,9 +46,7 @@ fn is_put_behind(
     add_rows(front.iter(), plan, pool, format, &mut writer);
     add_rows(back.iter(), plan, pool, format, &mut writer);
     add_tail(format, &mut writer);
-    let is_put = writer.finish().is_ok();
-    let text = format!(in alloc; "before\n{text}")?;
-    Ok(is_put && sink.bytes() == text.as_bytes())
+    writer.finish().is_ok() && sink.bytes().strip_prefix(b"before\n") == Some(text.as_bytes())
 }
 
 // Whether the results of some lines, over a plan of some lines, are put as this text.
@@ -64,7 +62,7 @@ fn are_put(
     let rows = results_of(alloc, &pool, lines)?;
     Ok(
         is_put(alloc, &rows, &plan, &pool, format, text)
-            && is_put_behind(alloc, &rows, &plan, &pool, format, text)?,
+            && is_put_behind(alloc, &rows, &plan, &pool, format, text),
     )
 }
 
@@ -78,13 +76,13 @@ fn is_as_said(alloc: Global, block: &str) -> Result<bool, RowFault> {
 
 // Whether the results of a block are put as its third part, which states the triples of its last part.
 fn is_as_said_in_turtle(alloc: Global, block: &str) -> Result<bool, RowFault> {
-    let (_title, block) = cut(block, "\n")?;
+    let block = spelled_out(alloc, block)?;
+    let (_title, block) = cut(&block, "\n")?;
     let (shapes, lines, text, triples) = in_four(block, "\n| ")?;
-    let text = format!(in alloc; "{}\n", spelled_out(alloc, text)?)?;
-    let triples = format!(in alloc; "{}\n", spelled_out(alloc, triples)?)?;
+    let text = format!(in alloc; "{text}\n")?;
     Ok(
         are_put(alloc, shapes, lines, Format::Turtle, &text)?
-            && triples_in(alloc, &text)?.as_slice() == triples.as_bytes(),
+            && triples_in(alloc, &text)?.as_str().strip_suffix('\n') == Some(triples),
     )
 }
 

@@ -13,17 +13,12 @@ fn optional(alloc: Global, pool: &Pool, word: &str) -> Result<Option<Id>, RowFau
     }
 }
 
-fn kind_of(word: &str) -> Result<u8, RowFault> {
-    match word.parse::<u8>() {
-        Ok(kind) => Ok(kind),
-        Err(_) => Err(RowFault::Unread),
-    }
-}
-
 fn result_of(alloc: Global, pool: &Pool, line: &str) -> Result<ResultRow, RowFault> {
     let (kind, focus, value, rest) = in_four(line, " ")?;
     let (predicate, shape) = cut(rest, " ")?;
-    let kind = kind_of(kind)?;
+    let Ok(kind) = u8::try_from(number(kind)?) else {
+        return Err(RowFault::Unread);
+    };
     let focus = id_of(alloc, pool, focus)?;
     let value = optional(alloc, pool, value)?;
     let predicate = optional(alloc, pool, predicate)?;

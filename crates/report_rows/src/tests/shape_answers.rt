@@ -1,5 +1,5 @@
 //! Answers about the shapes. In a line `{a}` is the IRI `http://e/a`, and `{sh:in}` one of SHACL.
-use super::answers::puts_line;
+use super::answers::{puts_answer, puts_line};
 use super::terms::{all_terms, id_of, spelled_out};
 use report_write::Answer;
 use row_tools::{RowFault, all_met, cut, in_four, number};
@@ -74,26 +74,19 @@ fn faults_of_shapes_tell_the_shape(rt: HostRuntime) -> Result<(), Fail> {
     all_met(rt.alloc(), SHAPE_FAULTS, puts_shape_fault)
 }
 
+const NO_TERM: &str = "no term=fault shapes: 30 Recursive shape =";
+
 #[test]
 fn a_number_without_a_term_is_told_as_nothing(rt: HostRuntime) -> Result<(), Fail> {
-    let alloc = rt.alloc();
-    let pool = all_terms(alloc)?;
-    let fault = Answer::OfShape {
-        code: 30,
-        shape: u32::MAX,
-    };
-    assert!(rt; puts_line(alloc, &fault, &pool, "fault shapes: 30 Recursive shape \n")?);
-    Ok(())
+    all_met(rt.alloc(), NO_TERM, puts_answer)
 }
+
+const NOTICES: &str = "\
+notice=notice: 1 sh:sparql triples ignored=
+last notice=notice: 18446744073709551615 sh:sparql triples ignored=
+";
 
 #[test]
 fn notices_tell_a_count(rt: HostRuntime) -> Result<(), Fail> {
-    let alloc = rt.alloc();
-    let pool = all_terms(alloc)?;
-    let one = Answer::Notice { count: 1 };
-    assert!(rt; puts_line(alloc, &one, &pool, "notice: 1 sh:sparql triples ignored\n")?);
-    let last = Answer::Notice { count: u64::MAX };
-    let text = "notice: 18446744073709551615 sh:sparql triples ignored\n";
-    assert!(rt; puts_line(alloc, &last, &pool, text)?);
-    Ok(())
+    all_met(rt.alloc(), NOTICES, puts_answer)
 }

@@ -21,12 +21,17 @@ fn term_of(alloc: Global, word: &str) -> Result<Term, RowFault> {
     term(alloc, word.as_str())
 }
 
+fn enter_all(alloc: Global, pool: &mut Pool, words: &str) -> Result<(), RowFault> {
+    for word in words.split_whitespace() {
+        pool.enter(&term_of(alloc, word)?)?;
+    }
+    Ok(())
+}
+
 /// A pool of these terms.
 pub(super) fn all_terms(alloc: Global) -> Result<Pool, RowFault> {
     let mut pool = Pool::with_vocabulary(alloc, VOCABULARY_LEN + ROOM)?;
-    for word in TERMS.split_whitespace() {
-        pool.enter(&term_of(alloc, word)?)?;
-    }
+    enter_all(alloc, &mut pool, TERMS)?;
     Ok(pool)
 }
 
@@ -44,13 +49,11 @@ pub(super) fn id_of(alloc: Global, pool: &Pool, word: &str) -> Result<Id, RowFau
 /// SHACL, and `{rdf:type}` one of RDF.
 pub(super) fn spelled_out(alloc: Global, text: &str) -> Result<String, Memory> {
     let rdf = "<http://www.w3.org/1999/02/22-rdf-syntax-ns#";
-    let text = text.replace(alloc, "{rdf:", rdf)?;
-    let text = text
-        .as_str()
-        .replace(alloc, "{xsd:", "<http://www.w3.org/2001/XMLSchema#")?;
-    let text = text
-        .as_str()
-        .replace(alloc, "{sh:", "<http://www.w3.org/ns/shacl#")?;
-    let text = text.as_str().replace(alloc, "{", "<http://e/")?;
+    let mut text = text.replace(alloc, "{rdf:", rdf)?;
+    let xsd = "<http://www.w3.org/2001/XMLSchema#";
+    text = text.as_str().replace(alloc, "{xsd:", xsd)?;
+    let sh = "<http://www.w3.org/ns/shacl#";
+    text = text.as_str().replace(alloc, "{sh:", sh)?;
+    text = text.as_str().replace(alloc, "{", "<http://e/")?;
     text.as_str().replace(alloc, "}", ">")
 }

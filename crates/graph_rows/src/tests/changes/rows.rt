@@ -1,95 +1,92 @@
 //! Changes of graphs: words of triples that are added and removed.
 
-pub const BASE: &str = "apc apb bpc aqb cqb";
-
-/// Of each row the triples that are added to `BASE`, those that are removed, a question, and its answer.
+/// Of each row the triples of a graph, those that are added to it, those that are removed, a question, and
+/// its answer.
 pub const PATCHED: &str = "\
-||ap?|b c
-||?pc|a b
-||a??|apb apc aqb
-||?p?|apb apc bpc
-||len|5
-||apb|true
-||apd|false
-apa apd||ap?|a b c d
-apa apd||a??|apa apb apc apd aqb
-apa apd||?p?|apa apb apc apd bpc
-apa apd||len|7
-apa apd||apd|true
-apa apd||apb|true
-cpc dpc||?pc|a b c d
-|apb|ap?|c
-|apb|?pb|-
-|apb|a??|apc aqb
-|apb|?p?|apc bpc
-|apb|len|4
-|apb|apb|false
-|apb|apc|true
-|apb aqb|?qb|c
-|apb apc aqb|a??|-
-apa|apc|ap?|a b
-apa|apb apc|ap?|a
-apd|apb|a??|apc apd aqb
-dpc|apc|?pc|b d
-cpa|bpc|?p?|apb apc cpa
-apd|apb|len|5
-apd|apb|apd|true
-apd|apb|apb|false
-bqd|cqb|ap?|b c
-bqd|cqb|?pc|a b
-bqd|cqb|a??|apb apc aqb
-bqd|cqb|?p?|apb apc bpc
-bqd|cqb|?qb|a
-bqd|cqb|b??|bpc bqd
-|bpc|ap?|b c
-|apc|?pc|b
-dqd||dq?|d
-dqd||d??|dqd
-|cqb|c??|-";
+apc apb bpc aqb cqb: ||ap?|b c
+apc apb bpc aqb cqb: ||?pc|a b
+apc apb bpc aqb cqb: ||a??|apb apc aqb
+apc apb bpc aqb cqb: ||?p?|apb apc bpc
+apc apb bpc aqb cqb: ||len|5
+apc apb bpc aqb cqb: ||apb|true
+apc apb bpc aqb cqb: ||apd|false
+apc apb bpc aqb cqb: apa apd||ap?|a b c d
+apc apb bpc aqb cqb: apa apd||a??|apa apb apc apd aqb
+apc apb bpc aqb cqb: apa apd||?p?|apa apb apc apd bpc
+apc apb bpc aqb cqb: apa apd||len|7
+apc apb bpc aqb cqb: apa apd||apd|true
+apc apb bpc aqb cqb: apa apd||apb|true
+apc apb bpc aqb cqb: cpc dpc||?pc|a b c d
+apc apb bpc aqb cqb: |apb|ap?|c
+apc apb bpc aqb cqb: |apb|?pb|-
+apc apb bpc aqb cqb: |apb|a??|apc aqb
+apc apb bpc aqb cqb: |apb|?p?|apc bpc
+apc apb bpc aqb cqb: |apb|len|4
+apc apb bpc aqb cqb: |apb|apb|false
+apc apb bpc aqb cqb: |apb|apc|true
+apc apb bpc aqb cqb: |apb aqb|?qb|c
+apc apb bpc aqb cqb: |apb apc aqb|a??|-
+apc apb bpc aqb cqb: apa|apc|ap?|a b
+apc apb bpc aqb cqb: apa|apb apc|ap?|a
+apc apb bpc aqb cqb: apd|apb|a??|apc apd aqb
+apc apb bpc aqb cqb: dpc|apc|?pc|b d
+apc apb bpc aqb cqb: cpa|bpc|?p?|apb apc cpa
+apc apb bpc aqb cqb: apd|apb|len|5
+apc apb bpc aqb cqb: apd|apb|apd|true
+apc apb bpc aqb cqb: apd|apb|apb|false
+apc apb bpc aqb cqb: bqd|cqb|ap?|b c
+apc apb bpc aqb cqb: bqd|cqb|?pc|a b
+apc apb bpc aqb cqb: bqd|cqb|a??|apb apc aqb
+apc apb bpc aqb cqb: bqd|cqb|?p?|apb apc bpc
+apc apb bpc aqb cqb: bqd|cqb|?qb|a
+apc apb bpc aqb cqb: bqd|cqb|b??|bpc bqd
+apc apb bpc aqb cqb: |bpc|ap?|b c
+apc apb bpc aqb cqb: |apc|?pc|b
+apc apb bpc aqb cqb: dqd||dq?|d
+apc apb bpc aqb cqb: dqd||d??|dqd
+apc apb bpc aqb cqb: |cqb|c??|-";
 
-pub const WIDE_BASE: &str = "apx upd apu dpd apd bpd apb aqb";
-
-/// The same over `WIDE_BASE`, with triples that come first, in the middle and last of what is found.
+/// The same with triples that come first, in the middle and last of what is found.
 pub const PLACES: &str = "\
-||ap?|b d u x
-apa||ap?|a b d u x
-apc||ap?|b c d u x
-apy||ap?|b d u y x
-|apb|ap?|d u x
-|apd|ap?|b u x
-|apu|ap?|b d x
-|apx|ap?|b d u
-|apb apd apu apx|ap?|-
-apa apt|apb apx|ap?|a d u t
-apz|apx|ap?|b d u z
-||?pd|a b d u
-cpd||?pd|a b c d u
-tpd||?pd|a b d u t
-|apd|?pd|b d u
-|bpd|?pd|a d u
-|upd|?pd|a b d
-tpd cpd|apd dpd|?pd|b c u t
-||a??|apb apd apu apx aqb
-apa||a??|apa apb apd apu apx aqb
-apc||a??|apb apc apd apu apx aqb
-aqc||a??|apb apd apu apx aqb aqc
-aqa||a??|apb apd apu apx aqa aqb
-|apb|a??|apd apu apx aqb
-|apu|a??|apb apd apx aqb
-|aqb|a??|apb apd apu apx
-abx|aqb|a??|abx apb apd apu apx
-||?p?|apb apd apu apx bpd dpd upd
-apa||?p?|apa apb apd apu apx bpd dpd upd
-cpa||?p?|apb apd apu apx bpd cpa dpd upd
-upx||?p?|apb apd apu apx bpd dpd upd upx
-|apb|?p?|apd apu apx bpd dpd upd
-|bpd|?p?|apb apd apu apx dpd upd
-|upd|?p?|apb apd apu apx bpd dpd
-bqd aqc|aqb|ap?|b d u x
-bqd aqc|aqb|?pd|a b d u
-bqd aqc|aqb|d??|dpd
-bqd aqc|aqb|?p?|apb apd apu apx bpd dpd upd
-bqd aqc|aqb|?b?|-";
+apx upd apu dpd apd bpd apb aqb: ||ap?|b d u x
+apx upd apu dpd apd bpd apb aqb: apa||ap?|a b d u x
+apx upd apu dpd apd bpd apb aqb: apc||ap?|b c d u x
+apx upd apu dpd apd bpd apb aqb: apy||ap?|b d u y x
+apx upd apu dpd apd bpd apb aqb: |apb|ap?|d u x
+apx upd apu dpd apd bpd apb aqb: |apd|ap?|b u x
+apx upd apu dpd apd bpd apb aqb: |apu|ap?|b d x
+apx upd apu dpd apd bpd apb aqb: |apx|ap?|b d u
+apx upd apu dpd apd bpd apb aqb: |apb apd apu apx|ap?|-
+apx upd apu dpd apd bpd apb aqb: apa apt|apb apx|ap?|a d u t
+apx upd apu dpd apd bpd apb aqb: apz|apx|ap?|b d u z
+apx upd apu dpd apd bpd apb aqb: ||?pd|a b d u
+apx upd apu dpd apd bpd apb aqb: cpd||?pd|a b c d u
+apx upd apu dpd apd bpd apb aqb: tpd||?pd|a b d u t
+apx upd apu dpd apd bpd apb aqb: |apd|?pd|b d u
+apx upd apu dpd apd bpd apb aqb: |bpd|?pd|a d u
+apx upd apu dpd apd bpd apb aqb: |upd|?pd|a b d
+apx upd apu dpd apd bpd apb aqb: tpd cpd|apd dpd|?pd|b c u t
+apx upd apu dpd apd bpd apb aqb: ||a??|apb apd apu apx aqb
+apx upd apu dpd apd bpd apb aqb: apa||a??|apa apb apd apu apx aqb
+apx upd apu dpd apd bpd apb aqb: apc||a??|apb apc apd apu apx aqb
+apx upd apu dpd apd bpd apb aqb: aqc||a??|apb apd apu apx aqb aqc
+apx upd apu dpd apd bpd apb aqb: aqa||a??|apb apd apu apx aqa aqb
+apx upd apu dpd apd bpd apb aqb: |apb|a??|apd apu apx aqb
+apx upd apu dpd apd bpd apb aqb: |apu|a??|apb apd apx aqb
+apx upd apu dpd apd bpd apb aqb: |aqb|a??|apb apd apu apx
+apx upd apu dpd apd bpd apb aqb: abx|aqb|a??|abx apb apd apu apx
+apx upd apu dpd apd bpd apb aqb: ||?p?|apb apd apu apx bpd dpd upd
+apx upd apu dpd apd bpd apb aqb: apa||?p?|apa apb apd apu apx bpd dpd upd
+apx upd apu dpd apd bpd apb aqb: cpa||?p?|apb apd apu apx bpd cpa dpd upd
+apx upd apu dpd apd bpd apb aqb: upx||?p?|apb apd apu apx bpd dpd upd upx
+apx upd apu dpd apd bpd apb aqb: |apb|?p?|apd apu apx bpd dpd upd
+apx upd apu dpd apd bpd apb aqb: |bpd|?p?|apb apd apu apx dpd upd
+apx upd apu dpd apd bpd apb aqb: |upd|?p?|apb apd apu apx bpd dpd
+apx upd apu dpd apd bpd apb aqb: bqd aqc|aqb|ap?|b d u x
+apx upd apu dpd apd bpd apb aqb: bqd aqc|aqb|?pd|a b d u
+apx upd apu dpd apd bpd apb aqb: bqd aqc|aqb|d??|dpd
+apx upd apu dpd apd bpd apb aqb: bqd aqc|aqb|?p?|apb apd apu apx bpd dpd upd
+apx upd apu dpd apd bpd apb aqb: bqd aqc|aqb|?b?|-";
 
 /// Of each row how many triples a graph may hold, its triples, those that are removed, those that are added,
 /// and how that ends.

@@ -1,13 +1,13 @@
-//! Data texts, each before a mark with a line: base, prefixes and blank nodes are those at the end of the text.
+//! Data texts, each before a mark with a line: base, prefixes and blank nodes are those at the text's end.
 
 pub const ROWS: &str = r##"¦insert <s> <p> <o> .→insert <http://a/s> <http://a/p> <http://a/o>
 @base <http://e/f/> .¦insert <s> <p> <o> .→insert <http://e/f/s> <http://e/f/p> <http://e/f/o>
-BASE <http://e/f/> <a:s> a 1 . @base <../h/> .¦insert <s> a <o> .→insert <http://e/h/s> <rdf:type> <http://e/h/o>
-@base <http://e/> . @base <http://f/> .¦insert <s> a "o"^^<t> .→insert <http://f/s> <rdf:type> "o"^^<http://f/t>
+BASE <a:/e/f/> <a:s> a 1 . @base <../h/> .¦insert <s> a <o> .→insert <a:/e/h/s> <rdf:type> <a:/e/h/o>
+@base <a:/e/> . @base <a:/f/> .¦insert <s> a "o"^^<t> .→insert <a:/f/s> <rdf:type> "o"^^<a:/f/t>
 @prefix e: <http://e/> .¦insert e:s a 1 .→insert <http://e/s> <rdf:type> "1"^^<xsd:integer>
-@prefix e: <http://e/> . @prefix e: <http://f/> .¦insert e:s a e:o .→insert <http://f/s> <rdf:type> <http://f/o>
+@prefix e: <a:/e/> . @prefix e: <a:/f/> .¦insert e:s a e:o .→insert <a:/f/s> <rdf:type> <a:/f/o>
 @prefix e: <n/> .¦insert e:s a e:o .→insert <http://a/n/s> <rdf:type> <http://a/n/o>
-@base <http://e/> . @prefix e: <n/> . @base <http://f/> .¦remove e:s <p> <o> .→remove <http://e/n/s> <http://f/p> <http://f/o>
+@base <a:/e/> . @prefix e: <n/> . @base <a:/f/> .¦remove e:s <p> <o>.→remove <a:/e/n/s> <a:/f/p> <a:/f/o>
 PREFIX insert: <http://e/>¦insert insert:s a insert: .→insert <http://e/s> <rdf:type> <http://e/>
 @prefix a: <http://e/> .¦insert a:s a:p a:o .→insert <http://e/s> <http://e/p> <http://e/o>
 @prefix a: <http://e/> .¦insert a:s a a: .→insert <http://e/s> <rdf:type> <http://e/>

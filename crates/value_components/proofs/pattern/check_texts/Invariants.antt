@@ -13,6 +13,6 @@ invariant-loop-v g l =
       rows :
           l.out.items
           ≡ l.fn.out.items
-          ++ each_unless (is_so_at (has_match pattern.text pattern.flags) (g.V.GraphView.graph l.view)) PATTERN
-          l.at (take l.v-index l.values);
+          ++ each_unless (is_so_at (has_match pattern.text pattern.flags) (g.V.GraphView.graph l.view))
+          PATTERN l.at (take l.v-index l.values);
     }

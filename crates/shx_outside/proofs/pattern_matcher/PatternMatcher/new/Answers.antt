@@ -11,6 +11,7 @@ invariant_of-result c =
     let built = c.pattern.inside in
     let finds = regex_finds built.regex built.flags c.pattern.invariant.0 c.pattern.invariant.1 in (
       subst (λ (re : Re). FindsAs re c.args.pattern.now) (sym c.in_ok-matcher.ensures.pattern)
-          (subst (λ (pattern : BuiltPattern). FindsAs (regex_pattern built.regex) pattern) c.pattern.view_is finds),
+          (subst (λ (pattern : BuiltPattern). FindsAs (regex_pattern built.regex) pattern) c.pattern.view_is
+          finds),
       tt,
     )

@@ -33,8 +33,8 @@ before c =
 after : (c : goal.After-set) → left_for (texts_from (files c) c.self.inside.piece c.set.new.self) c.args.role
     ≡ Some (drop (count c) (left c))
 after c =
-    left_for-moved (files c) c.self.inside.piece c.set.new.self (places c) c.args.role c.in-Some.place (left c)
-    (count c) c.set.ensures (text c)
+    left_for-moved (files c) c.self.inside.piece c.set.new.self (places c) c.args.role c.in-Some.place
+    (left c) (count c) c.set.ensures (text c)
 
 pub invariant_of-self : goal.invariant_of-self
 invariant_of-self c =

@@ -12,8 +12,8 @@ returns-then-not-branch-clause-line g c =
     let now = left_of c.fill.new.self rest in
     let filled = Gathers-filled _ _ now _ _ _ _ _ before c.fill.ensures.took c.fill.ensures.budget in
     let end = c.in_ok-fill.ensures.end (search rules) in
-    line-last _ rest c.fill.new.self _ _ _ filled end.0 (c.fill.ensures.goes_on.met.told end.1) end.1 (search rules)
-    c.line_of.result c.line_of.ensures
+    line-last _ rest c.fill.new.self _ _ _ filled end.0 (c.fill.ensures.goes_on.met.told end.1) end.1
+    (search rules) c.line_of.result c.line_of.ensures
 
 pub loop-line-preserved : goal.loop-line-preserved
 loop-line-preserved g c =

@@ -1,0 +1,4 @@
+pub mod RangeLemmas
+pub mod ReadingLemmas
+pub mod RecordLemmas
+pub mod TouchedLemmas

@@ -1,0 +1,3 @@
+mod cells;
+mod rows;
+mod steps;

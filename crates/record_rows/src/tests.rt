@@ -1,3 +1,4 @@
 mod cells;
+mod results;
 mod rows;
 mod steps;

@@ -1,0 +1,2 @@
+pub mod PairResults
+pub mod inner

@@ -1,0 +1,3 @@
+-- Words of the inside: what is proved of public calls can be believed without them.
+pub mod Invariant
+pub mod ToCome

@@ -1,0 +1,108 @@
+-- The parts of a renewal, and what each step of gathering them does.
+use Rattle.std.specs.Prelude.{◌≡◌, ℕ, nat_eq, not, List, [], ◌∷◌, ◌++◌, map, filter, flat_map, All, Contains}
+use Rattle.std.specs.List.{IsDistinct}
+use Rattle.shx_term.specs.Members.{Adds}
+use Rattle.shx_term.specs.declared.triple.Triple.{Triple}
+use Rattle.graph_view.specs.Graph.{Graph}
+use Rattle.comp_core.specs.declared.pair.Pair.{Pair}
+use Rattle.comp_core.specs.Pairs.{same_pair}
+use Rattle.shape_eval.specs.declared.shape.PlanShape.{PlanShape}
+use Rattle.shape_eval.specs.Report.{at_shape}
+use Rattle.shape_eval.specs.Targets.{target_nodes}
+use Rattle.read_records.specs.declared.reader.Reader.{Reader}
+use Rattle.read_records.specs.declared.reader.Reader.TheVariants.{OfPair, OfTarget}
+use Rattle.read_records.specs.Records.{IsTouched, Recorded}
+use Rattle.edit_renewal.specs.declared.renewal.Evaluated.{Evaluated}
+use Rattle.edit_renewal.specs.declared.renewal.Renewal.{Renewal}
+use Rattle.edit_renewal.specs.Pairs.{pairs_of}
+use Rattle.edit_renewal.specs.Renewal.{IsDifference, IsReadNow, IsRight, pairs_evaluated, shapes_renewed}
+use Rattle.edit_renewal.specs.Touched.{is_among_pairs}
+
+-- ---- readers
+
+-- one of the triples touches what is recorded of the reader
+pub record IsTouchedByAny (state : Recorded) (changed : List Triple) (reader : Reader) : Type 0 where
+  pub triple : Triple
+  pub changes : Contains changed triple
+  pub touched : IsTouched state triple reader
+
+abbrev pub reader_pairs : Reader → List Pair
+reader_pairs (OfTarget n) = []
+reader_pairs (OfPair p) = p ∷ []
+
+abbrev pub reader_targets : Reader → List ℕ
+reader_targets (OfTarget n) = n ∷ []
+reader_targets (OfPair p) = []
+
+-- the pairs among some readers that are not leaving
+abbrev pub pairs_staying : List Reader → List Pair → List Pair
+pairs_staying readers leaving = filter (λ p. not (is_among_pairs leaving p)) (flat_map reader_pairs readers)
+
+abbrev pub targets_among : List Reader → List ℕ
+targets_among readers = flat_map reader_targets readers
+
+-- ---- steps
+
+-- nothing is to be kept
+pub record IsEmptyRenewal (renewal : Renewal) : Type 0 where
+  pub targets : renewal.targets.items ≡ []
+  pub entering : renewal.entering.items ≡ []
+  pub leaving : renewal.leaving.keys ≡ []
+  pub evaluated : renewal.evaluated.items ≡ []
+
+-- nothing changed but what was evaluated
+pub record SameTargets (old new : Renewal) : Type 0 where
+  pub targets : new.targets.items ≡ old.targets.items
+  pub entering : new.entering.items ≡ old.entering.items
+  pub leaving : new.leaving.keys ≡ old.leaving.keys
+
+-- nothing changed but what enters
+pub record OnlyEnters (old new : Renewal) : Type 0 where
+  pub targets : new.targets.items ≡ old.targets.items
+  pub leaving : new.leaving.keys ≡ old.leaving.keys
+  pub evaluated : new.evaluated.items ≡ old.evaluated.items
+
+-- nothing changed but what leaves
+pub record OnlyLeaves (old new : Renewal) : Type 0 where
+  pub targets : new.targets.items ≡ old.targets.items
+  pub entering : new.entering.items ≡ old.entering.items
+  pub evaluated : new.evaluated.items ≡ old.evaluated.items
+
+-- these pairs leave beside those before, each once
+pub record AlsoLeave (ps : List Pair) (old new : List Pair) : Type 0 where
+  pub adds : Adds old new ps
+  pub once : IsDistinct same_pair old → IsDistinct same_pair new
+
+-- these pairs were evaluated beside those before, in turn
+pub record Evaluates (shapes : List PlanShape) (g : Graph) (old new : List Evaluated)
+    (ps : List Pair) : Type 0 where
+  pub more : List Evaluated
+  pub new_is : new ≡ old ++ more
+  pub pairs : pairs_evaluated more ≡ ps
+  pub right : All (IsRight shapes g) more
+
+-- one target, all of whose nodes enter
+pub record OpensTarget (shapes : List PlanShape) (g : Graph) (n : ℕ) (renewal : Renewal) : Type 0 where
+  pub targets : shapes_renewed renewal.targets.items ≡ n ∷ []
+  pub reads : All (IsReadNow shapes g) renewal.targets.items
+  pub entering : renewal.entering.items ≡ pairs_of shapes (n ∷ []) g
+  pub leaving : renewal.leaving.keys ≡ []
+
+-- one target more, from one graph to another: what enters it and what leaves it
+pub record RenewsTarget (shapes : List PlanShape) (g h : Graph) (n : ℕ) (old new : Renewal) : Type 0 where
+  pub targets : shapes_renewed new.targets.items ≡ shapes_renewed old.targets.items ++ n ∷ []
+  pub reads : All (IsReadNow shapes h) old.targets.items → All (IsReadNow shapes h) new.targets.items
+  pub entered : List ℕ
+  pub enters : IsDifference nat_eq (target_nodes shapes h n) (target_nodes shapes g n) entered
+  pub entering : new.entering.items ≡ old.entering.items ++ map (at_shape n) entered
+  pub left : List ℕ
+  pub leaves : IsDifference nat_eq (target_nodes shapes g n) (target_nodes shapes h n) left
+  pub leaving : AlsoLeave (map (at_shape n) left) old.leaving.keys new.leaving.keys
+
+-- the renewal of these targets, from one graph to another
+pub record RenewsTargets (shapes : List PlanShape) (g h : Graph) (ns : List ℕ)
+    (renewal : Renewal) : Type 0 where
+  pub targets : shapes_renewed renewal.targets.items ≡ ns
+  pub reads : All (IsReadNow shapes h) renewal.targets.items
+  pub entering : IsDifference same_pair (pairs_of shapes ns h) (pairs_of shapes ns g) renewal.entering.items
+  pub leaving : IsDifference same_pair (pairs_of shapes ns g) (pairs_of shapes ns h) renewal.leaving.keys

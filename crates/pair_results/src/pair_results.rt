@@ -77,7 +77,8 @@ impl PairResults {
 
     /// How many results there are. It takes no memory, and constant time.
     pub fn len(&self) -> u64
-        ensures { result ≡ length (all_rows self.now) }
+        ensures count { result ≡ length (all_rows self.now) }
+        ensures ordered { AreInTermOrder self.now }
     {
         self.count
     }

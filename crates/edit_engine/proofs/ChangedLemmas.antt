@@ -1,0 +1,316 @@
+-- A change of the graph: what it does not touch is as it was, in whatever order the triples stand.
+use Rattle.std.specs.Prelude.{◌≡◌, ℕ, ◌+◌, Bool, true, false, not, ◌||◌, List, [], ◌∷◌, ◌++◌, map}
+use Rattle.std.specs.Prelude.{length, slice_get, Some, All, Contains}
+use Rattle.std.specs.List.{IsDistinct, list_any}
+use Rattle.std.proofs.Common.{refl, sym, ap, ◌∙◌, subst, inl, inr, true≢false}
+use Rattle.std.proofs.lemmas.List.Elements.{Contains-append_left, Contains-append_right}
+use Rattle.std.proofs.lemmas.List.{length-map}
+use Rattle.shx_term.specs.Members.{SameMembers}
+use Rattle.shx_term.specs.TermOrder.{same_term}
+use Rattle.shx_term.specs.declared.term.Term.{Term}
+use Rattle.shx_term.specs.declared.triple.Triple.{Triple}
+use Rattle.shx_term.proofs.MemberLemmas.{All_of_each, Contains-cases, Contains-filter, Contains-from_filter}
+use Rattle.shx_term.proofs.MemberLemmas.{Contains-from_map}
+use Rattle.shx_term.proofs.MemberLemmas.{Contains-test, each_of_All}
+use Rattle.shx_term.proofs.MemberLemmas.{flat_map_agree}
+use Rattle.shx_term.proofs.MemberLemmas.{none_in_empty}
+use Rattle.shx_term.proofs.SetLemmas.{SameMembers-itself, SameMembers-sym, SameMembers-then}
+use Rattle.graph_view.specs.Agree.{Agree, IsUntouched}
+use Rattle.graph_view.specs.Graph.{Graph, AllKnown}
+use Rattle.graph_view.specs.Key.{is_touching, Touches}
+use Rattle.graph_view.specs.Patched.{IsBeside, patched}
+use Rattle.graph_view.specs.SameGraph.{SameGraph}
+use Rattle.graph_view.specs.declared.key.Key.{Key}
+use Rattle.graph_view.specs.Valid.{IsValidTriple}
+use Rattle.graph_view.proofs.AgreeLemmas.{Agree-fewer, Agree-on_terms, AgreeOn-same}
+use Rattle.graph_view.proofs.KeyLemmas.{touching}
+use Rattle.graph_view.proofs.PatchedLemmas.{Agree-patched, IsValidView-patched, is_not}
+use Rattle.graph_view.proofs.SameGraphLemmas.{IsDistinct-filter}
+use Rattle.graph_view.proofs.ValidLemmas.{AllKnown-valid, IsValidView-exchanged}
+use Rattle.comp_core.specs.declared.pair.Pair.{Pair}
+use Rattle.comp_core.specs.Pairs.{same_pair, same_pair_equiv, same_pair_exact}
+use Rattle.shape_eval.specs.declared.shape.PlanShape.{PlanShape}
+use Rattle.shape_eval.specs.Laws.{IsSameTarget, ResultsDependOnReads, TargetsDependOnReads}
+use Rattle.shape_eval.specs.Plan.{IsKnownPlan, Planned}
+use Rattle.shape_eval.specs.Report.{at_shape, pairs}
+use Rattle.shape_eval.specs.Results.{pair_reads}
+use Rattle.shape_eval.specs.Targets.{target_nodes, target_reads}
+use Rattle.read_records.specs.declared.reader.Reader.TheVariants.{OfPair, OfTarget}
+use Rattle.read_records.specs.Records.{Commits}
+use Rattle.pair_results.specs.PairResults.{Commits as CommitsRows}
+use Rattle.edit_renewal.specs.declared.renewal.Renewal.{Renewal}
+use Rattle.edit_renewal.specs.MayBeAsked.{MayBeAsked}
+use Rattle.edit_renewal.specs.Renewal.{IsRenewal, pairs_evaluated}
+use Rattle.edit_renewal.specs.Touched.{is_among_pairs, is_any_touched, touched_pairs}
+use Rattle.edit_engine.specs.declared.kept.Kept.{Kept}
+use Rattle.edit_engine.specs.inner.Kept.{IsIdle, IsKeptOf, SameKept}
+use Rattle.edit_engine.specs.inner.Staged.{IsStaged, MayBeStaged}
+use Rattle.edit_engine.proofs.StagedLemmas.{SameRecords-then, SameRows-then}
+use Rattle.edit_engine.proofs.KnownPairLemmas.{pair_known}
+use Rattle.edit_engine.proofs.PairLemmas.{length-differences, length-same_members, pair_or_not}
+use Rattle.edit_engine.proofs.PairLemmas.{pairs_distinct}
+use Rattle.edit_engine.proofs.RenewLemmas.{IsKeptOf-renewed, MayBeStaged-renews, Renews}
+
+-- ---- tests
+
+or_left : (a b : Bool) → a ≡ true → a || b ≡ true
+or_left true b e = refl
+or_left false b e = absurd (true≢false (sym e))
+
+or_right : (a b : Bool) → b ≡ true → a || b ≡ true
+or_right true b e = refl
+or_right false b e = e
+
+-- a test that one of the elements passes
+any_to : {X : Type 0} (p : X → Bool) (xs : List X) (x : X) → Contains xs x → p x ≡ true → list_any p xs ≡ true
+any_to p [] x c h = absurd (none_in_empty x c)
+any_to p (y ∷ ys) x c h = elim (Contains-cases y x ys c) [
+  | inl e ↦ or_left (p y) (list_any p ys) (ap p (sym e) ∙ h)
+  | inr d ↦ or_right (p y) (list_any p ys) (any_to p ys x d h)
+]
+
+-- keys that no triple touches are beside the change
+untouched : (added removed : List Triple) (keys : List Key)
+    → (is_any_touched (added ++ removed) keys ≡ true → ⊥) → (key : Key) → Contains keys key
+    → IsBeside added removed key
+untouched added removed keys none key c =
+    let of = λ (t : Triple) (d : Contains (added ++ removed) t) (h : Touches t key).
+    none (any_to (λ u. list_any (is_touching u) keys) (added ++ removed) t d
+    (any_to (is_touching t) keys key c ((touching t key).1 h))) in (
+      All_of_each (λ t. IsUntouched t key) added (λ t d. of t (Contains-append_left added removed t d)),
+      All_of_each (λ t. IsUntouched t key) removed (λ t d. of t (Contains-append_right added removed t d)),
+    )
+
+-- ---- a renewal
+
+module _ (plan : Planned) (g h : Graph) (added removed : List Triple) (renewal : Renewal)
+    (asked : MayBeAsked plan g) (known : AllKnown h) (terms : h.terms ≡ g.terms)
+    (agree : Agree g h (IsBeside added removed)) (law : ResultsDependOnReads)
+    (is : IsRenewal plan g h (added ++ removed) renewal) where
+  abbrev found_pairs : List Pair
+  found_pairs = pairs_evaluated renewal.evaluated.items
+
+  abbrev is_touched : Pair → Bool
+  is_touched p =
+      not (is_among_pairs (pairs plan g) p) || is_any_touched (added ++ removed) (pair_reads plan.shapes g p)
+
+  -- a pair that was not evaluated is touched by nothing
+  passes : (p : Pair) → Contains (pairs plan h) p → (Contains found_pairs p → ⊥) → is_touched p ≡ true → ⊥
+  passes p c free e = free ((is.pairs.each p).1 (Contains-filter is_touched (pairs plan h) p c e))
+
+  was_pair : (p : Pair) → Contains (pairs plan h) p → (Contains found_pairs p → ⊥)
+      → Contains (pairs plan g) p
+  was_pair p c free = elim (pair_or_not (pairs plan g) p) [
+    | inl held ↦ held
+    | inr absent ↦
+        let not_held = is_not (is_among_pairs (pairs plan g) p) (λ e.
+        absent ((Contains-test same_pair same_pair_equiv same_pair_exact (pairs plan g) p).0 e)) in
+        absurd (passes p c free (or_left _ _ not_held))
+  ]
+
+  pub Renews-changed : Renews plan.shapes plan.targeted plan.targeted g h renewal
+  Renews-changed = record {
+    terms = terms;
+    stay = λ n c. c;
+    targets = λ n c.
+        let at = Contains-from_map (λ target. target.shape) renewal.targets.items n c in
+        subst (Contains plan.targeted) (sym at.2)
+        (each_of_All (λ target. Contains plan.targeted target.shape) renewal.targets.items is.targets
+        at.0 at.1);
+    targets_once = is.targets_once;
+    reads = is.reads;
+    other_targets = λ n c free. (c, is.other_targets n c free);
+    leaving_once = is.leaving.once;
+    leaving = is.leaving.each;
+    evaluated_once = is.pairs_once;
+    evaluated = λ p c. (Contains-from_filter is_touched (pairs plan h) p ((is.pairs.each p).0 c)).0;
+    right = is.right;
+    others = λ p c free.
+        let was = was_pair p c free in
+        let known_g = AllKnown-valid g asked.valid in
+        let node = (pair_known plan.shapes g known_g asked.known plan.targeted asked.within p was).node in
+        let beside = untouched added removed (pair_reads plan.shapes g p)
+        (λ e. passes p c free (or_right _ _ e)) in (
+          was,
+          law plan.shapes asked.refers g h known_g known asked.known p node
+              (Agree-fewer (Contains (pair_reads plan.shapes g p)) beside agree),
+        );
+    count = length-differences (pairs plan g) (pairs plan h) renewal.leaving.keys renewal.entering.items
+        (pairs_distinct plan.shapes g plan.targeted asked.once)
+        (pairs_distinct plan.shapes h plan.targeted asked.once) is.leaving is.entering;
+  }
+
+-- ---- graphs that hold the same triples
+
+module _ (plan : Planned) (g h : Graph) (asked : MayBeAsked plan g) (known : AllKnown h)
+    (terms : h.terms ≡ g.terms) (same : SameMembers g.triples h.triples) where
+  known_before : AllKnown g
+  known_before = AllKnown-valid g asked.valid
+
+  agree_on : (keys : List Key) → Agree g h (Contains keys)
+  agree_on keys = Agree-on_terms terms (AgreeOn-same same)
+
+  module _ (results_law : ResultsDependOnReads) (targets_law : TargetsDependOnReads) where
+    same_target : (n : ℕ) → IsSameTarget plan.shapes g h n
+    same_target n =
+        targets_law plan.shapes g h known_before known asked.known n (agree_on (target_reads plan.shapes g n))
+
+    same_pairs : pairs plan g ≡ pairs plan h
+    same_pairs =
+        flat_map_agree (λ n. map (at_shape n) (target_nodes plan.shapes g n))
+        (λ n. map (at_shape n) (target_nodes plan.shapes h n)) plan.targeted
+        (λ n c. ap (map (at_shape n)) (same_target n).nodes)
+
+    pub IsKeptOf-same : (kept : Kept) → IsKeptOf plan.shapes plan.targeted g kept
+        → IsKeptOf plan.shapes plan.targeted h kept
+    IsKeptOf-same kept is =
+        let was = λ (p : Pair) (c : Contains (pairs plan h) p).
+        subst (λ ps. Contains ps p) (sym same_pairs) c in
+        let now = λ (p : Pair) (c : Contains (pairs plan g) p). subst (λ ps. Contains ps p) same_pairs c in
+        let alike = λ (p : Pair) (c : Contains (pairs plan g) p).
+        results_law plan.shapes asked.refers g h known_before known asked.known p
+        (pair_known plan.shapes g known_before asked.known plan.targeted asked.within p c).node
+        (agree_on (pair_reads plan.shapes g p)) in
+        record {
+          records = record {
+            targets = λ n c.
+                let holds = is.records.targets n c in
+                record {
+                  reads = holds.reads;
+                  recorded = holds.recorded;
+                  same = SameMembers-then holds.same (same_target n).reads;
+                };
+            pairs = λ p c.
+                let holds = is.records.pairs p (was p c) in
+                record {
+                  reads = holds.reads;
+                  recorded = holds.recorded;
+                  same = SameMembers-then holds.same (alike p (was p c)).reads;
+                };
+            no_target = is.records.no_target;
+            no_pair = λ p free. is.records.no_pair p (λ c. free (now p c));
+          };
+          results = record {
+            pairs = λ p node c at.
+                is.results.pairs p node (was p c) (subst (λ ts. slice_get ts p.node ≡ Some node) terms at)
+                ∙ (alike p (was p c)).rows;
+            others = λ n node none. is.results.others n node (λ id at c.
+                none id (subst (λ ts. slice_get ts id ≡ Some node) (sym terms) at) (now (at_shape n id) c));
+          };
+          count = is.count ∙ ap length same_pairs;
+          places = is.places;
+          idle = is.idle;
+        }
+
+-- a plan may be asked of the changed graph
+pub MayBeAsked-exchanged : (plan : Planned) (g h : Graph) (added removed : List Triple) → MayBeAsked plan g
+    → All (IsValidTriple g.terms) added → h.terms ≡ g.terms
+    → SameMembers h.triples (patched g added removed).triples → MayBeAsked plan h
+MayBeAsked-exchanged plan g h added removed asked fit terms same = record {
+  valid = IsValidView-exchanged g h added removed asked.valid fit terms same;
+  known = subst (λ ts. IsKnownPlan ts plan.shapes) (sym terms) asked.known;
+  refers = asked.refers;
+  within = asked.within;
+  once = asked.once;
+}
+
+-- ---- a change that is made, or refused
+
+pub SameGraph-exchanged : (g h : Graph) (added removed : List Triple) → h.terms ≡ g.terms
+    → SameMembers h.triples (patched g added removed).triples
+    → length h.triples ≡ length (patched g added removed).triples → SameGraph (patched g added removed) h
+SameGraph-exchanged g h added removed terms same count = record {
+  terms = sym terms;
+  triples = SameMembers-sym same;
+  count = sym count;
+}
+
+-- what is evaluated is as many as what is touched
+pub length-evaluated : (plan : Planned) (g h : Graph) (changed : List Triple) (renewal : Renewal)
+    → MayBeAsked plan g → IsRenewal plan g h changed renewal
+    → length renewal.evaluated.items ≡ length (touched_pairs plan g h changed)
+length-evaluated plan g h changed renewal asked is =
+    let test = λ (p : Pair).
+    not (is_among_pairs (pairs plan g) p) || is_any_touched changed (pair_reads plan.shapes g p) in
+    let once = IsDistinct-filter test same_pair (pairs plan h)
+    (pairs_distinct plan.shapes h plan.targeted asked.once) in
+    sym (length-map renewal.evaluated.items (λ found. found.pair))
+    ∙ length-same_members (pairs_evaluated renewal.evaluated.items) (touched_pairs plan g h changed)
+    is.pairs_once once is.pairs
+
+-- the changed graph may hold its triples in another order than the patched one
+pub IsKeptOf-made : ResultsDependOnReads → TargetsDependOnReads
+    → (plan : Planned) (g h : Graph) (added removed : List Triple) (renewal : Renewal) → MayBeAsked plan g
+    → All (IsValidTriple g.terms) added
+    → IsRenewal plan g (patched g added removed) (added ++ removed) renewal → h.terms ≡ g.terms
+    → SameMembers h.triples (patched g added removed).triples
+    → IsDistinct same_term g.terms → (old mid new : Kept) → IsKeptOf plan.shapes plan.targeted g old
+    → IsStaged g.terms old mid renewal → Commits mid.records new.records → CommitsRows mid.results new.results
+    → length new.results.shapes ≡ length mid.results.shapes → new.pairs ≡ mid.coming → IsIdle new
+    → IsKeptOf plan.shapes plan.targeted h new
+IsKeptOf-made results_law targets_law plan g h added removed renewal asked fit is terms same once old mid new
+    kept staged commits rows places pairs idle =
+    let patch = patched g added removed in
+    let asked_patch =
+    MayBeAsked-exchanged plan g patch added removed asked fit refl (SameMembers-itself patch.triples) in
+    let asked_h = MayBeAsked-exchanged plan g h added removed asked fit terms same in
+    let renews = Renews-changed plan g patch added removed renewal asked
+    (AllKnown-valid patch asked_patch.valid) refl (Agree-patched g added removed) results_law is in
+    let kept_patch = IsKeptOf-renewed plan.shapes plan.targeted plan.targeted g patch renewal renews old mid
+    new kept staged commits rows once places pairs idle in
+    IsKeptOf-same plan patch h asked_patch (AllKnown-valid h asked_h.valid) terms (SameMembers-sym same)
+    results_law targets_law new kept_patch
+
+-- what is staged for a change may be staged
+pub MayBeStaged-changed : ResultsDependOnReads → (plan : Planned) (g : Graph) (added removed : List Triple)
+    (renewal : Renewal) → MayBeAsked plan g → All (IsValidTriple g.terms) added
+    → IsRenewal plan g (patched g added removed) (added ++ removed) renewal → (kept : Kept)
+    → IsKeptOf plan.shapes plan.targeted g kept → MayBeStaged g.terms kept renewal
+MayBeStaged-changed results_law plan g added removed renewal asked fit is kept holds =
+    let patch = patched g added removed in
+    let known = AllKnown-valid patch (IsValidView-patched g added removed asked.valid fit) in
+    MayBeStaged-renews plan.shapes plan.targeted plan.targeted g patch renewal
+    (Renews-changed plan g patch added removed renewal asked known refl (Agree-patched g added removed)
+    results_law is)
+    kept (AllKnown-valid g asked.valid) known asked.known asked.within asked.within holds
+
+-- what is refused leaves all as it was
+pub IsKeptOf-unchanged : (shapes : List PlanShape) (ns : List ℕ) (g : Graph) (old new : Kept)
+    → IsKeptOf shapes ns g old → SameKept old new → IsKeptOf shapes ns g new
+IsKeptOf-unchanged shapes ns g old new is same = record {
+  records = record {
+    targets = λ n c.
+        let holds = is.records.targets n c in
+        record {
+          reads = holds.reads;
+          recorded = same.records.each (OfTarget n) ∙ holds.recorded;
+          same = holds.same;
+        };
+    pairs = λ p c.
+        let holds = is.records.pairs p c in
+        record {
+          reads = holds.reads;
+          recorded = same.records.each (OfPair p) ∙ holds.recorded;
+          same = holds.same;
+        };
+    no_target = λ n free. same.records.each (OfTarget n) ∙ is.records.no_target n free;
+    no_pair = λ p free. same.records.each (OfPair p) ∙ is.records.no_pair p free;
+  };
+  results = record {
+    pairs = λ p node c at. same.rows.each p.shape node ∙ is.results.pairs p node c at;
+    others = λ n node none. same.rows.each n node ∙ is.results.others n node none;
+  };
+  count = same.pairs ∙ is.count;
+  places = same.places ∙ is.places;
+  idle = same.idle;
+}
+
+pub SameKept-dropped : (terms : List Term) (old mid new : Kept) (renewal : Renewal)
+    → IsStaged terms old mid renewal → mid.pairs ≡ old.pairs → SameKept mid new → SameKept old new
+SameKept-dropped terms old mid new renewal staged pairs dropped = record {
+  records = SameRecords-then staged.records dropped.records;
+  rows = SameRows-then staged.rows dropped.rows;
+  places = dropped.places ∙ staged.places;
+  pairs = dropped.pairs ∙ pairs;
+  idle = dropped.idle;
+}

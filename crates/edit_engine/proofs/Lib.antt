@@ -1,0 +1,14 @@
+pub mod AppliedLemmas
+pub mod ChangedLemmas
+pub mod EnterLemmas
+pub mod KnownPairLemmas
+pub mod LeftLemmas
+pub mod OpeningLemmas
+pub mod PairLemmas
+pub mod PatchLemmas
+pub mod PlanLemmas
+pub mod PutLemmas
+pub mod RenewLemmas
+pub mod StagedLemmas
+pub mod StatedLemmas
+pub mod TellLemmas

@@ -1,0 +1,29 @@
+use Rattle.std.proofs.Common.{[], ◌∷◌}
+use Rattle.shx_term.proofs.NumberedLemmas.{numbered-in_turn}
+use Rattle.edit_engine.proofs.StatedLemmas.{found_later, room_for_two, with_two}
+use Rattle.edit_engine.proofs.stated.enter_terms.Goals as goal
+
+pub number-requires-2-clause-room : goal.number-requires-2-clause-room
+number-requires-2-clause-room g c =
+    let graph = g.E.GraphView.graph in
+    let t = c.args.stated.now in
+    rw c.number.ensures.term_limit
+    (room_for_two (graph c.args.graph.now).terms (graph c.number.new.graph).terms t.s t.p t.o
+    (g.E.GraphView.term_limit c.args.graph.now) c.in_ok-s.ensures.terms c.requires.room)
+
+pub number-requires-3-clause-found : goal.number-requires-3-clause-found
+number-requires-3-clause-found g c =
+    let graph = g.E.GraphView.graph in
+    let t = c.args.stated.now in
+    let entered = with_two (graph c.args.graph.now).terms (graph c.number.new.graph).terms
+    (graph c.number-2.new.graph).terms t.s t.p c.in_ok-s.ensures.terms c.in_ok-p.ensures.terms in
+    rw entered (found_later (graph c.args.graph.now).terms (t.s ∷ (t.p ∷ [])) t.o c.args.found.now.o
+    c.requires.found.o)
+
+pub returns-clause-triple : goal.returns-clause-triple
+returns-clause-triple g c =
+    let graph = g.E.GraphView.graph in
+    numbered-in_turn (graph c.number.new.graph).terms (graph c.number-2.new.graph).terms
+    (graph c.number-3.new.graph).terms
+    c.args.stated.now c.in_ok-s.s c.in_ok-p.p c.in_ok-o.o c.in_ok-p.ensures.terms c.in_ok-o.ensures.terms
+    c.in_ok-s.ensures.number c.in_ok-p.ensures.number c.in_ok-o.ensures.number

@@ -1,0 +1,64 @@
+-- What an edit makes of an engine.
+use Rattle.std.specs.Prelude.{◌≡◌, ℕ, true, false, List, ◌++◌, length}
+use Rattle.shx_term.specs.declared.term.Term.{Term}
+use Rattle.graph_view.specs.Graph.{Graph}
+use Rattle.graph_view.specs.SameGraph.{SameGraph}
+use Rattle.edit_engine.specs.declared.edit.Change.{Change}
+use Rattle.edit_engine.specs.declared.edit.Edit.{Edit}
+use Rattle.edit_engine.specs.declared.edit.EditFault.{EditFault}
+use Rattle.edit_engine.specs.declared.edit.EditFault.TheVariants.{TooManyTriples, TooManyTerms, Memory}
+use Rattle.edit_engine.specs.Edits.{Outcome, NoEffect, PastTriples, PastTerms, Effect}
+use Rattle.edit_engine.specs.Edits.{changed_by, edited, outcome}
+use Rattle.edit_engine.specs.EngineState.{EngineState}
+use Rattle.edit_renewal.specs.Touched.{touched_pairs}
+
+abbrev pub outcome_of : EngineState → Edit → Outcome
+outcome_of state edit = outcome state.triple_limit state.term_limit state.graph edit
+
+-- the same triples, over the same terms and perhaps more
+pub record HasMoreTerms (old new : Graph) : Type 0 where
+  pub more : List Term
+  pub terms : new.terms ≡ old.terms ++ more
+  pub triples : new.triples ≡ old.triples
+
+-- the plan and the limits stay
+pub record SamePlan (old new : EngineState) : Type 0 where
+  pub plan : new.plan ≡ old.plan
+  pub term_limit : new.term_limit ≡ old.term_limit
+  pub triple_limit : new.triple_limit ≡ old.triple_limit
+
+-- the graph is the edited one, and as many pairs were evaluated as the edit touches
+pub record IsEdited (old : EngineState) (edit : Edit) (change : Change) (new : EngineState) : Type 0 where
+  pub changed : change.changed ≡ true
+  pub graph : SameGraph (edited old.graph edit) new.graph
+  pub evaluated : change.evaluated
+      ≡ length (touched_pairs old.plan old.graph (edited old.graph edit) (changed_by old.graph edit))
+
+-- nothing changed, and no pair was evaluated
+pub record IsUnchanged (old : EngineState) (change : Change) (new : EngineState) : Type 0 where
+  pub changed : change.changed ≡ false
+  pub evaluated : change.evaluated ≡ 0
+  pub same : new ≡ old
+
+-- an edit that came through, by what comes of it
+abbrev pub applied_as : EngineState → Edit → Change → EngineState → Outcome → Type 0
+applied_as old edit change new NoEffect = IsUnchanged old change new
+applied_as old edit change new PastTriples = ⊥
+applied_as old edit change new PastTerms = ⊥
+applied_as old edit change new Effect = IsEdited old edit change new
+
+abbrev pub Applies : EngineState → Edit → Change → EngineState → Type 0
+Applies old edit change new = applied_as old edit change new (outcome_of old edit)
+
+-- nothing changed, and no step was counted, since this is what comes of the edit
+pub record IsRefused (old : EngineState) (edit : Edit) (cause : Outcome) (new : EngineState)
+    (before after : ℕ) : Type 0 where
+  pub cause_is : outcome_of old edit ≡ cause
+  pub same : new ≡ old
+  pub steps : after ≡ before
+
+-- an edit that was refused, by its fault; where memory was wanted, only terms may have been entered
+abbrev pub Refuses : EngineState → Edit → EditFault → EngineState → ℕ → ℕ → Type 0
+Refuses old edit TooManyTriples new before after = IsRefused old edit PastTriples new before after
+Refuses old edit TooManyTerms new before after = IsRefused old edit PastTerms new before after
+Refuses old edit Memory new before after = HasMoreTerms old.graph new.graph

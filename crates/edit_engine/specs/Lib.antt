@@ -1,0 +1,5 @@
+pub mod Applied
+pub mod EditFault
+pub mod Edits
+pub mod EngineState
+pub mod inner

@@ -1,0 +1,5 @@
+-- Words of the inside: what is proved of public calls can be believed without them.
+pub mod Kept
+pub mod Put
+pub mod Staged
+pub mod Stated

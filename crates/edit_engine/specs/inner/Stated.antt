@@ -1,0 +1,16 @@
+-- The terms of a triple that are held, and the triple of their numbers.
+use Rattle.std.specs.Prelude.{◌≡◌, List, Option}
+use Rattle.shx_term.specs.declared.term.Term.{Term}
+use Rattle.shx_term.specs.declared.triple.Triple.{Triple}
+use Rattle.shx_term.specs.declared.triple.TermTriple.{TermTriple}
+use Rattle.shx_term.specs.TripleTerms.{number_in, triple_of_numbers}
+use Rattle.edit_engine.specs.declared.stated.Found.{Found}
+
+-- what was found is the numbers of the triple's terms
+pub record IsFound (terms : List Term) (t : TermTriple) (found : Found) : Type 0 where
+  pub s : found.s ≡ number_in terms t.s
+  pub p : found.p ≡ number_in terms t.p
+  pub o : found.o ≡ number_in terms t.o
+
+abbrev pub found_triple : Found → Option Triple
+found_triple found = triple_of_numbers found.s found.p found.o

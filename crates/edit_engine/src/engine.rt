@@ -1,0 +1,39 @@
+use crate::kept::Kept;
+use graph_view::GraphEdit;
+use shape_eval::Plan;
+use std::marker::Model;
+
+/// A graph and a plan, with the report of the plan on the graph, which edits keep current.
+///
+/// It keeps the results of each pair of a targeted shape and one of its target nodes, and for each pair, and
+/// each target, the keys that were read.
+#[derive(Drop)]
+pub struct Engine<V: GraphEdit> {
+    pub(crate) plan: Plan,
+    pub(crate) view: V,
+    pub(crate) kept: Kept,
+}
+
+impl<V: GraphEdit> Model for Engine<V> {
+    ghost use Rattle.shape_eval.specs.Planned.{plan_of};
+    ghost use Rattle.edit_renewal.specs.MayBeAsked.{MayBeAsked};
+    ghost use Rattle.edit_engine.specs.EngineState.{EngineState};
+    ghost use Rattle.edit_engine.specs.inner.Kept.{IsKeptOf};
+
+    ghost Value = { EngineState };
+
+    ghost use Rattle.std.specs.Coded.{codes};
+    ghost use Rattle.path_eval.specs.contracts.path.Path as path;
+
+    ghost coded = { Prim.hlevel (codes, path.the_row.coded) };
+
+    ghost view = { λ a. record {
+      plan = plan_of a.plan;
+      graph = V.GraphView.graph a.view;
+      term_limit = V.GraphView.term_limit a.view;
+      triple_limit = V.triple_limit a.view;
+    } };
+
+    ghost invariant = { λ a. MayBeAsked (plan_of a.plan) (V.GraphView.graph a.view)
+        × IsKeptOf (plan_of a.plan).shapes (plan_of a.plan).targeted (V.GraphView.graph a.view) a.kept };
+}

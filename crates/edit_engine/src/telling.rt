@@ -1,0 +1,64 @@
+//! What an engine tells of the present graph.
+ghost use Rattle.std.specs.Prelude.{◌≡◌, length};
+ghost use Rattle.comp_core.specs.Rows.{is_empty};
+ghost use Rattle.shape_eval.specs.Planned.{plan_of};
+ghost use Rattle.shape_eval.specs.Report.{pairs, report};
+ghost use Rattle.edit_renewal.specs.MayBeAsked.{MayBeAsked};
+
+use crate::Engine;
+use graph_view::{GraphEdit, GraphView};
+use pair_results::{Rows, results_stand_in_term_order};
+use shape_eval::Plan;
+
+impl<V: GraphEdit> Engine<V> {
+    /// Whether the report has no results. It takes no memory, and constant time, as the next two do.
+    pub fn conforms(&self) -> bool
+        ensures { result ≡ is_empty (report self.now.plan self.now.graph) }
+    {
+        self.result_count() == 0
+    }
+
+    /// How many results the report has.
+    pub fn result_count(&self) -> u64
+        ensures { result ≡ length (report self.now.plan self.now.graph) }
+    {
+        results_stand_in_term_order();
+        // The terms of the pool are distinct.
+        let _ = self.view.pool().len();
+        self.kept.results.len()
+    }
+
+    /// How many pairs there are: of each targeted shape its target nodes.
+    pub fn pair_count(&self) -> u64
+        ensures { result ≡ length (pairs self.now.plan self.now.graph) }
+    {
+        self.kept.pairs
+    }
+
+    /// The results of the report, in order. It takes no memory, and neither does a step.
+    pub fn rows(&self) -> Rows<'_>
+        ensures { result ≡ report self.now.plan self.now.graph }
+    {
+        results_stand_in_term_order();
+        // The terms of the pool are distinct.
+        let _ = self.view.pool().len();
+        self.kept.results.rows(self.plan.targeted())
+    }
+
+    /// The plan. It takes no memory.
+    pub fn plan(&self) -> &Plan
+        ensures { plan_of result.now ≡ self.now.plan }
+    {
+        &self.plan
+    }
+
+    /// The graph, of which the plan may be asked. It takes no memory.
+    pub fn view(&self) -> &V
+        ensures asked { MayBeAsked self.now.plan self.now.graph }
+        ensures graph { V.GraphView.graph result.now ≡ self.now.graph }
+        ensures term_limit { V.GraphView.term_limit result.now ≡ self.now.term_limit }
+        ensures triple_limit { V.triple_limit result.now ≡ self.now.triple_limit }
+    {
+        &self.view
+    }
+}

@@ -33,7 +33,7 @@ instance_agreement g h known known' node inside agree class =
     (path_agreement g h known known' Forward instance_route node inside agree).nodes
 
 -- where the types of a node are kept, and all subclasses, so are its classes
-instance_kept : (ts us : List Triple) (node : ℕ)
+pub instance_kept : (ts us : List Triple) (node : ℕ)
     → ((o : ℕ) → Contains ts (record { s = node; p = RDF_TYPE; o = o })
     → Contains us (record { s = node; p = RDF_TYPE; o = o }))
     → ((s o : ℕ) → Contains ts (record { s = s; p = RDFS_SUB_CLASS_OF; o = o })

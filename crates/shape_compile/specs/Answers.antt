@@ -1,6 +1,7 @@
 -- What is answered of declared shapes: a plan, or what stands in its way.
-use Rattle.std.specs.Prelude.{◌≡◌, ℕ, List, Result, Ok, Err, ⊤}
+use Rattle.std.specs.Prelude.{◌≡◌, ℕ, List, Option, Some, Result, Ok, Err, ⊤}
 use Rattle.shx_outside.specs.Counted.{Rose}
+use Rattle.shx_outside.specs.Outside.{FlaggedText}
 use Rattle.shx_outside.specs.Patterns.{IsNoPattern}
 use Rattle.shx_term.specs.declared.limits.Limits.{Limits}
 use Rattle.shx_term.specs.declared.term.Term.{Term}
@@ -57,3 +58,26 @@ HasPatternCause before now (Err (fault.ReferencesTooDeep shape)) = now ≡ befor
 HasPatternCause before now (Err (fault.BadPattern shape)) = now ≡ before
 HasPatternCause before now (Err (fault.PatternRefused shape)) = Rose before now
 HasPatternCause before now (Err fault.Memory) = now ≡ before
+
+-- what the host refused last is a pattern that the shape states, with its flags
+pub record IsRefusedPattern (terms : List Term) (ds : List Declaration) (shape : ℕ)
+    (last : Option FlaggedText) : Type 0 where
+  pub decl : Declaration
+  pub node : decl.node ≡ shape
+  pub value : ℕ
+  pub states : StatesPattern ds decl value
+  pub last_is : last ≡ Some (record { flags = flags_of terms decl; text = text_at terms value })
+
+-- the host's last one is the pattern that was refused, where one was, and in every other case it stays
+abbrev pub LastRefused : List Term → List Declaration → Option FlaggedText → Option FlaggedText → CompileFault
+    → Type 0
+LastRefused terms ds before now (fault.Recursive cycle) = now ≡ before
+LastRefused terms ds before now (fault.ReferencesTooDeep shape) = now ≡ before
+LastRefused terms ds before now (fault.BadPattern shape) = now ≡ before
+LastRefused terms ds before now (fault.PatternRefused shape) = IsRefusedPattern terms ds shape now
+LastRefused terms ds before now fault.Memory = now ≡ before
+
+abbrev pub TellsRefused : {T : Type 0} → List Term → List Declaration → Option FlaggedText
+    → Option FlaggedText → Result T CompileFault → Type 0
+TellsRefused terms ds before now (Ok value) = now ≡ before
+TellsRefused terms ds before now (Err why) = LastRefused terms ds before now why

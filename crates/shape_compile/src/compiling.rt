@@ -5,7 +5,7 @@ ghost use Rattle.shape_eval.specs.Plan.{IsPlan};
 ghost use Rattle.shape_eval.specs.Planned.{plan_of};
 ghost use Rattle.shx_outside.specs.Told.{StaysAdmitted};
 ghost use Rattle.shape_compile.specs.Accepted.{AreFaultless};
-ghost use Rattle.shape_compile.specs.Answers.{HasPatternCause, IsPlanOf, Tells};
+ghost use Rattle.shape_compile.specs.Answers.{HasPatternCause, IsPlanOf, Tells, TellsRefused};
 ghost use Rattle.shape_compile.specs.Patterns.{AreAdmitted};
 ghost use Rattle.shape_compile.specs.inner.Ready.{AreReady};
 
@@ -52,6 +52,8 @@ pub fn compile<P: PatternHost>(
     ensures fits { IfOk result (λ plan. IsPlan pool.now.terms (plan_of plan).shapes) }
     ensures fault { IfErr result (Tells limits.now pool.now.terms (map told_decl decls.now)) }
     ensures cause { HasPatternCause (P.state patterns.old).faults (P.state patterns.new).faults result }
+    ensures refused { TellsRefused pool.now.terms (map told_decl decls.now)
+        (P.state patterns.old).refused (P.state patterns.new).refused result }
     ensures admitted { StaysAdmitted (P.admits patterns.old) (P.admits patterns.new) }
 {
     stand_ready(decls, pool, limits);

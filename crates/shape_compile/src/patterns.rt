@@ -1,10 +1,10 @@
 //! The patterns of all shapes are built before any plan is made of them.
-ghost use Rattle.std.specs.Prelude.{◌≡◌, ◌≤◌, ℕ, map, length, Contains, IfErr, IfOk};
+ghost use Rattle.std.specs.Prelude.{◌≡◌, ◌≤◌, ℕ, [], ◌∷◌, map, length, Contains, IfErr, IfOk};
 ghost use Rattle.shape_decl.specs.Declarations.{told_decl, values_under};
 ghost use Rattle.shx_outside.specs.Told.{StaysAdmitted};
 ghost use Rattle.shx_term.specs.declared.vocabulary.TheConstants.{SH_PATTERN as PATTERN_PREDICATE};
 ghost use Rattle.shape_refs.specs.Order.{StandInOrder};
-ghost use Rattle.shape_compile.specs.Answers.{HasPatternCause};
+ghost use Rattle.shape_compile.specs.Answers.{HasPatternCause, TellsRefused};
 ghost use Rattle.shape_compile.specs.Patterns.{AreAdmitted, flags_of, text_at};
 ghost use Rattle.shape_compile.specs.inner.Built.{AreBuilt, HaveOnePattern, IsBuiltFor, StopsAtPattern};
 ghost use Rattle.shape_compile.specs.inner.Built.{StopsHere};
@@ -35,6 +35,8 @@ pub(crate) fn build_patterns<P: PatternHost>(
         (map told_decl declared.now.decls.now)) }
     ensures admitted { StaysAdmitted (P.admits host.old) (P.admits host.new) }
     ensures cause { HasPatternCause (P.state host.old).faults (P.state host.new).faults result }
+    ensures refused { TellsRefused declared.now.pool.now.terms (map told_decl declared.now.decls.now)
+        (P.state host.old).refused (P.state host.new).refused result }
 {
     let mut built = Vec::with_capacity(alloc, declared.decls.len())?;
     for decl in declared.decls {
@@ -57,6 +59,8 @@ fn build_pattern<P: PatternHost>(
     ensures stops { IfErr result (StopsHere pool.now.terms (told_decl decl.now)) }
     ensures admitted { StaysAdmitted (P.admits host.old) (P.admits host.new) }
     ensures cause { HasPatternCause (P.state host.old).faults (P.state host.new).faults result }
+    ensures refused { TellsRefused pool.now.terms (told_decl decl.now ∷ [])
+        (P.state host.old).refused (P.state host.new).refused result }
 {
     let Some(value) = decl.values_of(SH_PATTERN).first() else {
         return Ok(None);

@@ -35,12 +35,19 @@ Took-then {xs = xs} {ys = ys} first next = record {
 }
 
 pub OthersStay-same : (role : Role) (state : InputState) → OthersStay role state state
-OthersStay-same role state = record { opened = λ other apart. refl; rest = λ other apart. refl }
+OthersStay-same role state = record {
+  opened = λ other apart. refl;
+  opens = λ other apart. refl;
+  whole = λ other apart. refl;
+  rest = λ other apart. refl;
+}
 
 pub OthersStay-then : {role : Role} {s0 s1 s2 : InputState}
     → OthersStay role s0 s1 → OthersStay role s1 s2 → OthersStay role s0 s2
 OthersStay-then first next = record {
   opened = λ other apart. next.opened other apart ∙ first.opened other apart;
+  opens = λ other apart. next.opens other apart ∙ first.opens other apart;
+  whole = λ other apart. next.whole other apart ∙ first.whole other apart;
   rest = λ other apart. next.rest other apart ∙ first.rest other apart;
 }
 

@@ -1,5 +1,5 @@
 -- Counts of what went wrong: only a call that fails raises one, and no call lowers it.
-use Rattle.std.specs.Prelude.{◌≡◌, ◌≢◌, ℕ, ◌+◌, ◌<◌, ◌≤◌, ◌⊎◌, ◌==◌, if◌then◌else◌, Result, is_err}
+use Rattle.std.specs.Prelude.{◌≡◌, ◌≢◌, ℕ, ◌+◌, ◌<◌, ◌≤◌, ◌⊎◌, ◌==◌, if◌then◌else◌, Result, is_ok, is_err}
 use Rattle.std.specs.Prelude.{Err, OnOk, OnErr}
 use Rattle.shx_outside.specs.declared.pattern_fault.PatternFault.{PatternFault}
 use Rattle.shx_outside.specs.declared.pattern_fault.PatternFault.TheVariants.{Refused}
@@ -15,6 +15,10 @@ next_count n = if n == last_count then n else n + 1
 -- the count after a call: one more where it failed
 abbrev pub faults_after : {T E : Type 0} → ℕ → Result T E → ℕ
 faults_after before result = if is_err result then next_count before else before
+
+-- the count of what was opened, after a call: one more where it succeeded
+abbrev pub opens_after : {T E : Type 0} → ℕ → Result T E → ℕ
+opens_after before result = if is_ok result then next_count before else before
 
 -- the count rose, or stands at its last value
 pub record Rose (before now : ℕ) : Type 0 where

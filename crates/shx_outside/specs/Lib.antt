@@ -6,8 +6,10 @@ pub mod HonestSink
 pub mod MemoryInputs
 pub mod MemorySink
 pub mod OpenTexts
+pub mod Opens
 pub mod Outside
 pub mod Patterns
+pub mod RegexHost
 pub mod Roomy
 pub mod Told
 pub mod inner

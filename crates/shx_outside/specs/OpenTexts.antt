@@ -1,19 +1,27 @@
--- Texts that are held in memory, each opened by its name: what a name holds, and what is left for each role.
+-- Texts that are held in memory, each opened by its name: what a name holds, and for each role what was
+-- opened, how often, and what is left of it.
 use Rattle.std.specs.Prelude.{◌≡◌, ℕ, List, [], Bool, bytes_eq, Option, Some, None, find, is_some}
 use Rattle.std.specs.Prelude.{length, min, IfSome}
 use Rattle.std.specs.List.{list_any}
 use Rattle.shx_outside.specs.declared.named_text.NamedText.{NamedText}
+use Rattle.shx_outside.specs.declared.open_counts.OpenCounts.{OpenCounts}
 use Rattle.shx_outside.specs.declared.role.Role.{Role}
 use Rattle.shx_outside.specs.declared.role.Role.TheVariants.{Shapes, Data, Script}
+use Rattle.shx_outside.specs.Opens.{opens_of}
 use Rattle.shx_outside.specs.Outside.{InputState}
 
--- the texts, the most bytes of a read, and what is left for each role that is opened
+-- the texts and the most bytes of a read; the whole text of each role that is opened, and what is left of it;
+-- and how often each role was opened
 pub record OpenTexts : Type 0 where
   pub files : List NamedText
   pub piece : ℕ
+  pub shapes_whole : Option (List ℕ)
+  pub data_whole : Option (List ℕ)
+  pub script_whole : Option (List ℕ)
   pub shapes_left : Option (List ℕ)
   pub data_left : Option (List ℕ)
   pub script_left : Option (List ℕ)
+  pub opens : OpenCounts
 
 -- whether a text has this name
 abbrev pub is_named : List ℕ → NamedText → Bool
@@ -32,6 +40,12 @@ bytes_of None = []
 abbrev pub bytes_named : List NamedText → List ℕ → List ℕ
 bytes_named files name = bytes_of (find (is_named name) files)
 
+-- the whole text of a role, if it is opened
+abbrev pub whole_for : OpenTexts → Role → Option (List ℕ)
+whole_for texts Shapes = texts.shapes_whole
+whole_for texts Data = texts.data_whole
+whole_for texts Script = texts.script_whole
+
 -- what is left for a role, if it is opened
 abbrev pub left_for : OpenTexts → Role → Option (List ℕ)
 left_for texts Shapes = texts.shapes_left
@@ -44,6 +58,8 @@ texts_told faults texts =
     record {
       text = λ name. Some (bytes_named texts.files name);
       opened = λ role. is_some (left_for texts role);
+      opens = opens_of texts.opens;
+      whole = whole_for texts;
       rest = left_for texts;
       faults = faults;
     }

@@ -1,7 +1,10 @@
--- What inputs and sinks tell of the bytes that they hold. Each fact speaks only where something is told.
-use Rattle.std.specs.Prelude.{◌≡◌, ◌≢◌, ℕ, ◌+◌, List, [], ◌++◌, Option, Some}
+-- What inputs and sinks tell of the bytes that they hold, and hosts of what they refused. Of bytes and room
+-- each fact speaks only where they are told.
+use Rattle.std.specs.Prelude.{◌≡◌, ◌≢◌, ℕ, ◌+◌, List, [], ◌++◌, Option, Some, Result, Err}
+use Rattle.shx_outside.specs.declared.pattern_fault.PatternFault.{PatternFault}
+use Rattle.shx_outside.specs.declared.pattern_fault.PatternFault.TheVariants.{Refused}
 use Rattle.shx_outside.specs.declared.role.Role.{Role}
-use Rattle.shx_outside.specs.Outside.{InputState}
+use Rattle.shx_outside.specs.Outside.{InputState, FlaggedText}
 
 -- these bytes were put behind what was held
 pub record Grew (old new : Option (List ℕ)) (bytes : List ℕ) : Type 0 where
@@ -34,4 +37,12 @@ pub record SameTexts (before after : InputState) : Type 0 where
 -- the other roles stay as they were
 pub record OthersStay (role : Role) (before after : InputState) : Type 0 where
   pub opened : (other : Role) → other ≢ role → after.opened other ≡ before.opened other
+  pub opens : (other : Role) → other ≢ role → after.opens other ≡ before.opens other
+  pub whole : (other : Role) → other ≢ role → after.whole other ≡ before.whole other
   pub rest : (other : Role) → other ≢ role → after.rest other ≡ before.rest other
+
+-- a pattern that the host refused is the one that was refused last; every other answer leaves that
+pub record NotesRefused {T : Type 0} (pattern : FlaggedText) (before now : Option FlaggedText)
+    (result : Result T PatternFault) : Type 0 where
+  pub refused : result ≡ Err Refused → now ≡ Some pattern
+  pub quiet : result ≢ Err Refused → now ≡ before

@@ -2,21 +2,24 @@ ghost use Rattle.std.specs.Prelude.{◌≡◌, ◌≤◌, true, false, length, i
 ghost use Rattle.shx_outside.specs.declared.role.Role.{Role};
 ghost use Rattle.shx_outside.specs.Outside.{admits_all};
 ghost use Rattle.shx_outside.specs.FileInputs.{is_opened, files_told};
+ghost use Rattle.shx_outside.specs.Opens.{opens_of};
 
 use crate::counted::count_up;
+use crate::open_counts::OpenCounts;
 use crate::{Failed, Inputs, Role};
 use std::io::Read;
 use std::marker::Model;
 use std::rt::Files;
 use std::{fs, io};
 
-/// Files, opened by their paths. It counts each call that fails.
+/// Files, opened by their paths. It counts each file that was opened, and each call that fails.
 #[derive(Drop)]
 pub struct FileInputs<'a, R: Files> {
     files: &'a R,
     shapes: Option<R::File>,
     data: Option<R::File>,
     script: Option<R::File>,
+    opens: OpenCounts,
     pub(crate) errors: u64,
 }
 
@@ -31,6 +34,7 @@ impl<'a, R: Files> Model for FileInputs<'a, R> {
       shapes_opened = is_some a.shapes;
       data_opened = is_some a.«data»;
       script_opened = is_some a.script;
+      opens = a.opens;
       errors = a.errors;
     } };
 }
@@ -39,12 +43,14 @@ impl<'a, R: Files> FileInputs<'a, R> {
     pub fn new(files: &'a R) -> FileInputs<'a, R>
         ensures errors { result.errors ≡ 0 }
         ensures closed { (role : Role) → is_opened result role ≡ false }
+        ensures opens { (role : Role) → opens_of result.opens role ≡ 0 }
     {
         FileInputs {
             files,
             shapes: None,
             data: None,
             script: None,
+            opens: OpenCounts::new(),
             errors: 0,
         }
     }
@@ -67,6 +73,7 @@ impl<'a, R: Files> Inputs for FileInputs<'a, R> {
             count_up(&mut self.errors);
             return Err(Failed);
         }
+        self.opens.count(role);
         Ok(())
     }
 

@@ -1,7 +1,8 @@
 ghost use Rattle.std.specs.Prelude.{◌≡◌, ◌<◌, ◌≤◌, length, take, true, is_ok, IsOk, IfOk, OnOk, OnErr};
 ghost use Rattle.shx_outside.specs.declared.role.Role.{Role};
-ghost use Rattle.shx_outside.specs.Counted.{HasCause};
-ghost use Rattle.shx_outside.specs.OpenTexts.{left_for, texts_told, IsPieceOf, KeepsTexts};
+ghost use Rattle.shx_outside.specs.Counted.{opens_after, HasCause};
+ghost use Rattle.shx_outside.specs.OpenTexts.{left_for, whole_for, texts_told, IsPieceOf, KeepsTexts};
+ghost use Rattle.shx_outside.specs.Opens.{opens_of};
 ghost use Rattle.shx_outside.specs.Outside.{admits_all};
 ghost use Rattle.shx_outside.specs.Told.{Took, IsAtEnd, StaysAdmitted, SameTexts, OthersStay};
 
@@ -31,6 +32,7 @@ impl HonestInputs {
         ensures files { result.files ≡ files.items }
         ensures piece { result.piece ≡ piece }
         ensures closed { (role : Role) → left_for result role ≡ None }
+        ensures opens { (role : Role) → opens_of result.opens role ≡ 0 }
     {
         HonestInputs {
             texts: Texts::new(files, piece),
@@ -45,6 +47,8 @@ impl Inputs for HonestInputs {
 
     fn open(&mut self, role: Role, name: &str) -> Result<(), Failed>
         ensures opened { (texts_told 0 self.new).opened role ≡ is_ok result }
+        ensures opens { opens_of self.new.opens role ≡ opens_after (opens_of self.old.opens role) result }
+        ensures whole { OnOk result (whole_for self.new role ≡ (texts_told 0 self.old).text name.now) }
         ensures rest { OnOk result (left_for self.new role ≡ (texts_told 0 self.old).text name.now) }
         ensures others { OthersStay role (texts_told 0 self.old) (texts_told 0 self.new) }
         ensures admitted { StaysAdmitted (admits_all self.old) (admits_all self.new) }
@@ -67,6 +71,8 @@ impl Inputs for HonestInputs {
         ensures end { IfOk result (λ n. n ≡ 0 → IsAtEnd (left_for self.new role)) }
         ensures failed { OnErr result (left_for self.new role ≡ left_for self.old role) }
         ensures opened { (texts_told 0 self.new).opened role ≡ true }
+        ensures opens { opens_of self.new.opens role ≡ opens_of self.old.opens role }
+        ensures whole { whole_for self.new role ≡ whole_for self.old role }
         ensures others { OthersStay role (texts_told 0 self.old) (texts_told 0 self.new) }
         ensures admitted { StaysAdmitted (admits_all self.old) (admits_all self.new) }
         ensures texts { SameTexts (texts_told 0 self.old) (texts_told 0 self.new) }

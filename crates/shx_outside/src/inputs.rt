@@ -1,6 +1,6 @@
 ghost use Rattle.std.specs.Prelude.{◌≡◌, ◌<◌, ◌≤◌, ℕ, List, true, length, take, is_ok, IfOk, OnOk, OnErr};
 ghost use Rattle.shx_outside.specs.declared.role.Role.{Role};
-ghost use Rattle.shx_outside.specs.Counted.{HasCause};
+ghost use Rattle.shx_outside.specs.Counted.{opens_after, HasCause};
 ghost use Rattle.shx_outside.specs.Outside.{InputState};
 ghost use Rattle.shx_outside.specs.Told.{Took, IsAtEnd, StaysAdmitted, SameTexts, OthersStay};
 
@@ -32,6 +32,8 @@ pub trait Inputs {
     fn open(&mut self, role: Role, name: &str) -> Result<(), Failed>
         requires { admits self.old role name.now }
         ensures opened { (state self.new).opened role ≡ is_ok result }
+        ensures opens { (state self.new).opens role ≡ opens_after ((state self.old).opens role) result }
+        ensures whole { OnOk result ((state self.new).whole role ≡ (state self.old).text name.now) }
         ensures rest { OnOk result ((state self.new).rest role ≡ (state self.old).text name.now) }
         ensures others { OthersStay role (state self.old) (state self.new) }
         ensures admitted { StaysAdmitted (admits self.old) (admits self.new) }
@@ -48,6 +50,8 @@ pub trait Inputs {
         ensures end { IfOk result (λ n. n ≡ 0 → IsAtEnd ((state self.new).rest role)) }
         ensures failed { OnErr result ((state self.new).rest role ≡ (state self.old).rest role) }
         ensures opened { (state self.new).opened role ≡ true }
+        ensures opens { (state self.new).opens role ≡ (state self.old).opens role }
+        ensures whole { (state self.new).whole role ≡ (state self.old).whole role }
         ensures others { OthersStay role (state self.old) (state self.new) }
         ensures admitted { StaysAdmitted (admits self.old) (admits self.new) }
         ensures texts { SameTexts (state self.old) (state self.new) }

@@ -17,7 +17,8 @@
 //! | `failing_host.rt` | `FailingHost`: a host over another one, with calls that are refused on demand |
 //! | `file_inputs.rt`, `std_sink.rt`, `regex_host.rt` | the adapters: files, standard output, `regex` |
 //! | `texts.rt`, `places.rt` | texts in memory that are opened and read, and how far each role has read |
-//! | `counted.rt`, `memory.rt` | counts of calls and faults; `Memory`, want of memory |
+//! | `counted.rt`, `open_counts.rt` | counts of calls and faults; how often each role was opened |
+//! | `refused_pattern.rt`, `memory.rt` | a pattern that was refused; `Memory`, want of memory |
 //!
 //! It stands on `regex` and on its grammar, `regex_syntax`. Start with `inputs.rt` and `sink.rt`;
 //! `specs/Outside.antt` has what the traits tell of themselves; `specs/Told.antt`, `specs/Counted.antt` and
@@ -39,11 +40,13 @@ mod memory_inputs;
 mod memory_sink;
 mod name;
 mod named_text;
+mod open_counts;
 mod pattern;
 mod pattern_fault;
 mod pattern_host;
 mod pattern_matcher;
 mod places;
+mod refused_pattern;
 mod regex_host;
 mod role;
 mod roomy;

@@ -1,9 +1,10 @@
 ghost use Rattle.std.specs.Prelude.{◌≡◌, ◌<◌, ◌≤◌, length, take, true, not, ◌||◌, is_ok, is_err};
 ghost use Rattle.std.specs.Prelude.{IfOk, OnOk, OnErr};
 ghost use Rattle.shx_outside.specs.declared.role.Role.{Role};
-ghost use Rattle.shx_outside.specs.Counted.{next_count, faults_after, HasCause};
+ghost use Rattle.shx_outside.specs.Counted.{next_count, faults_after, opens_after, HasCause};
 ghost use Rattle.shx_outside.specs.MemoryInputs.{fails_next, inputs_told, KeepsInputs};
-ghost use Rattle.shx_outside.specs.OpenTexts.{is_held, left_for, IsPieceOf};
+ghost use Rattle.shx_outside.specs.OpenTexts.{is_held, left_for, whole_for, IsPieceOf};
+ghost use Rattle.shx_outside.specs.Opens.{opens_of};
 ghost use Rattle.shx_outside.specs.Outside.{admits_all};
 ghost use Rattle.shx_outside.specs.Told.{Took, IsAtEnd, StaysAdmitted, SameTexts, OthersStay};
 
@@ -45,6 +46,7 @@ impl MemoryInputs {
         ensures calls { result.calls ≡ 0 }
         ensures faults { result.faults ≡ 0 }
         ensures closed { (role : Role) → left_for result.texts role ≡ None }
+        ensures opens { (role : Role) → opens_of result.texts.opens role ≡ 0 }
     {
         MemoryInputs {
             texts: Texts::new(files, piece),
@@ -62,6 +64,9 @@ impl Inputs for MemoryInputs {
 
     fn open(&mut self, role: Role, name: &str) -> Result<(), Failed>
         ensures opened { (inputs_told self.new).opened role ≡ is_ok result }
+        ensures opens { opens_of self.new.texts.opens role
+            ≡ opens_after (opens_of self.old.texts.opens role) result }
+        ensures whole { OnOk result (whole_for self.new.texts role ≡ (inputs_told self.old).text name.now) }
         ensures rest { OnOk result (left_for self.new.texts role ≡ (inputs_told self.old).text name.now) }
         ensures others { OthersStay role (inputs_told self.old) (inputs_told self.new) }
         ensures admitted { StaysAdmitted (admits_all self.old) (admits_all self.new) }
@@ -93,6 +98,8 @@ impl Inputs for MemoryInputs {
         ensures end { IfOk result (λ n. n ≡ 0 → IsAtEnd (left_for self.new.texts role)) }
         ensures failed { OnErr result (left_for self.new.texts role ≡ left_for self.old.texts role) }
         ensures opened { (inputs_told self.new).opened role ≡ true }
+        ensures opens { opens_of self.new.texts.opens role ≡ opens_of self.old.texts.opens role }
+        ensures whole { whole_for self.new.texts role ≡ whole_for self.old.texts role }
         ensures others { OthersStay role (inputs_told self.old) (inputs_told self.new) }
         ensures admitted { StaysAdmitted (admits_all self.old) (admits_all self.new) }
         ensures texts { SameTexts (inputs_told self.old) (inputs_told self.new) }

@@ -1,6 +1,7 @@
 ghost use Rattle.std.specs.Prelude.{◌≡◌, ◌+◌, ◌≤◌, length, position, Some};
 ghost use Rattle.shx_outside.specs.OpenTexts.{is_named, bytes_named};
-ghost use Rattle.shx_outside.specs.inner.Places.{no_places, place_of, with_place, left_at, IsWithin};
+ghost use Rattle.shx_outside.specs.inner.Places.{no_places, place_of, with_place};
+ghost use Rattle.shx_outside.specs.inner.Places.{left_at, whole_at, IsWithin};
 
 use crate::{NamedText, Role};
 
@@ -55,6 +56,7 @@ impl Places {
 pub(crate) fn start_of(files: &[NamedText], name: &str) -> Place
     ensures within { IsWithin files.now (Some result) }
     ensures text { left_at files.now (Some result) ≡ Some (bytes_named files.now name.now) }
+    ensures whole { whole_at files.now (Some result) ≡ Some (bytes_named files.now name.now) }
 {
     let file = first_named(files, name).unwrap_or(files.len());
     Place { file, offset: 0 }

@@ -1,9 +1,11 @@
 ghost use Rattle.std.specs.Prelude.{◌≡◌, ◌<◌, ◌≤◌, true, length, take, drop, min, is_some};
 ghost use Rattle.shx_outside.specs.declared.role.Role.{Role};
-ghost use Rattle.shx_outside.specs.OpenTexts.{bytes_named, is_held, left_for, texts_told};
+ghost use Rattle.shx_outside.specs.OpenTexts.{bytes_named, is_held, left_for, whole_for, texts_told};
 ghost use Rattle.shx_outside.specs.OpenTexts.{IsPieceOf, KeepsTexts};
+ghost use Rattle.shx_outside.specs.Opens.{no_opens, with_open};
 ghost use Rattle.shx_outside.specs.Told.{Took, IsAtEnd, OthersStay};
 
+use crate::open_counts::OpenCounts;
 use crate::places::{Place, Places, first_named, left_from, start_of};
 use crate::{NamedText, Role};
 use std::marker::Model;
@@ -15,6 +17,7 @@ pub(crate) struct Texts {
     files: Vec<NamedText>,
     piece: usize,
     places: Places,
+    opens: OpenCounts,
 }
 
 impl Model for Texts {
@@ -24,7 +27,7 @@ impl Model for Texts {
 
     ghost Value = { OpenTexts };
 
-    ghost view = { λ a. texts_from a.files.items a.piece a.places };
+    ghost view = { λ a. texts_from a.files.items a.piece a.places a.opens };
 
     ghost invariant = { λ a. (0 < a.piece) × AreWithin a.files.items a.places };
 }
@@ -35,11 +38,13 @@ impl Texts {
         ensures files { result.files ≡ files.items }
         ensures piece { result.piece ≡ piece }
         ensures closed { (role : Role) → left_for result role ≡ None }
+        ensures opens { result.opens ≡ no_opens }
     {
         Texts {
             files,
             piece,
             places: Places::new(),
+            opens: OpenCounts::new(),
         }
     }
 
@@ -52,6 +57,7 @@ impl Texts {
 
     pub(crate) fn close(&mut self, role: Role)
         ensures left { left_for self.new role ≡ None }
+        ensures opens { self.new.opens ≡ self.old.opens }
         ensures others { OthersStay role (texts_told 0 self.old) (texts_told 0 self.new) }
         ensures keeps { KeepsTexts self.old self.new }
     {
@@ -61,10 +67,13 @@ impl Texts {
     /// Opens the first text of this name, and the empty text where none has it.
     pub(crate) fn open(&mut self, role: Role, name: &str)
         ensures left { left_for self.new role ≡ Some (bytes_named self.old.files name.now) }
+        ensures whole { whole_for self.new role ≡ Some (bytes_named self.old.files name.now) }
+        ensures opens { self.new.opens ≡ with_open self.old.opens role }
         ensures others { OthersStay role (texts_told 0 self.old) (texts_told 0 self.new) }
         ensures keeps { KeepsTexts self.old self.new }
     {
         self.places.set(role, Some(start_of(&self.files, name)));
+        self.opens.count(role);
     }
 
     /// Reads as much as a piece, the room and the text allow.
@@ -76,6 +85,8 @@ impl Texts {
         ensures took { Took (left_for self.old role) (left_for self.new role) (take result room.new) }
         ensures end { result ≡ 0 → IsAtEnd (left_for self.new role) }
         ensures opened { is_some (left_for self.new role) ≡ true }
+        ensures whole { whole_for self.new role ≡ whole_for self.old role }
+        ensures opens { self.new.opens ≡ self.old.opens }
         ensures others { OthersStay role (texts_told 0 self.old) (texts_told 0 self.new) }
         ensures keeps { KeepsTexts self.old self.new }
     {

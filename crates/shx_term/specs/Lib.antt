@@ -1,6 +1,7 @@
 pub mod Chains
 pub mod Characters
 pub mod Datatypes
+pub mod Edit
 pub mod FaultCodes
 pub mod IdOrder
 pub mod InOrder

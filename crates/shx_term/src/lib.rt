@@ -9,6 +9,7 @@
 //! | `spelling.rt` | `spell`, `write_term`: how a term is written |
 //! | `scheme.rt` | `is_scheme`: what an absolute IRI begins with |
 //! | `triple.rt` | `Id`, `Triple` over numbers, `TermTriple` over terms |
+//! | `edit.rt` | `Edit`: what is asked of a graph |
 //! | `pool.rt` | `Pool`: distinct terms by number |
 //! | `vocabulary.rt` | the 62 terms that every pool begins with, and a constant for each number |
 //! | `limits.rt` | `Limits` |
@@ -19,6 +20,7 @@
 //! order and `specs/Pool.antt` the words of a pool's contracts.
 #![tactic(auto)]
 
+mod edit;
 pub mod fault_codes;
 mod iri_text;
 mod label;
@@ -35,6 +37,7 @@ mod text;
 mod triple;
 pub mod vocabulary;
 
+pub use edit::Edit;
 pub use iri_text::IriText;
 pub use label::Label;
 pub use limits::Limits;

@@ -83,6 +83,8 @@ pub GoesOn-then : {r0 r1 r2 : ReaderState} {s0 s1 s2 : InputState}
     → GoesOn r0 s0 r1 s1 → GoesOn r1 s1 r2 s2 → GoesOn r0 s0 r2 s2
 GoesOn-then first next = record {
   opened = next.opened;
+  opens = next.opens ∙ first.opens;
+  whole = next.whole ∙ first.whole;
   met = next.met;
   stays_ended = λ ended. next.stays_ended (first.stays_ended ended);
   kept = KeepsCount-then first.kept next.kept;
@@ -98,6 +100,8 @@ pub GoesOn-part : {r0 before : ReaderState} {s0 inputs : InputState} (after : Re
 GoesOn-part {before = before} {inputs = inputs} after behind kept kept' most goes ended part =
     GoesOn-then goes (record {
       opened = goes.opened;
+      opens = refl;
+      whole = refl;
       met = record { told = λ is. goes.met.told (sym ended ∙ is) };
       stays_ended = λ is. ended ∙ is;
       kept = KeepsCount-part before after (inputs.rest Script) behind kept kept' most part;

@@ -100,11 +100,13 @@ pub record KeepsCount (before : ReaderState) (rest : Option (List ℕ)) (after :
   pub each : (script : List ℕ) (limit : ℕ)
       → IsCounted script limit before rest → IsCounted script limit after rest'
 
--- a reader goes on in a script: the script stays opened, what was met and counted stays so, and of the inputs
--- nothing else changes
+-- a reader goes on in a script: the script stays opened, and is not opened again; what was met and counted
+-- stays so, and of the inputs nothing else changes
 pub record GoesOn (before : ReaderState) (inputs : InputState) (after : ReaderState) (inputs' : InputState)
     : Type 0 where
   pub opened : inputs'.opened Script ≡ true
+  pub opens : inputs'.opens Script ≡ inputs.opens Script
+  pub whole : inputs'.whole Script ≡ inputs.whole Script
   pub met : MetEnd after.ended (inputs'.rest Script)
   pub stays_ended : before.ended ≡ true → after.ended ≡ true
   pub kept : KeepsCount before (inputs.rest Script) after (inputs'.rest Script)

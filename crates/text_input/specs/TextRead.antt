@@ -1,6 +1,7 @@
 -- What reading a text to its end, or past a limit, gives.
-use Rattle.std.specs.Prelude.{◌≡◌, ℕ, ◌+◌, ◌<◌, ◌≤◌, List, ◌++◌, Option, Some, length, Result, Ok, Err}
-use Rattle.shx_outside.specs.Counted.{Rose}
+use Rattle.std.specs.Prelude.{◌≡◌, ◌≢◌, ◌⊎◌, ℕ, ◌+◌, ◌<◌, ◌≤◌, List, ◌++◌, Option, Some, length}
+use Rattle.std.specs.Prelude.{Result, Ok, Err}
+use Rattle.shx_outside.specs.Counted.{next_count, Rose}
 use Rattle.shx_outside.specs.Told.{IsAtEnd}
 use Rattle.text_input.specs.declared.read_fault.ReadFault.{ReadFault}
 use Rattle.text_input.specs.declared.read_fault.ReadFault.TheVariants.{TooLong, Input, Memory}
@@ -26,6 +27,11 @@ pub record TakenFront (text : List ℕ) (rest : Option (List ℕ)) (most : ℕ) 
 -- where the text is told, no more than one byte past the limit was taken of it
 pub record TakesWithin (told rest : Option (List ℕ)) (most : ℕ) : Type 0 where
   pub front : (text : List ℕ) → told ≡ Some text → TakenFront text rest most
+
+-- it was opened at most once, and once where the inputs did not fail
+pub record OpensOnce {T : Type 0} (before now : ℕ) (result : Result T ReadFault) : Type 0 where
+  pub at_most : (now ≡ before) ⊎ (now ≡ next_count before)
+  pub opened : result ≢ Err Input → now ≡ next_count before
 
 -- the inputs' count rose where they failed, and in no other case
 abbrev pub HasInputCause : {T : Type 0} → ℕ → ℕ → Result T ReadFault → Type 0

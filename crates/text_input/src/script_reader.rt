@@ -168,6 +168,8 @@ impl ScriptReader {
             (left_of self.new ((I.state host.new).rest Script)) [] }
         ensures cause { HasCause (I.state host.old).faults (I.state host.new).faults result }
         ensures opened { (I.state host.new).opened Script ≡ true }
+        ensures opens { (I.state host.new).opens Script ≡ (I.state host.old).opens Script }
+        ensures whole { (I.state host.new).whole Script ≡ (I.state host.old).whole Script }
         ensures met { MetEnd self.new.ended ((I.state host.new).rest Script) }
         ensures others { OthersStay Script (I.state host.old) (I.state host.new) }
         ensures admitted { StaysAdmitted (I.admits host.old) (I.admits host.new) }

@@ -1,6 +1,6 @@
 ghost use Rattle.std.specs.Prelude.{◌≡◌, ◌≢◌, ◌+◌, ◌<◌, ◌≤◌, true, IfOk, IfErr};
 ghost use Rattle.shx_outside.specs.Told.{StaysAdmitted, SameTexts, OthersStay};
-ghost use Rattle.text_input.specs.TextRead.{ReadsWhole, IsTooLong, TakesWithin, HasInputCause};
+ghost use Rattle.text_input.specs.TextRead.{ReadsWhole, IsTooLong, TakesWithin, OpensOnce, HasInputCause};
 
 use crate::ReadFault;
 use shx_outside::{Inputs, Role};
@@ -10,8 +10,8 @@ use std::alloc::Global;
 const PIECE: usize = 8192;
 
 /// Opens the text of a name for a role and reads it to its end, in pieces. Where the text has more than
-/// `most` bytes, one byte past them is taken and no more, and the answer is `TooLong`. Only where the inputs
-/// fail, the role may be left closed.
+/// `most` bytes, one byte past them is taken and no more, and the answer is `TooLong`. The role is opened
+/// once, and only where the inputs fail, it may be left closed.
 pub fn read_text<I: Inputs>(
     alloc: Global,
     host: &mut I,
@@ -26,6 +26,11 @@ pub fn read_text<I: Inputs>(
         fault ≡ ReadFault.TooLong → IsTooLong ((I.state host.old).text name.now) most) }
     ensures within { (I.state host.new).opened role ≡ true
         → TakesWithin ((I.state host.old).text name.now) ((I.state host.new).rest role) most }
+    ensures within_opened { (I.state host.old).opens role < (I.state host.new).opens role
+        → TakesWithin ((I.state host.old).text name.now) ((I.state host.new).rest role) most }
+    ensures opens { OpensOnce ((I.state host.old).opens role) ((I.state host.new).opens role) result }
+    ensures whole { (I.state host.old).opens role < (I.state host.new).opens role
+        → (I.state host.new).whole role ≡ (I.state host.old).text name.now }
     ensures opened { result ≢ Err ReadFault.Input → (I.state host.new).opened role ≡ true }
     ensures cause { HasInputCause (I.state host.old).faults (I.state host.new).faults result }
     ensures others { OthersStay role (I.state host.old) (I.state host.new) }

@@ -10,7 +10,7 @@
 //! | `min_exclusive.rt`, `min_inclusive.rt` | `MinExclusive`, `MinInclusive` |
 //! | `max_exclusive.rt`, `max_inclusive.rt` | `MaxExclusive`, `MaxInclusive` |
 //! | `min_length.rt`, `max_length.rt` | `MinLength`, `MaxLength` |
-//! | `pattern.rt` | `Pattern`: sh:pattern with sh:flags |
+//! | `pattern.rt`, `matches.rt` | `Pattern`: sh:pattern with sh:flags; the one loop over its value nodes |
 //! | `language_in.rt` | `LanguageIn`: sh:languageIn |
 //! | `unique_lang.rt` | `UniqueLang`: sh:uniqueLang |
 //! | `has_value.rt`, `in_list.rt` | `HasValue`, `In` |
@@ -32,6 +32,7 @@ mod has_value;
 mod in_list;
 mod language_in;
 mod lengths;
+mod matches;
 mod max_count;
 mod max_exclusive;
 mod max_inclusive;

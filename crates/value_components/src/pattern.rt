@@ -1,19 +1,13 @@
 //! sh:pattern with sh:flags (SHACL, section 4.4.3).
-ghost use Rattle.std.specs.Prelude.{◌≡◌, ◌++◌, OnOk};
-ghost use Rattle.comp_core.specs.declared.kinds.TheConstants.{PATTERN};
-ghost use Rattle.graph_view.specs.Graph.{HasTerms};
-ghost use Rattle.graph_view.specs.Valid.{IsValidView};
+ghost use Rattle.std.specs.Prelude.{◌≡◌};
+ghost use Rattle.std.proofs.Props.{props};
 ghost use Rattle.shx_outside.specs.Patterns.{IsBuiltOf};
-ghost use Rattle.value_components.specs.Pattern.{has_match};
-ghost use Rattle.comp_core.specs.Results.{each_unless};
-ghost use Rattle.comp_core.specs.TermTests.{is_so_at};
 
-use crate::texts::text_of;
-use comp_core::kinds::PATTERN;
-use comp_core::{At, Component, Conform, Pair, ResultRow, add_unless};
-use graph_view::{GraphView, Reads, term_of};
-use shx_outside::{Flags, PatternMatcher};
-use shx_term::{Id, Memory, Term, Text};
+use crate::matches::check_texts;
+use comp_core::{At, Component, Conform, Pair, ResultRow};
+use graph_view::{GraphView, Reads};
+use shx_outside::Flags;
+use shx_term::{Id, Memory, Text};
 use std::alloc::Global;
 
 /// The pattern has a match in the text of each value node, which is no blank node.
@@ -25,8 +19,9 @@ pub struct Pattern {
     pub text: Text,
     /// Its flags.
     pub flags: Flags,
-    /// The pattern as it was built, of this text and with these flags.
+    /// The pattern as it was built.
     pub built: shx_outside::Pattern,
+    ghost built_of: { IsBuiltOf text flags built } by { Prim.hlevel props },
 }
 
 impl Pattern {
@@ -46,38 +41,6 @@ impl Pattern {
             built,
         }
     }
-}
-
-// Whether the term has a text, in which the pattern has a match.
-fn has_match(matcher: &mut PatternMatcher<'_>, term: &Term) -> bool
-    ensures has { result ≡ has_match matcher.old.text matcher.old.flags term.now }
-    ensures same { matcher.new ≡ matcher.old }
-{
-    match text_of(term) {
-        Some(text) => matcher.is_match(text),
-        None => false,
-    }
-}
-
-// Appends a result for each value node without a match.
-fn check_texts<V: GraphView>(
-    alloc: Global,
-    view: &V,
-    matcher: &mut PatternMatcher<'_>,
-    at: At,
-    values: &[Id],
-    out: &mut Vec<ResultRow>,
-) -> Result<(), Memory>
-    requires valid { IsValidView (V.graph view.now) }
-    requires values { HasTerms (V.graph view.now) values.now }
-    ensures { OnOk result (out.new.items ≡ out.old.items ++ each_unless
-        (is_so_at (has_match matcher.old.text matcher.old.flags) (V.graph view.now)) PATTERN at values.now) }
-{
-    for v in values {
-        let is_fine = has_match(matcher, term_of(view, *v));
-        add_unless(alloc, is_fine, PATTERN, at, *v, out)?;
-    }
-    Ok(())
 }
 
 impl Component for Pattern {

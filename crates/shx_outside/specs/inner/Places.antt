@@ -1,6 +1,7 @@
 -- Places in the texts that are held: a text by its index, and how much of it was read.
 use Rattle.std.specs.Prelude.{ℕ, ◌+◌, ◌≤◌, List, length, drop, Option, Some, None, slice_get}
 use Rattle.shx_outside.specs.declared.named_text.NamedText.{NamedText}
+use Rattle.shx_outside.specs.declared.open_counts.OpenCounts.{OpenCounts}
 use Rattle.shx_outside.specs.declared.places.Place.{Place}
 use Rattle.shx_outside.specs.declared.places.Places.{Places}
 use Rattle.shx_outside.specs.declared.role.Role.{Role}
@@ -31,6 +32,11 @@ moved_on place count = record { file = place.file; offset = place.offset + count
 abbrev pub bytes_at : List NamedText → ℕ → List ℕ
 bytes_at files index = bytes_of (slice_get files index)
 
+-- the whole text that a place lies in
+abbrev pub whole_at : List NamedText → Option Place → Option (List ℕ)
+whole_at files (Some place) = Some (bytes_at files place.file)
+whole_at files None = None
+
 -- what is left from a place on
 abbrev pub left_at : List NamedText → Option Place → Option (List ℕ)
 left_at files (Some place) = Some (drop place.offset (bytes_at files place.file))
@@ -45,13 +51,17 @@ IsWithin files None = Unit {0}
 pub record AreWithin (files : List NamedText) (places : Places) : Type 0 where
   pub each : (role : Role) → IsWithin files (place_of places role)
 
--- what is seen of texts that are read from these places
-abbrev pub texts_from : List NamedText → ℕ → Places → OpenTexts
-texts_from files piece places =
+-- what is seen of texts that are read from these places, and were opened so often
+abbrev pub texts_from : List NamedText → ℕ → Places → OpenCounts → OpenTexts
+texts_from files piece places opens =
     record {
       files = files;
       piece = piece;
+      shapes_whole = whole_at files places.shapes;
+      data_whole = whole_at files places.«data»;
+      script_whole = whole_at files places.script;
       shapes_left = left_at files places.shapes;
       data_left = left_at files places.«data»;
       script_left = left_at files places.script;
+      opens = opens;
     }

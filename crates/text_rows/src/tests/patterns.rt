@@ -151,8 +151,11 @@ a→the pattern was refused
 a{1000}{1000}→the pattern was refused
 (→the text is no pattern";
 
-const SHOWN: &str =
-    "FailingHost { inner: RegexHost { errors: 1 }, failing: [2], calls: 4, faults: 2 }";
+const SHOWN: &str = "\
+FailingHost { inner: RegexHost { errors: 1, refused: Some(RefusedPattern { \
+flags: Flags { i: false, m: false, s: false, x: false }, text: \"a{1000}{1000}\" }) }, \
+failing: [2], calls: 4, faults: 2, refused: Some(RefusedPattern { \
+flags: Flags { i: false, m: false, s: false, x: false }, text: \"a{1000}{1000}\" }) }";
 
 // Whether this comes of the patterns in turn, and the host then shows what was due.
 fn is_counted(alloc: Global, steps: &str) -> Result<bool, RowFault> {

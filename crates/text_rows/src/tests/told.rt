@@ -13,7 +13,7 @@ a failure | the outside failed
 a put that fails | the output failed
 want of memory for a text | out of memory
 want of memory for a pattern | memory was refused
-a new host, which has refused nothing | RegexHost { errors: 0 }";
+a new host, which has refused nothing | RegexHost { errors: 0, refused: None }";
 
 fn told(alloc: Global, name: &str) -> Result<String, RowFault> {
     match name {

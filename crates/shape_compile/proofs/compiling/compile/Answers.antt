@@ -16,6 +16,7 @@ use Rattle.shape_refs.specs.Order.{IsShapeOrder, NameDeclared}
 use Rattle.shape_refs.specs.Outcome.{AreInReach}
 use Rattle.shape_refs.specs.declared.declared.Declared.{Declared}
 use Rattle.shape_refs.specs.declared.order.ShapeOrder.{ShapeOrder}
+use Rattle.shape_compile.specs.Answers.{LastRefused}
 use Rattle.shape_compile.specs.Meaning.{ShapeMeans}
 use Rattle.shape_compile.specs.inner.Built.{AreBuilt, StopsAtPattern}
 use Rattle.shape_compile.specs.inner.Ready.{AreReady}
@@ -82,6 +83,21 @@ returns-in_err-built-clause-fault g c =
     (Tells-stopped limits pool.terms (map told_decl decls)
     (here (AreInReach limits.reference_depth) c.in_ok-order.ensures.reach) why
     (here (λ terms ds. StopsAtPattern terms ds why) c.in_err-built.ensures.stops))
+
+pub returns-in_err-built-clause-refused : goal.returns-in_err-built-clause-refused
+returns-in_err-built-clause-refused g c =
+    let limits = c.args.limits.now in
+    let pool = c.args.pool.now in
+    let declared = c.in_ok-declared.declared in
+    let held = c.in_ok-declared.ensures in
+    let before = (g.P.PatternHost.state c.args.patterns.now).refused in
+    let now = (g.P.PatternHost.state c.build_patterns.new.host).refused in
+    let why = c.in_err-built.field-0.0 in
+    let here = on_these limits pool c.args.decls.now declared c.in_ok-order.order [] held.pool held.decls in
+    let exit = err_from_is_err_and c.from_residual-in_err-built.result
+    c.from_residual-in_err-built.ensures.1 in
+    rw (exit.1, exit.2)
+    (here (λ terms ds. LastRefused terms ds before now why) c.in_err-built.ensures.refused)
 
 pub from_shapes-requires : goal.from_shapes-requires
 from_shapes-requires g c =

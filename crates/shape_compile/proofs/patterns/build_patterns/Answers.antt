@@ -6,6 +6,7 @@ use Rattle.shape_compile.specs.Patterns.{flags_of, text_at}
 use Rattle.shape_compile.proofs.PatternLemmas.{AreBuilt-more, AreReadBefore-place, AreRead-built}
 use Rattle.shape_compile.proofs.PatternLemmas.{StopsAtPattern-here}
 use Rattle.shape_compile.proofs.PlaceLemmas.{Contains-place, told_item}
+use Rattle.shape_compile.proofs.RefusedLemmas.{LastRefused-among}
 use Rattle.shape_compile.proofs.patterns.build_patterns.Goals as goal
 
 pub build_pattern-requires-clause-one : goal.build_pattern-requires-clause-one
@@ -46,6 +47,20 @@ returns-in_err-build_pattern-clause-stops g c =
     (StopsAtPattern-here terms ds d c.in_err-build_pattern.field-0.0 (Contains-place ds i d here) before
     c.in_err-build_pattern.ensures.stops)
 
+pub returns-in_err-build_pattern-clause-refused : goal.returns-in_err-build_pattern-clause-refused
+returns-in_err-build_pattern-clause-refused g c =
+    let declared = c.args.declared.now in
+    let ds = map told_decl declared.decls.now in
+    let i = c.loop-decl.decl-index in
+    let d = told_decl c.decl-item.result in
+    let here = told_item declared.decls.now i c.decl-item.result c.loop-decl-test.true
+    c.decl-item.is in
+    let exit = err_from_is_err_and c.from_residual-in_err-build_pattern.result
+    c.from_residual-in_err-build_pattern.ensures.1 in
+    rw (exit.1, exit.2)
+    (LastRefused-among declared.pool.now.terms ds d _ _ _ c.in_err-build_pattern.field-0.0
+    (Contains-place ds i d here) c.loop-decl.invariant.last c.in_err-build_pattern.ensures.refused)
+
 pub loop-decl-preserved : goal.loop-decl-preserved
 loop-decl-preserved g c =
     let declared = c.args.declared.now in
@@ -63,4 +78,5 @@ loop-decl-preserved g c =
             c.build_pattern.ensures.admitted.each flags text (held.admitted.each flags text before);
       };
       quiet = c.in_ok-build_pattern.ensures.cause ∙ held.quiet;
+      last = c.in_ok-build_pattern.ensures.refused ∙ held.last;
     }

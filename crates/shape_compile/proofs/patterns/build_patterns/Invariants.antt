@@ -10,4 +10,5 @@ invariant-loop-decl g l = record {
       l.built.items;
   admitted : StaysAdmitted (g.P.PatternHost.admits l.fn.host) (g.P.PatternHost.admits l.host);
   quiet : (g.P.PatternHost.state l.host).faults ≡ (g.P.PatternHost.state l.fn.host).faults;
+  last : (g.P.PatternHost.state l.host).refused ≡ (g.P.PatternHost.state l.fn.host).refused;
 }

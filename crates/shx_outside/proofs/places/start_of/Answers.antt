@@ -12,3 +12,6 @@ returns-clause-text c =
     ∙ ap (λ found. unwrap_or found (length files)) c.first_named.ensures in
     ap (λ file. Some (bytes_at files file)) first
     ∙ ap (λ found. Some (bytes_of found)) (slice_get-position (is_named c.args.name.now) files)
+
+pub returns-clause-whole : goal.returns-clause-whole
+returns-clause-whole c = returns-clause-text c

@@ -27,14 +27,15 @@ text c = rw c.deref.ensures.value at c.left_from-left.ensures.left
 
 before : (c : goal.After-set) → left_for c.args.self.now c.args.role ≡ Some (left c)
 before c =
-    left_for-at (files c) c.self.inside.piece (places c) c.args.role c.in-Some.place (left c) c.args.self.now
-    c.self.view_is (found c) (text c)
+    left_for-at (files c) c.self.inside.piece (places c) c.self.inside.opens c.args.role c.in-Some.place
+    (left c) c.args.self.now c.self.view_is (found c) (text c)
 
-after : (c : goal.After-set) → left_for (texts_from (files c) c.self.inside.piece c.set.new.self) c.args.role
+after : (c : goal.After-set) → left_for
+    (texts_from (files c) c.self.inside.piece c.set.new.self c.self.inside.opens) c.args.role
     ≡ Some (drop (count c) (left c))
 after c =
-    left_for-moved (files c) c.self.inside.piece c.set.new.self (places c) c.args.role c.in-Some.place
-    (left c) (count c) c.set.ensures (text c)
+    left_for-moved (files c) c.self.inside.piece c.set.new.self c.self.inside.opens (places c) c.args.role
+    c.in-Some.place (left c) (count c) c.set.ensures (text c)
 
 pub invariant_of-self : goal.invariant_of-self
 invariant_of-self c =

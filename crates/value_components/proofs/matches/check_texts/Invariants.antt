@@ -4,7 +4,7 @@ use Rattle.comp_core.specs.declared.kinds.TheConstants.{PATTERN}
 use Rattle.value_components.specs.Pattern.{has_match}
 use Rattle.comp_core.specs.Results.{each_unless}
 use Rattle.comp_core.specs.TermTests.{is_so_at}
-use Rattle.value_components.proofs.pattern.check_texts.Given as goal
+use Rattle.value_components.proofs.matches.check_texts.Given as goal
 
 abbrev pub invariant-loop-v : goal.invariant-loop-v
 invariant-loop-v g l =

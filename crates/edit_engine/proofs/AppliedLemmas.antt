@@ -12,16 +12,16 @@ use Rattle.shx_term.specs.TripleTerms.{numbered, terms_of, triple_of_numbers}
 use Rattle.graph_view.specs.Graph.{AllKnown, Graph}
 use Rattle.graph_view.specs.Patched.{IsPatch, patched}
 use Rattle.graph_view.specs.SameGraph.{SameGraph}
-use Rattle.edit_renewal.specs.Touched.{touched_pairs}
+use Rattle.edit_engine.specs.Touched.{touched_pairs}
 use Rattle.edit_engine.specs.declared.edit.Change.{Change}
-use Rattle.edit_engine.specs.declared.edit.Edit.TheVariants.{Insert, Remove}
+use Rattle.shx_term.specs.declared.edit.Edit.TheVariants.{Insert, Remove}
 use Rattle.edit_engine.specs.declared.stated.Found.{Found}
 use Rattle.edit_engine.specs.Applied.{Applies, HasMoreTerms, IsEdited, applied_as, outcome_of}
 use Rattle.edit_engine.specs.Edits.{Effect, NoEffect, graph_with, graph_without, is_among, is_stated}
 use Rattle.edit_engine.specs.Edits.{terms_with}
 use Rattle.edit_engine.specs.EngineState.{EngineState}
 use Rattle.edit_engine.specs.inner.Stated.{IsFound, found_triple}
-use Rattle.edit_engine.proofs.EnterLemmas.{IsEntered, touched_more}
+use Rattle.edit_engine.proofs.AlikeLemmas.{AreAlike, touched_alike}
 use Rattle.edit_engine.proofs.PatchLemmas.{IsPatch-added, patched_with, patched_without}
 use Rattle.edit_engine.proofs.StatedLemmas.{absent_after, numbered_known, stated_where_found}
 
@@ -73,26 +73,27 @@ room_where_fits g limit pool t fits terms most test so =
     (subst (λ n. length (with_terms pool.terms (terms_of (t ∷ []))) ≤ n) most within)
 
 -- a triple that is not there and whose terms were entered may be added
-pub IsPatch-inserted : (g h : Graph) (t : TermTriple) (u : Triple) → AllKnown g → is_stated g t ≡ false
-    → HasMoreTerms g h → h.terms ≡ terms_with g t → numbered h.terms t ≡ Some u → IsPatch h (u ∷ []) []
+pub IsPatch-inserted : {due : List Term} (g h : Graph) (t : TermTriple) (u : Triple) → AllKnown g
+    → is_stated g t ≡ false → HasMoreTerms due g h → h.terms ≡ terms_with g t → numbered h.terms t ≡ Some u
+    → IsPatch h (u ∷ []) []
 IsPatch-inserted g h t u known absent more terms number =
     IsPatch-added h u (numbered_known h.terms t u number) (λ held.
     absent_after g t h.terms u known absent terms number (subst (λ us. Contains us u) more.triples held))
 
 module _ (old now new : EngineState) (same : old ≡ now) (t : TermTriple) (u : Triple) (n : ℕ) where
   -- the triple is added over its terms
-  pub Applies-inserted : (h : Graph) → IsEntered old.plan old.graph h → h.terms ≡ terms_with old.graph t
-      → numbered h.terms t ≡ Some u → MayBeInserted old t
+  pub Applies-inserted : (h : Graph) → AreAlike old.plan old.graph h → h.terms ≡ terms_with old.graph t
+      → h.triples ≡ old.graph.triples → numbered h.terms t ≡ Some u → MayBeInserted old t
       → SameGraph (patched h (u ∷ []) []) new.graph
       → n ≡ length (touched_pairs old.plan h (patched h (u ∷ []) []) (u ∷ []))
       → Applies now (Insert t) (record { changed = true; evaluated = n }) new
-  Applies-inserted h entered terms number may graph count =
+  Applies-inserted h alike terms triples number may graph count =
       let g = old.graph in
       let change : Change = record { changed = true; evaluated = n } in
       let made : patched h (u ∷ []) [] ≡ graph_with g t =
-      patched_with g h t u terms entered.more.triples number in
+      patched_with g h t u terms triples number in
       let it : numbered (terms_with g t) t ≡ Some u = subst (λ xs. numbered xs t ≡ Some u) terms number in
-      let touched = touched_more old.plan g h entered (u ∷ []) (patched h (u ∷ []) []) in
+      let touched = touched_alike old.plan g h alike (u ∷ []) (patched h (u ∷ []) []) in
       let is : IsEdited old (Insert t) change new = record {
         changed = refl;
         graph = subst (λ k. SameGraph k new.graph) made graph;

@@ -1,5 +1,5 @@
 -- A change of the graph: what it does not touch is as it was, in whatever order the triples stand.
-use Rattle.std.specs.Prelude.{◌≡◌, ℕ, ◌+◌, Bool, true, false, not, ◌||◌, List, [], ◌∷◌, ◌++◌, map}
+use Rattle.std.specs.Prelude.{◌≡◌, ℕ, Bool, true, false, not, ◌||◌, List, [], ◌∷◌, ◌++◌, map}
 use Rattle.std.specs.Prelude.{length, slice_get, Some, All, Contains}
 use Rattle.std.specs.List.{IsDistinct, list_any}
 use Rattle.std.proofs.Common.{refl, sym, ap, ◌∙◌, subst, inl, inr, true≢false}
@@ -38,10 +38,10 @@ use Rattle.shape_eval.specs.Targets.{target_nodes, target_reads}
 use Rattle.read_records.specs.declared.reader.Reader.TheVariants.{OfPair, OfTarget}
 use Rattle.read_records.specs.Records.{Commits}
 use Rattle.pair_results.specs.PairResults.{Commits as CommitsRows}
-use Rattle.edit_renewal.specs.declared.renewal.Renewal.{Renewal}
-use Rattle.edit_renewal.specs.MayBeAsked.{MayBeAsked}
-use Rattle.edit_renewal.specs.Renewal.{IsRenewal, pairs_evaluated}
-use Rattle.edit_renewal.specs.Touched.{is_among_pairs, is_any_touched, touched_pairs}
+use Rattle.edit_engine.specs.declared.renewal.Renewal.{Renewal}
+use Rattle.edit_engine.specs.MayBeAsked.{MayBeAsked}
+use Rattle.edit_engine.specs.Renewal.{IsRenewal, pairs_evaluated}
+use Rattle.edit_engine.specs.Touched.{is_among_pairs, is_any_touched, touched_pairs}
 use Rattle.edit_engine.specs.declared.kept.Kept.{Kept}
 use Rattle.edit_engine.specs.inner.Kept.{IsIdle, IsKeptOf, SameKept}
 use Rattle.edit_engine.specs.inner.Staged.{IsStaged, MayBeStaged}

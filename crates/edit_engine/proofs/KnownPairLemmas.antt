@@ -8,9 +8,9 @@ use Rattle.shape_eval.specs.declared.shape.PlanShape.{PlanShape}
 use Rattle.shape_eval.specs.Plan.{IsKnownPlan}
 use Rattle.shape_eval.specs.Targets.{target_nodes}
 use Rattle.shape_eval.proofs.TargetLemmas.{TriplesHeld}
-use Rattle.edit_renewal.specs.Pairs.{IsKnownPair, pairs_of}
-use Rattle.edit_renewal.proofs.KnownLemmas.{pair_known as known_at, targets_have_terms}
-use Rattle.edit_renewal.proofs.PairLemmas.{Contains-pairs}
+use Rattle.edit_engine.specs.Pairs.{IsKnownPair, pairs_of}
+use Rattle.edit_engine.proofs.KnownLemmas.{pair_known as known_at, targets_have_terms}
+use Rattle.edit_engine.proofs.RenewedPairLemmas.{Contains-pairs}
 
 triples_held : TriplesHeld
 triples_held g p t c = ((Contains-triples_with g p t).0 c).0

@@ -16,15 +16,16 @@ use Rattle.shape_eval.specs.Plan.{IsKnownPlan}
 use Rattle.shape_eval.specs.Report.{at_shape}
 use Rattle.shape_eval.specs.Targets.{target_nodes, target_reads}
 use Rattle.read_records.specs.declared.reader.Reader.TheVariants.{OfPair, OfTarget}
-use Rattle.edit_renewal.specs.declared.renewal.Renewal.{Renewal}
-use Rattle.edit_renewal.specs.Pairs.{pairs_of}
-use Rattle.edit_renewal.specs.Renewal.{IsOpening, pairs_evaluated}
+use Rattle.edit_engine.specs.declared.renewal.Renewal.{Renewal}
+use Rattle.edit_engine.specs.Pairs.{pairs_of}
+use Rattle.edit_engine.specs.Renewal.{IsOpening, pairs_evaluated}
 use Rattle.edit_engine.specs.declared.kept.Kept.{Kept}
 use Rattle.edit_engine.specs.inner.Kept.{IsKeptOf, KeepsNothing}
 use Rattle.edit_engine.specs.inner.Staged.{MayBeStaged}
-use Rattle.edit_renewal.proofs.PairLemmas.{Contains-pairs, none_apart}
+use Rattle.edit_engine.proofs.RenewedPairLemmas.{Contains-pairs, none_apart}
 use Rattle.edit_engine.proofs.KnownPairLemmas.{pair_known}
-use Rattle.edit_engine.proofs.PairLemmas.{IsDistinct-one, pairs_distinct}
+use Rattle.edit_engine.proofs.PairLemmas.{pairs_distinct}
+use Rattle.edit_engine.proofs.ReaderLemmas.{IsDistinct-one}
 use Rattle.edit_engine.proofs.RenewLemmas.{Renews}
 
 -- the pairs of one shape more

@@ -1,47 +1,36 @@
 -- Pairs of shapes and their target nodes: that each stands once, and how many there are.
-use Rattle.std.specs.Prelude.{◌≡◌, ℕ, ◌+◌, ◌<◌, ◌≤◌, Bool, true, false, nat_eq, ◌&&◌, ◌==◌, List, [], ◌∷◌}
+use Rattle.std.specs.Prelude.{◌≡◌, ℕ, ◌+◌, ◌<◌, ◌≤◌, Bool, true, false, nat_eq, List, [], ◌∷◌}
 use Rattle.std.specs.Prelude.{◌++◌}
-use Rattle.std.specs.Prelude.{map, length, slice_get, Option, Some, None, All, Contains, ◌↔◌, ◌⊎◌}
-use Rattle.std.specs.Cmp.{eq_by_cmp_equiv, nat_eq_equiv}
-use Rattle.std.specs.List.{AllByRecursion, IsDistinct, list_any}
-use Rattle.std.specs.Ordering.{eq_by_cmp}
-use Rattle.std.specs.declared.cmp.Ordering.TheVariants.{Less}
+use Rattle.std.specs.Prelude.{map, length, slice_get, Some, Contains, ◌↔◌, ◌⊎◌}
+use Rattle.std.specs.Cmp.{nat_eq_equiv}
+use Rattle.std.specs.List.{IsDistinct, list_any}
 use Rattle.std.proofs.Common.{refl, sym, ap, ◌∙◌, subst, inl, inr, get_or, true≢false, length-append}
 use Rattle.std.proofs.Common.{drop, drop-cons, suc, take}
 use Rattle.std.proofs.lemmas.List.{take-append-drop}
-use Rattle.std.proofs.lemmas.Bool.{eqb-true}
 use Rattle.std.proofs.lemmas.List.Elements.{Contains-append_left, Contains-append_right}
 use Rattle.std.proofs.lemmas.List.Elements.{Contains-append_cases}
-use Rattle.std.proofs.lemmas.Map.Keys.{IsDistinct-cons, IsDistinct-from_apart, IsDistinct-head}
 use Rattle.std.proofs.lemmas.Map.Keys.{IsDistinct-tail}
-use Rattle.std.proofs.lemmas.Map.Keys.{Less-from_sorted}
 use Rattle.std.proofs.lemmas.Map.Made.{length-from_same_keys, length-le_from_is_member}
 use Rattle.std.proofs.lemmas.Option.{get_or_from_slice_get, slice_get-get_or, slice_get_within}
 use Rattle.shx_term.specs.Members.{SameMembers}
 use Rattle.shx_term.specs.TermOrder.{same_term}
 use Rattle.shx_term.specs.declared.term.Term.{Term}
 use Rattle.shx_term.specs.inner.TermOrderLaws.{same_term_equiv, same_term_exact}
-use Rattle.shx_term.specs.IdOrder.{id_cmp, in_term_order}
-use Rattle.shx_term.proofs.IdOrderLemmas.{id_cmp_total, in_term_order_lists}
-use Rattle.shx_term.proofs.MemberLemmas.{All_of_each, Contains-flat_map, Contains-from_flat_map}
 use Rattle.shx_term.proofs.MemberLemmas.{Contains-head}
-use Rattle.shx_term.proofs.MemberLemmas.{Contains-map, Contains-from_map, Contains-test}
-use Rattle.shx_term.proofs.MemberLemmas.{each_of_All, none_in_empty}
-use Rattle.graph_view.specs.Graph.{Graph, AllKnown, HasTerms}
-use Rattle.graph_view.proofs.LookUpLemmas.{Contains-triples_with}
+use Rattle.shx_term.proofs.MemberLemmas.{Contains-test}
+use Rattle.graph_view.specs.Graph.{Graph}
 use Rattle.graph_view.proofs.PatchedLemmas.{IsDistinct-append}
 use Rattle.comp_core.specs.declared.pair.Pair.{Pair}
 use Rattle.comp_core.specs.Pairs.{same_pair, same_pair_equiv, same_pair_exact}
 use Rattle.shape_eval.specs.declared.shape.PlanShape.{PlanShape}
-use Rattle.shape_eval.specs.Plan.{HasTermsOf, IsKnownPlan}
 use Rattle.shape_eval.specs.Report.{at_shape}
-use Rattle.shape_eval.specs.Targets.{nodes_of_targets, target_nodes, targets_of}
-use Rattle.shape_eval.proofs.LevelLemmas.{shape_known}
-use Rattle.shape_eval.proofs.TargetLemmas.{TriplesHeld, nodes_known}
-use Rattle.edit_renewal.specs.Pairs.{IsKnownPair, pairs_of}
-use Rattle.edit_renewal.specs.Renewal.{IsDifference}
-use Rattle.edit_renewal.proofs.PairLemmas.{Contains-at_shape, Contains-pairs, IsDistinct-at_shape, none_apart}
+use Rattle.shape_eval.specs.Targets.{target_nodes}
+use Rattle.edit_engine.specs.Pairs.{pairs_of}
+use Rattle.edit_engine.specs.Renewal.{IsDifference}
 use Rattle.edit_engine.proofs.PutLemmas.{apart_parts}
+use Rattle.edit_engine.proofs.RenewedPairLemmas.{Contains-at_shape, Contains-pairs, IsDistinct-at_shape}
+use Rattle.edit_engine.proofs.RenewedPairLemmas.{none_apart}
+use Rattle.edit_engine.proofs.TargetChangeLemmas.{IsDistinct-in_term_order}
 
 -- ---- among others or not
 
@@ -49,7 +38,7 @@ by_decision : (b : Bool) (P : Type 0) → ((b ≡ true) ↔ P) → P ⊎ (P → 
 by_decision true P decides = inl (decides.0 refl)
 by_decision false P decides = inr (λ p. true≢false (sym (decides.1 p)))
 
-among_pairs : (ps : List Pair) (p : Pair) → (list_any (same_pair p) ps ≡ true) ↔ Contains ps p
+pub among_pairs : (ps : List Pair) (p : Pair) → (list_any (same_pair p) ps ≡ true) ↔ Contains ps p
 among_pairs ps p = Contains-test same_pair same_pair_equiv same_pair_exact ps p
 
 pub pair_or_not : (ps : List Pair) (p : Pair) → Contains ps p ⊎ (Contains ps p → ⊥)
@@ -71,9 +60,6 @@ numbered_or_not terms node =
 
 -- ---- each stands once
 
-pub IsDistinct-one : {X : Type 0} (same : X → X → Bool) (x : X) → IsDistinct same (x ∷ [])
-IsDistinct-one same x = IsDistinct-cons same x [] tt (none_apart same)
-
 -- what stands at a place stands nowhere before it
 pub not_before_itself : (xs : List ℕ) (i : ℕ) → IsDistinct nat_eq xs → i < length xs
     → Contains (take i xs) (get_or xs i 0) → ⊥
@@ -83,26 +69,6 @@ not_before_itself xs i once inside c =
     ap (λ rest. take i xs ++ rest) (sym (drop-cons xs i 0 inside)) ∙ take-append-drop i xs in
     apart_parts nat_eq nat_eq_equiv (take i xs) (x ∷ drop (suc i) xs)
     (subst (IsDistinct nat_eq) (sym split) once) x c (Contains-head x (drop (suc i) xs))
-
--- numbers in term order
-below_apart : (terms : List Term) (x y : ℕ) → id_cmp terms x y ≡ Less → nat_eq x y ≡ false
-below_apart terms x y below =
-    elim (nat_eq x y) as (λ b. nat_eq x y ≡ b → b ≡ false) [
-      | true ↦ λ h.
-          let tied = (eq_by_cmp_equiv (id_cmp_total terms)).refl x in
-          let alike = subst (λ z. eq_by_cmp (id_cmp terms) x z ≡ true) (eqb-true x y h) tied in
-          cc
-      | false ↦ λ _. refl
-    ] refl
-
-pub IsDistinct-in_term_order : (terms : List Term) (ids : List ℕ)
-    → IsDistinct nat_eq (in_term_order terms ids)
-IsDistinct-in_term_order terms ids =
-    let sorted = (in_term_order_lists terms ids).sorted in
-    let xs = in_term_order terms ids in
-    IsDistinct-from_apart nat_eq xs (λ i j d below inside.
-    below_apart terms (get_or xs i d) (get_or xs j d)
-    (Less-from_sorted (id_cmp terms) xs i j d sorted below inside))
 
 pub pairs_distinct : (shapes : List PlanShape) (g : Graph) (ns : List ℕ) → IsDistinct nat_eq ns
     → IsDistinct same_pair (pairs_of shapes ns g)

@@ -1,8 +1,8 @@
 -- The shapes that a plan targets: each once.
-use Rattle.std.specs.Prelude.{◌≡◌, ℕ, ◌<◌, ◌≤◌, nat_eq, true, false, List, [], ◌∷◌, ◌++◌, Option, Some, None}
+use Rattle.std.specs.Prelude.{◌≡◌, ℕ, ◌<◌, ◌≤◌, nat_eq, false, List, [], ◌∷◌, ◌++◌, Option, Some, None}
 use Rattle.std.specs.Prelude.{map, filter, flat_map, length, All}
 use Rattle.std.specs.List.{AllByRecursion, IsDistinct}
-use Rattle.std.proofs.Common.{refl, sym, ap, ◌∙◌, subst, inl, inr, get_or, arith, true≢false}
+use Rattle.std.proofs.Common.{refl, sym, ap, ◌∙◌, inl, inr, get_or, arith, true≢false}
 use Rattle.std.proofs.lemmas.Bool.{eqb-true, eq-eqb}
 use Rattle.std.proofs.lemmas.Bool.Decides.{eqb_tells}
 use Rattle.std.proofs.lemmas.List.Quantifiers.{position-Some}
@@ -12,7 +12,7 @@ use Rattle.shape_eval.specs.declared.shape.PlanShape.{PlanShape}
 use Rattle.shape_eval.specs.Constraint.{constraint_numbers}
 use Rattle.shape_eval.specs.Plan.{if_any, is_targeted, nodes_of, number_of, numbers_of, planned}
 use Rattle.shape_eval.specs.Plan.{HasTermsOf, IsKnownPlan, path_numbers, target_number}
-use Rattle.edit_engine.proofs.PairLemmas.{IsDistinct-in_term_order}
+use Rattle.edit_engine.proofs.TargetChangeLemmas.{IsDistinct-in_term_order}
 
 -- a number that differs from another is not equal to it
 unequal : (a b : ℕ) → (a ≡ b → ⊥) → nat_eq a b ≡ false

@@ -1,7 +1,7 @@
 -- Items that are put under their keys in turn: under each key stands its item in the end.
 use Rattle.std.specs.Prelude.{◌≡◌, ℕ, Bool, true, false, ◌&&◌, ◌==◌, ◌<◌, if◌then◌else◌, List, [], ◌∷◌}
 use Rattle.std.specs.Prelude.{◌++◌, map, Contains}
-use Rattle.std.specs.Prelude.{Option, Some, None, slice_get, ◌+◌}
+use Rattle.std.specs.Prelude.{Option, Some, None, slice_get}
 use Rattle.std.specs.Cmp.{IsEquivalence, eq_by_cmp_equiv, first_so, nat_eq_equiv, second_so}
 use Rattle.std.specs.List.{AllByRecursion, IsDistinct}
 use Rattle.std.specs.Ordering.{eq_by_cmp}

@@ -25,14 +25,14 @@ use Rattle.read_records.specs.declared.reader.Reader.{Reader}
 use Rattle.read_records.specs.declared.reader.Reader.TheVariants.{OfPair, OfTarget}
 use Rattle.read_records.specs.Records.{Commits, after_change, change_of, reads_of}
 use Rattle.pair_results.specs.PairResults.{Commits as CommitsRows, rows_at}
-use Rattle.edit_renewal.specs.declared.renewal.Renewal.{Renewal}
-use Rattle.edit_renewal.specs.Pairs.{pairs_of}
-use Rattle.edit_renewal.specs.Recorded.{Holds}
-use Rattle.edit_renewal.specs.Renewal.{IsReadNow, IsRight, pairs_evaluated, shapes_renewed}
+use Rattle.edit_engine.specs.declared.renewal.Renewal.{Renewal}
+use Rattle.edit_engine.specs.Pairs.{pairs_of}
+use Rattle.edit_engine.specs.Recorded.{Holds}
+use Rattle.edit_engine.specs.Renewal.{IsReadNow, IsRight, pairs_evaluated, shapes_renewed}
 use Rattle.edit_engine.specs.declared.kept.Kept.{Kept}
 use Rattle.edit_engine.specs.inner.Kept.{IsIdle, IsKeptOf}
 use Rattle.edit_engine.specs.inner.Staged.{IsBesideRenewal, IsStaged, MayBeStaged, pairs_renewed}
-use Rattle.edit_renewal.proofs.PairLemmas.{among_or_not}
+use Rattle.edit_engine.proofs.RenewedPairLemmas.{among_or_not}
 use Rattle.edit_engine.proofs.KnownPairLemmas.{pair_known}
 use Rattle.edit_engine.proofs.PairLemmas.{length-among, numbered_or_not, pair_or_not}
 use Rattle.edit_engine.proofs.PutLemmas.{one_number}

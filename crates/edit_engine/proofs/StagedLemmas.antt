@@ -22,10 +22,10 @@ use Rattle.comp_core.specs.declared.row.ResultRow.{ResultRow}
 use Rattle.pair_results.specs.PairResults.{Kept as KeptResults, SameRows, Stages as StagesRows, is_at}
 use Rattle.pair_results.specs.PairResults.{or_else}
 use Rattle.pair_results.specs.PairResults.{rows_after, rows_at}
-use Rattle.edit_renewal.specs.declared.renewal.Evaluated.{Evaluated}
-use Rattle.edit_renewal.specs.declared.renewal.Renewal.{Renewal}
-use Rattle.edit_renewal.specs.declared.renewal.TargetReads.{TargetReads}
-use Rattle.edit_renewal.specs.Renewal.{pairs_evaluated, shapes_renewed}
+use Rattle.edit_engine.specs.declared.renewal.Evaluated.{Evaluated}
+use Rattle.edit_engine.specs.declared.renewal.Renewal.{Renewal}
+use Rattle.edit_engine.specs.declared.renewal.TargetReads.{TargetReads}
+use Rattle.edit_engine.specs.Renewal.{pairs_evaluated, shapes_renewed}
 use Rattle.edit_engine.specs.declared.kept.Kept.{Kept}
 use Rattle.edit_engine.specs.inner.Kept.{IsIdle}
 use Rattle.edit_engine.specs.inner.Put.{HaveStaged, IsPut, ShapeAt, answer_rows, no_rows}

@@ -34,12 +34,12 @@ use Rattle.shape_eval.specs.Results.{results}
 use Rattle.shape_eval.specs.Targets.{nodes_of_target, target_nodes, targets_of}
 use Rattle.pair_results.specs.PairResults.{AreInTermOrder, Kept as KeptResults, Nodes, StandInTermOrder}
 use Rattle.pair_results.specs.PairResults.{all_rows, nodes_if_any, rows_at, rows_of_nodes, shape_rows}
-use Rattle.edit_renewal.specs.MayBeAsked.{MayBeAsked}
-use Rattle.edit_renewal.specs.Pairs.{pairs_of}
+use Rattle.edit_engine.specs.MayBeAsked.{MayBeAsked}
+use Rattle.edit_engine.specs.Pairs.{pairs_of}
 use Rattle.edit_engine.specs.declared.kept.Kept.{Kept}
 use Rattle.edit_engine.specs.EngineState.{EngineState}
 use Rattle.edit_engine.specs.inner.Kept.{AreResults, IsKeptOf}
-use Rattle.edit_renewal.proofs.PairLemmas.{Contains-pairs}
+use Rattle.edit_engine.proofs.RenewedPairLemmas.{Contains-pairs}
 use Rattle.edit_engine.proofs.KnownPairLemmas.{target_nodes_known}
 
 -- ---- the terms of numbers in order

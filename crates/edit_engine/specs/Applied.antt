@@ -1,23 +1,24 @@
 -- What an edit makes of an engine.
-use Rattle.std.specs.Prelude.{◌≡◌, ℕ, true, false, List, ◌++◌, length}
+use Rattle.std.specs.Prelude.{◌≡◌, ℕ, true, false, All, Contains, List, ◌++◌, length}
 use Rattle.shx_term.specs.declared.term.Term.{Term}
 use Rattle.graph_view.specs.Graph.{Graph}
 use Rattle.graph_view.specs.SameGraph.{SameGraph}
 use Rattle.edit_engine.specs.declared.edit.Change.{Change}
-use Rattle.edit_engine.specs.declared.edit.Edit.{Edit}
+use Rattle.shx_term.specs.declared.edit.Edit.{Edit}
 use Rattle.edit_engine.specs.declared.edit.EditFault.{EditFault}
 use Rattle.edit_engine.specs.declared.edit.EditFault.TheVariants.{TooManyTriples, TooManyTerms, Memory}
 use Rattle.edit_engine.specs.Edits.{Outcome, NoEffect, PastTriples, PastTerms, Effect}
-use Rattle.edit_engine.specs.Edits.{changed_by, edited, outcome}
+use Rattle.edit_engine.specs.Edits.{changed_by, edited, outcome, terms_entered}
 use Rattle.edit_engine.specs.EngineState.{EngineState}
-use Rattle.edit_renewal.specs.Touched.{touched_pairs}
+use Rattle.edit_engine.specs.Touched.{touched_pairs}
 
 abbrev pub outcome_of : EngineState → Edit → Outcome
 outcome_of state edit = outcome state.triple_limit state.term_limit state.graph edit
 
--- the same triples, over the same terms and perhaps more
-pub record HasMoreTerms (old new : Graph) : Type 0 where
+-- the same triples, over the same terms and perhaps some of these more
+pub record HasMoreTerms (due : List Term) (old new : Graph) : Type 0 where
   pub more : List Term
+  pub among : All (Contains due) more
   pub terms : new.terms ≡ old.terms ++ more
   pub triples : new.triples ≡ old.triples
 
@@ -57,8 +58,9 @@ pub record IsRefused (old : EngineState) (edit : Edit) (cause : Outcome) (new : 
   pub same : new ≡ old
   pub steps : after ≡ before
 
--- an edit that was refused, by its fault; where memory was wanted, only terms may have been entered
+-- an edit that was refused, by its fault; where memory was wanted, only terms of an insertion may have been
+-- entered
 abbrev pub Refuses : EngineState → Edit → EditFault → EngineState → ℕ → ℕ → Type 0
 Refuses old edit TooManyTriples new before after = IsRefused old edit PastTriples new before after
 Refuses old edit TooManyTerms new before after = IsRefused old edit PastTerms new before after
-Refuses old edit Memory new before after = HasMoreTerms old.graph new.graph
+Refuses old edit Memory new before after = HasMoreTerms (terms_entered edit) old.graph new.graph

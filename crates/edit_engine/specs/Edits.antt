@@ -10,8 +10,8 @@ use Rattle.shx_term.specs.Pool.{with_terms}
 use Rattle.shx_term.specs.Triple.{same_triple}
 use Rattle.shx_term.specs.TripleTerms.{terms_of, numbered}
 use Rattle.graph_view.specs.Graph.{Graph}
-use Rattle.edit_engine.specs.declared.edit.Edit.{Edit}
-use Rattle.edit_engine.specs.declared.edit.Edit.TheVariants.{Insert, Remove}
+use Rattle.shx_term.specs.declared.edit.Edit.{Edit}
+use Rattle.shx_term.specs.declared.edit.Edit.TheVariants.{Insert, Remove}
 
 -- the terms of a graph, and behind them the new ones of a triple
 abbrev pub terms_with : Graph → TermTriple → List Term
@@ -72,7 +72,7 @@ abbrev pub changed_by : Graph → Edit → List Triple
 changed_by g (Insert t) = option_to_list (numbered (terms_with g t) t)
 changed_by g (Remove t) = option_to_list (numbered g.terms t)
 
--- what an edit is, as a triple of terms
-abbrev pub stated_by : Edit → TermTriple
-stated_by (Insert t) = t
-stated_by (Remove t) = t
+-- the terms that it would enter, where they are new
+abbrev pub terms_entered : Edit → List Term
+terms_entered (Insert t) = terms_of (t ∷ [])
+terms_entered (Remove t) = []

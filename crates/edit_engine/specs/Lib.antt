@@ -2,4 +2,9 @@ pub mod Applied
 pub mod EditFault
 pub mod Edits
 pub mod EngineState
+pub mod MayBeAsked
+pub mod Pairs
+pub mod Recorded
+pub mod Renewal
+pub mod Touched
 pub mod inner

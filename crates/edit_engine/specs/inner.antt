@@ -1,5 +1,7 @@
 -- Words of the inside: what is proved of public calls can be believed without them.
 pub mod Kept
+pub mod Parts
 pub mod Put
 pub mod Staged
 pub mod Stated
+pub mod Told

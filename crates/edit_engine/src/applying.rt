@@ -1,24 +1,25 @@
 ghost use Rattle.std.specs.Prelude.{◌≡◌, ◌+◌, ◌<◌, ◌≤◌, ◌^◌, ◌++◌, ℕ, length, All, IfOk, IfErr, OnOk, OnErr};
 ghost use Rattle.std.specs.List.{IsDistinct};
 ghost use Rattle.shx_term.specs.TermOrder.{same_term};
+ghost use Rattle.shx_term.specs.Edit.{IsValidEdit};
 ghost use Rattle.shx_term.specs.ValidTriples.{IsValidTermTriple};
+ghost use Rattle.shx_term.specs.declared.edit.Edit.{Edit};
 ghost use Rattle.graph_view.specs.Patched.{IsPatch, patched};
 ghost use Rattle.graph_view.specs.SameGraph.{SameGraph};
 ghost use Rattle.graph_view.specs.Valid.{IsValidTriple};
 ghost use Rattle.shape_eval.specs.Laws.{ResultsDependOnReads, TargetsDependOnReads};
 ghost use Rattle.edit_engine.specs.Applied.{Applies, Refuses, SamePlan};
-ghost use Rattle.edit_engine.specs.declared.edit.Edit.{Edit};
-ghost use Rattle.edit_engine.specs.Edits.{is_among, stated_by};
+ghost use Rattle.edit_engine.specs.Edits.{is_among};
 ghost use Rattle.edit_engine.specs.inner.Stated.{found_triple};
-ghost use Rattle.edit_renewal.specs.Touched.{touched_pairs};
+ghost use Rattle.edit_engine.specs.Touched.{touched_pairs};
 
 use crate::kept::terms_are_distinct;
+use crate::renewing::renewal_of;
 use crate::stated::{Found, enter_terms, find};
-use crate::{Change, Edit, EditFault, Engine};
-use edit_renewal::renewal_of;
+use crate::{Change, EditFault, Engine};
 use graph_view::{GraphEdit, GraphView, StoreFault};
 use shape_eval::{results_depend_on_reads, targets_depend_on_reads};
-use shx_term::{Memory, Steps, TermTriple, Triple};
+use shx_term::{Edit, Memory, Steps, TermTriple, Triple};
 use std::alloc::{AllocError, Global};
 use std::sync::ledger::Ledger;
 
@@ -29,27 +30,30 @@ const UNCHANGED: Change = Change {
 
 impl<V: GraphEdit> Engine<V> {
     /// Makes an edit, and evaluates exactly the pairs that it touches: those that were none before, and those
-    /// that have read a key that the triple touches. Each evaluation counts a step.
+    /// that have read a key that the triple touches. Each evaluation counts a step; `nested` is not ticked so
+    /// far.
     ///
-    /// It costs what these pairs cost, some look-ups, and for each shape whose target is touched a walk over
-    /// its target nodes.
+    /// It costs what these pairs cost, and some look-ups; where it states or takes back a subclass, also a
+    /// walk over the target nodes of each shape whose target it touches.
     ///
     /// # Errors
     ///
     /// A limit would be passed, and nothing changed. Or memory was refused: then the graph, the report and
-    /// what is kept are as before, but the pool may hold terms of the triple, and steps may have been
-    /// counted.
-    pub fn apply<L: Ledger>(
+    /// what is kept are as before, but after an insertion the pool may hold terms of its triple, and steps
+    /// may have been counted.
+    pub fn apply<L: Ledger, M: Ledger>(
         &mut self,
         alloc: Global,
         edit: &Edit,
+        nested: &mut Steps<M>,
         steps: &mut Steps<L>,
     ) -> Result<Change, EditFault>
-        requires { IsValidTermTriple (stated_by edit.now) }
+        requires { IsValidEdit edit.now }
         ensures plan { SamePlan self.old self.new }
         ensures applied { IfOk result (λ change.
             Applies self.old edit.now change self.new) }
         ensures steps { IfOk result (λ change. steps.new ≡ steps.old + change.evaluated) }
+        ensures nested { nested.new ≡ nested.old }
         ensures refused { IfErr result (λ fault.
             Refuses self.old edit.now fault self.new steps.old steps.new) }
     {

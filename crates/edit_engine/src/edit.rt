@@ -1,22 +1,7 @@
-use shx_term::TermTriple;
+//! What came of an edit, or why nothing did.
 use std::alloc::{AllocError, AllocFailed};
 use std::error::Error;
 use std::fmt;
-
-/// What is asked of the graph: that it holds a triple from now on, or that it does not.
-pub enum Edit {
-    Insert(TermTriple),
-    Remove(TermTriple),
-}
-
-impl Drop for Edit {
-    fn drop(self) {
-        match self {
-            Edit::Insert(_triple) => {}
-            Edit::Remove(_triple) => {}
-        }
-    }
-}
 
 /// What came of an edit.
 #[derive(Clone, Copy, Debug, PartialEq, Eq)]

@@ -16,16 +16,17 @@ pub struct Engine<V: GraphEdit> {
 
 impl<V: GraphEdit> Model for Engine<V> {
     ghost use Rattle.shape_eval.specs.Planned.{plan_of};
-    ghost use Rattle.edit_renewal.specs.MayBeAsked.{MayBeAsked};
+    ghost use Rattle.edit_engine.specs.MayBeAsked.{MayBeAsked};
     ghost use Rattle.edit_engine.specs.EngineState.{EngineState};
     ghost use Rattle.edit_engine.specs.inner.Kept.{IsKeptOf};
 
     ghost Value = { EngineState };
 
+    ghost use Rattle.std.proofs.Props.{props};
     ghost use Rattle.std.specs.Coded.{codes};
     ghost use Rattle.path_eval.specs.contracts.path.Path as path;
 
-    ghost coded = { Prim.hlevel (codes, path.the_row.coded) };
+    ghost coded = { Prim.hlevel (codes, props, path.the_row.coded) };
 
     ghost view = { λ a. record {
       plan = plan_of a.plan;

@@ -5,14 +5,14 @@ ghost use Rattle.shx_term.specs.TermOrder.{same_term};
 ghost use Rattle.comp_core.specs.Pairs.{same_pair};
 ghost use Rattle.pair_results.specs.PairResults.{Commits as CommitsRows, SameRows};
 ghost use Rattle.read_records.specs.Records.{Commits, SameRecords, change_of};
-ghost use Rattle.edit_renewal.specs.Renewal.{pairs_evaluated, shapes_renewed};
+ghost use Rattle.edit_engine.specs.Renewal.{pairs_evaluated, shapes_renewed};
 ghost use Rattle.edit_engine.specs.inner.Kept.{IsIdle, KeepsNothing, SameKept};
 ghost use Rattle.edit_engine.specs.inner.Put.{HaveStaged, IsPut, answer_rows, no_rows, reads_now};
 ghost use Rattle.edit_engine.specs.inner.Put.{target_reader};
 ghost use Rattle.edit_engine.specs.inner.Staged.{IsStaged, MayBeStaged};
 
+use crate::renewal::{Evaluated, Renewal, TargetReads};
 use comp_core::Pair;
-use edit_renewal::{Evaluated, Renewal, TargetReads};
 use indexmap::IndexSet;
 use pair_results::PairResults;
 use read_records::{Reader, Records};

@@ -1,9 +1,16 @@
 //! What is true of plans at all, as contracts of functions that do nothing.
-ghost use Rattle.std.specs.Prelude.{◌<◌, ◌≤◌, nat_eq, List, length, All};
+ghost use Rattle.std.specs.Prelude.{◌≡◌, ◌<◌, ◌≤◌, nat_eq, List, length, All};
 ghost use Rattle.std.specs.List.{IsDistinct};
 ghost use Rattle.shx_term.specs.declared.term.Term.{Term};
+ghost use Rattle.graph_view.specs.Graph.{Graph};
+ghost use Rattle.graph_view.specs.Valid.{IsValidView};
 ghost use Rattle.shape_eval.specs.declared.shape.PlanShape.{PlanShape};
-ghost use Rattle.shape_eval.specs.Plan.{IsKnownPlan, IsPlan, planned};
+ghost use Rattle.shape_eval.specs.Plan.{IsKnownPlan, IsPlan, Planned, planned};
+ghost use Rattle.shape_eval.specs.Report.{pairs, report};
+ghost use Rattle.edit_engine.specs.Applied.{HasMoreTerms};
+ghost use Rattle.edit_engine.specs.MayBeAsked.{MayBeAsked};
+
+use shape_eval::{results_depend_on_reads, targets_depend_on_reads};
 
 /// A plan targets shapes of its own, each once.
 pub fn plans_target_shapes_once()
@@ -18,3 +25,15 @@ pub fn plans_stay_known()
     ensures { (terms longer : List Term) (shapes : List PlanShape) → length terms ≤ length longer
         → IsKnownPlan terms shapes → IsKnownPlan longer shapes }
 {}
+
+/// Terms that are entered beside the same triples change neither the pairs nor the report: so they are those
+/// of before where an edit wanted memory.
+pub fn entered_terms_change_no_report()
+    ensures pairs { (plan : Planned) (due : List Term) (g h : Graph) → MayBeAsked plan g
+        → HasMoreTerms due g h → IsValidView h → pairs plan h ≡ pairs plan g }
+    ensures report { (plan : Planned) (due : List Term) (g h : Graph) → MayBeAsked plan g
+        → HasMoreTerms due g h → IsValidView h → report plan h ≡ report plan g }
+{
+    results_depend_on_reads();
+    targets_depend_on_reads();
+}

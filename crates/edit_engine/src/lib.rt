@@ -3,18 +3,21 @@
 //!
 //! | file | what it holds |
 //! |---|---|
-//! | `edit.rt` | `Edit`, `Change`, `EditFault`: what is asked, what came of it, and why nothing did |
 //! | `engine.rt` | `Engine`: a graph, a plan, and what is kept of them |
 //! | `telling.rt` | what it tells of the present graph |
 //! | `opening.rt` | `Engine::open`: everything is evaluated once |
 //! | `applying.rt` | `Engine::apply`: an edit, tested, evaluated and made |
-//! | `kept.rt` | `Kept`: what is kept of targets and pairs, and how it is renewed at once |
-//! | `laws.rt` | what is true of plans that an engine may be opened with |
+//! | `edit.rt` | `Change`, `EditFault`: what came of an edit, and why nothing did |
 //! | `stated.rt` | the terms of a triple, found and entered |
+//! | `renewing.rt` | what a change of the graph makes of what is kept, beside the graph |
+//! | `renewal.rt`, `parts.rt` | `Renewal`: what is to be kept from then on, and how it is gathered |
+//! | `touched.rt`, `target_change.rt` | whom a change touches; which nodes enter a target, and which leave |
+//! | `kept.rt` | `Kept`: what is kept of targets and pairs, and how it is renewed at once |
+//! | `laws.rt`, `same_graphs.rt` | what is true of plans, and of graphs that hold the same triples |
 //!
-//! It stands on `edit_renewal` for what a change touches and what that comes to, and on `read_records` and
-//! `pair_results` for what is kept. Start with `engine.rt` and `applying.rt`; `specs/Edits.antt` says what
-//! becomes of the graph, and `specs/Applied.antt` what an edit makes of an engine.
+//! It stands on `shape_eval` for what a pair comes to, and on `read_records` and `pair_results` for what is
+//! kept. Start with `engine.rt` and `applying.rt`; `specs/Edits.antt` says what becomes of the graph,
+//! `specs/Touched.antt` which pairs are evaluated, and `specs/Applied.antt` what an edit makes of an engine.
 #![tactic(auto)]
 
 mod applying;
@@ -23,9 +26,17 @@ mod engine;
 mod kept;
 mod laws;
 mod opening;
+mod parts;
+mod renewal;
+mod renewing;
+mod same_graphs;
 mod stated;
+mod target_change;
 mod telling;
+mod touched;
 
-pub use edit::{Change, Edit, EditFault};
+pub use edit::{Change, EditFault};
 pub use engine::Engine;
-pub use laws::{plans_stay_known, plans_target_shapes_once};
+pub use laws::{entered_terms_change_no_report, plans_stay_known, plans_target_shapes_once};
+pub use same_graphs::{same_graphs_answer_alike, same_graphs_are_edited_alike};
+pub use shx_term::Edit;

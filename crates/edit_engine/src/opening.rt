@@ -3,14 +3,14 @@ ghost use Rattle.graph_view.specs.Valid.{IsValidView};
 ghost use Rattle.shape_eval.specs.Plan.{IsKnownPlan};
 ghost use Rattle.shape_eval.specs.Planned.{plan_of};
 ghost use Rattle.shape_eval.specs.Report.{pairs};
-ghost use Rattle.edit_renewal.specs.MayBeAsked.{MayBeAsked};
-ghost use Rattle.edit_renewal.specs.Pairs.{pairs_of};
+ghost use Rattle.edit_engine.specs.MayBeAsked.{MayBeAsked};
+ghost use Rattle.edit_engine.specs.Pairs.{pairs_of};
 ghost use Rattle.edit_engine.specs.inner.Kept.{IsIdle, IsKeptOf};
 
 use crate::Engine;
 use crate::kept::{Kept, terms_are_distinct};
+use crate::renewing::opening_of;
 use comp_core::ShapeNo;
-use edit_renewal::opening_of;
 use graph_view::{GraphEdit, GraphView};
 use shape_eval::Plan;
 use shx_term::{Memory, Steps};
@@ -18,11 +18,13 @@ use std::alloc::Global;
 use std::sync::ledger::Ledger;
 
 impl<V: GraphEdit + Drop> Engine<V> {
-    /// The engine of a plan and a graph. Each pair is evaluated once, and each evaluation counts a step.
-    pub fn open<L: Ledger>(
+    /// The engine of a plan and a graph. Each pair is evaluated once, and each evaluation counts a step;
+    /// `nested` is not ticked so far.
+    pub fn open<L: Ledger, M: Ledger>(
         alloc: Global,
         plan: Plan,
         view: V,
+        nested: &mut Steps<M>,
         steps: &mut Steps<L>,
     ) -> Result<Engine<V>, Memory>
         requires { MayBeAsked (plan_of plan) (V.GraphView.graph view) }
@@ -32,6 +34,7 @@ impl<V: GraphEdit + Drop> Engine<V> {
         ensures triple_limit { IfOk result (λ engine. engine.triple_limit ≡ V.triple_limit view) }
         ensures steps { OnOk result
             (steps.new ≡ steps.old + length (pairs (plan_of plan) (V.GraphView.graph view))) }
+        ensures nested { nested.new ≡ nested.old }
     {
         let mut kept = Kept::new(alloc, plan.len())?;
         for shape in plan.targeted() {

@@ -68,7 +68,8 @@ pub(crate) fn enter_terms<E: GraphEdit>(
         ((E.GraphView.graph graph.new).terms ≡ terms_with (E.GraphView.graph graph.old) stated.now) }
     ensures triple { IfOk result (λ triple.
         numbered (E.GraphView.graph graph.new).terms stated.now ≡ Some triple) }
-    ensures more { HasMoreTerms (E.GraphView.graph graph.old) (E.GraphView.graph graph.new) }
+    ensures more { HasMoreTerms (terms_of (stated.now ∷ [])) (E.GraphView.graph graph.old)
+        (E.GraphView.graph graph.new) }
     ensures valid { IsValidView (E.GraphView.graph graph.old) → IsValidTermTriple stated.now
         → IsValidView (E.GraphView.graph graph.new) }
     ensures term_limit { E.GraphView.term_limit graph.new ≡ E.GraphView.term_limit graph.old }
@@ -88,7 +89,8 @@ fn number<E: GraphEdit>(graph: &mut E, term: &Term, found: Option<Id>) -> Result
     ensures terms { OnOk result ((E.GraphView.graph graph.new).terms
         ≡ with_term (E.GraphView.graph graph.old).terms term.now) }
     ensures number { IfOk result (λ id. number_in (E.GraphView.graph graph.new).terms term.now ≡ Some id) }
-    ensures more { HasMoreTerms (E.GraphView.graph graph.old) (E.GraphView.graph graph.new) }
+    ensures more { HasMoreTerms (term.now ∷ []) (E.GraphView.graph graph.old)
+        (E.GraphView.graph graph.new) }
     ensures valid { IsValidView (E.GraphView.graph graph.old) → IsNotWide term.now
         → IsValidView (E.GraphView.graph graph.new) }
     ensures term_limit { E.GraphView.term_limit graph.new ≡ E.GraphView.term_limit graph.old }

@@ -1,9 +1,11 @@
 //! What an engine tells of the present graph.
 ghost use Rattle.std.specs.Prelude.{◌≡◌, length};
+ghost use Rattle.std.specs.List.{IsDistinct};
+ghost use Rattle.shx_term.specs.Triple.{same_triple};
 ghost use Rattle.comp_core.specs.Rows.{is_empty};
 ghost use Rattle.shape_eval.specs.Planned.{plan_of};
 ghost use Rattle.shape_eval.specs.Report.{pairs, report};
-ghost use Rattle.edit_renewal.specs.MayBeAsked.{MayBeAsked};
+ghost use Rattle.edit_engine.specs.MayBeAsked.{MayBeAsked};
 
 use crate::Engine;
 use graph_view::{GraphEdit, GraphView};
@@ -55,10 +57,13 @@ impl<V: GraphEdit> Engine<V> {
     /// The graph, of which the plan may be asked. It takes no memory.
     pub fn view(&self) -> &V
         ensures asked { MayBeAsked self.now.plan self.now.graph }
+        ensures distinct { IsDistinct same_triple self.now.graph.triples }
         ensures graph { V.GraphView.graph result.now ≡ self.now.graph }
         ensures term_limit { V.GraphView.term_limit result.now ≡ self.now.term_limit }
         ensures triple_limit { V.triple_limit result.now ≡ self.now.triple_limit }
     {
+        // Its triples are distinct.
+        let _ = self.view.len();
         &self.view
     }
 }

@@ -9,8 +9,8 @@ use Rattle.shape_eval.specs.Results.{results}
 use Rattle.read_records.specs.declared.reader.Reader.{Reader}
 use Rattle.read_records.specs.Records.{SameRecords, reads_of}
 use Rattle.pair_results.specs.PairResults.{HasNothing, Kept as KeptResults, SameRows, rows_at}
-use Rattle.edit_renewal.specs.Pairs.{pairs_of}
-use Rattle.edit_renewal.specs.Recorded.{AreRecorded}
+use Rattle.edit_engine.specs.Pairs.{pairs_of}
+use Rattle.edit_engine.specs.Recorded.{AreRecorded}
 use Rattle.edit_engine.specs.declared.kept.Kept.{Kept}
 
 -- the results of these pairs are kept, and no others

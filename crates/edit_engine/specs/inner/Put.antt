@@ -8,8 +8,8 @@ use Rattle.read_records.specs.declared.reader.Reader.{Reader}
 use Rattle.read_records.specs.declared.reader.Reader.TheVariants.{OfPair, OfTarget}
 use Rattle.read_records.specs.Records.{Recorded, SameRecords, change_of}
 use Rattle.pair_results.specs.PairResults.{Kept, SameRows, rows_after}
-use Rattle.edit_renewal.specs.declared.renewal.Evaluated.{Evaluated}
-use Rattle.edit_renewal.specs.declared.renewal.TargetReads.{TargetReads}
+use Rattle.edit_engine.specs.declared.renewal.Evaluated.{Evaluated}
+use Rattle.edit_engine.specs.declared.renewal.TargetReads.{TargetReads}
 
 -- each item stands under its key, and under all other keys what stood there
 pub record IsPut {I K V : Type 0} (key : I → K) (value : I → V) (items : List I) (old new : K → V)

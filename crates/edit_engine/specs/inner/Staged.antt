@@ -9,10 +9,10 @@ use Rattle.shape_eval.specs.Report.{at_shape}
 use Rattle.read_records.specs.declared.reader.Reader.TheVariants.{OfPair, OfTarget}
 use Rattle.read_records.specs.Records.{SameRecords, change_of}
 use Rattle.pair_results.specs.PairResults.{SameRows, rows_after, rows_at}
-use Rattle.edit_renewal.specs.declared.renewal.Evaluated.{Evaluated}
-use Rattle.edit_renewal.specs.declared.renewal.Renewal.{Renewal}
-use Rattle.edit_renewal.specs.declared.renewal.TargetReads.{TargetReads}
-use Rattle.edit_renewal.specs.Renewal.{pairs_evaluated, shapes_renewed}
+use Rattle.edit_engine.specs.declared.renewal.Evaluated.{Evaluated}
+use Rattle.edit_engine.specs.declared.renewal.Renewal.{Renewal}
+use Rattle.edit_engine.specs.declared.renewal.TargetReads.{TargetReads}
+use Rattle.edit_engine.specs.Renewal.{pairs_evaluated, shapes_renewed}
 use Rattle.edit_engine.specs.declared.kept.Kept.{Kept}
 
 -- the pairs of a renewal: those that leave, and those that were evaluated

@@ -1,7 +1,7 @@
 use Rattle.std.proofs.Common.{rules, sym, subst, ◌∙◌, ◌<◌, length}
 use Rattle.std.specs.Prelude.{Some}
 use Rattle.edit_engine.specs.inner.Put.{HaveStaged, answer_rows}
-use Rattle.edit_renewal.specs.declared.renewal.Evaluated.{Evaluated}
+use Rattle.edit_engine.specs.declared.renewal.Evaluated.{Evaluated}
 use Rattle.edit_engine.proofs.StagedLemmas.{HaveStaged-more, HaveStaged-none, SameRecords-then}
 use Rattle.edit_engine.proofs.StagedLemmas.{SameRows-then, next_so}
 use Rattle.edit_engine.proofs.LeftLemmas.{IsLeft-end, IsLeft-more, IsLeft-start}

@@ -4,7 +4,7 @@ use Rattle.graph_view.proofs.ValidLemmas.{AllKnown-valid, IsValidTriple-numbered
 use Rattle.graph_view.specs.Valid.{IsValidTriple}
 use Rattle.edit_engine.proofs.AppliedLemmas.{Applies-inserted, IsPatch-inserted, room_where_fits}
 use Rattle.edit_engine.proofs.AppliedLemmas.{stated_where_held}
-use Rattle.edit_engine.proofs.EnterLemmas.{IsEntered-more, is_whole_again}
+use Rattle.edit_engine.proofs.EnterLemmas.{AreAlike-entered, is_whole_again}
 use Rattle.edit_engine.proofs.PatchLemmas.{All-one, length-added}
 use Rattle.edit_engine.proofs.engine.Engine.insert.Goals as goal
 
@@ -60,11 +60,12 @@ returns-clause-applied g c =
     let room = room_where_fits old (g.V.GraphView.term_limit c.self.inside.view) c.pool-2.result.now
     c.args.stated.now c.has_room.result c.pool-2.ensures.terms c.pool-2.ensures.limit c.has_room.ensures
     c.if-not-has_room.false in
-    let entered = IsEntered-more (plan_of c.self.inside.plan) old new c.self.invariant.0
+    let alike = AreAlike-entered (plan_of c.self.inside.plan) old new c.self.invariant.0
     c.enter_terms.ensures.more (c.enter_terms.ensures.valid c.self.invariant.0.valid c.requires)
     c.results_depend_on_reads.ensures c.targets_depend_on_reads.ensures in
     Applies-inserted _ c.args.self.now c.make.new.self c.self.view_is c.args.stated.now c.in_ok-triple.triple
-    c.in_ok-evaluated.evaluated new entered c.in_ok-triple.ensures.terms c.in_ok-triple.ensures.triple
+    c.in_ok-evaluated.evaluated new alike c.in_ok-triple.ensures.terms c.enter_terms.ensures.more.triples
+    c.in_ok-triple.ensures.triple
     (record {
       absent = stated ∙ c.if-holds.false;
       few = omega (arith, c.len.ensures.count, c.limit.ensures.value, c.if-len-limit.false);

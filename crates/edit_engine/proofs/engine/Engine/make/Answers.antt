@@ -4,7 +4,7 @@ use Rattle.graph_view.specs.Patched.{patched}
 use Rattle.graph_view.specs.SameGraph.{SameGraph}
 use Rattle.graph_view.specs.Valid.{IsValidTriple}
 use Rattle.shape_eval.specs.Planned.{plan_of}
-use Rattle.edit_renewal.specs.Touched.{touched_pairs}
+use Rattle.edit_engine.specs.Touched.{touched_pairs}
 use Rattle.edit_engine.specs.EngineState.{EngineState}
 use Rattle.edit_engine.specs.inner.Staged.{IsStaged, MayBeStaged}
 use Rattle.edit_engine.proofs.ChangedLemmas.{IsKeptOf-made, IsKeptOf-unchanged, MayBeAsked-exchanged}

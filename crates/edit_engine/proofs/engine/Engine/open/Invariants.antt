@@ -1,6 +1,6 @@
 use Rattle.std.proofs.Common.{◌≡◌, ◌+◌, take, length}
 use Rattle.shape_eval.specs.Planned.{plan_of}
-use Rattle.edit_renewal.specs.Pairs.{pairs_of}
+use Rattle.edit_engine.specs.Pairs.{pairs_of}
 use Rattle.edit_engine.specs.inner.Kept.{IsKeptOf}
 use Rattle.edit_engine.proofs.engine.Engine.open.Given as goal
 

@@ -1,7 +1,7 @@
 use Rattle.std.proofs.Common.{rules, ◌<◌, ◌+◌, length, arith, ◌≡◌, vec_len}
 use Rattle.std.proofs.lemmas.Result.{on_ok_weaker}
 use Rattle.comp_core.specs.Pairs.{same_pair}
-use Rattle.edit_renewal.specs.Renewal.{pairs_evaluated}
+use Rattle.edit_engine.specs.Renewal.{pairs_evaluated}
 use Rattle.edit_engine.proofs.StagedLemmas.{All-first, All-second, IsDistinct-second, IsStaged-parts}
 use Rattle.edit_engine.proofs.kept.Kept.stage_all.Goals as goal
 

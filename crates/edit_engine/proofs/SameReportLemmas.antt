@@ -1,0 +1,61 @@
+-- What a plan is asked of a graph depends on which triples it holds, and not on their order.
+use Rattle.std.specs.Prelude.{◌≡◌}
+use Rattle.std.specs.List.{IsDistinct}
+use Rattle.std.proofs.Common.{sym, ap, ◌∙◌, subst}
+use Rattle.shx_term.specs.declared.edit.Edit.{Edit}
+use Rattle.shx_term.specs.Edit.{IsValidEdit}
+use Rattle.shx_term.specs.Triple.{same_triple}
+use Rattle.shx_term.proofs.SetLemmas.{SameMembers-sym}
+use Rattle.graph_view.specs.Graph.{Graph}
+use Rattle.graph_view.specs.SameGraph.{SameGraph}
+use Rattle.graph_view.proofs.AgreeLemmas.{AgreeOn-same, Agree-on_terms}
+use Rattle.shape_eval.specs.Laws.{ResultsDependOnReads, TargetsDependOnReads}
+use Rattle.shape_eval.specs.Plan.{IsKnownPlan, Planned}
+use Rattle.shape_eval.specs.Report.{pairs, report}
+use Rattle.edit_engine.specs.Edits.{changed_by, edited}
+use Rattle.edit_engine.specs.MayBeAsked.{MayBeAsked}
+use Rattle.edit_engine.specs.Touched.{touched_pairs}
+use Rattle.edit_engine.proofs.AlikeLemmas.{AreAlike, pairs_alike, report_alike, touched_alike}
+use Rattle.edit_engine.proofs.AlikeLemmas.{touched_among}
+use Rattle.edit_engine.proofs.SameGraphEditLemmas.{SameGraph-edited, changed-same}
+use Rattle.edit_engine.proofs.ValidEditLemmas.{MayBeAsked-edited, valid_members}
+
+pub MayBeAsked-same : (plan : Planned) (g h : Graph) → SameGraph g h → MayBeAsked plan h → MayBeAsked plan g
+MayBeAsked-same plan g h same asked = record {
+  valid = valid_members h g (sym same.terms) (SameMembers-sym same.triples) asked.valid;
+  known = subst (λ terms. IsKnownPlan terms plan.shapes) (sym same.terms) asked.known;
+  refers = asked.refers;
+  within = asked.within;
+  once = asked.once;
+}
+
+module _ (results_law : ResultsDependOnReads) (targets_law : TargetsDependOnReads) where
+  AreAlike-same : (plan : Planned) (g h : Graph) → SameGraph g h → MayBeAsked plan h → AreAlike plan g h
+  AreAlike-same plan g h same asked = record {
+    before = MayBeAsked-same plan g h same asked;
+    after = asked;
+    agree = λ keys. Agree-on_terms (sym same.terms) (AgreeOn-same same.triples);
+    results_law = results_law;
+    targets_law = targets_law;
+  }
+
+  pub pairs-same : (plan : Planned) (g h : Graph) → SameGraph g h → MayBeAsked plan h
+      → pairs plan g ≡ pairs plan h
+  pairs-same plan g h same asked =
+      pairs_alike plan g h (AreAlike-same plan g h same asked) plan.targeted
+
+  pub report-same : (plan : Planned) (g h : Graph) → SameGraph g h → MayBeAsked plan h
+      → report plan g ≡ report plan h
+  report-same plan g h same asked = report_alike plan g h (AreAlike-same plan g h same asked)
+
+  pub touched-same : (plan : Planned) (g h : Graph) (edit : Edit) → SameGraph g h → MayBeAsked plan h
+      → IsDistinct same_triple h.triples → IsValidEdit edit
+      → touched_pairs plan g (edited g edit) (changed_by g edit)
+      ≡ touched_pairs plan h (edited h edit) (changed_by h edit)
+  touched-same plan g h edit same asked distinct fit =
+      let alike = AreAlike-same plan g h same asked in
+      let after = pairs-same plan (edited g edit) (edited h edit) (SameGraph-edited g h edit same distinct)
+      (MayBeAsked-edited plan h edit asked fit) in
+      touched_alike plan g h alike (changed_by g edit) (edited g edit)
+      ∙ touched_among plan h (edited g edit) (edited h edit) after (changed_by g edit)
+      ∙ ap (touched_pairs plan h (edited h edit)) (changed-same g h edit same)

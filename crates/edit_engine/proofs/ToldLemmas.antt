@@ -1,0 +1,300 @@
+-- Where no subclass changes, nodes of which no changed triple tells stay target nodes, or none.
+use Rattle.std.specs.Prelude.{◌≡◌, ℕ, ◌≤◌, true, not, ◌++◌, nat_eq, List, [], ◌∷◌, filter, flat_map, length}
+use Rattle.std.specs.Prelude.{Bool, false, Some, slice_get, take, Contains, ◌↔◌}
+use Rattle.std.specs.Cmp.{nat_eq_equiv}
+use Rattle.std.specs.List.{list_any}
+use Rattle.std.specs.Ordering.{nat_cmp}
+use Rattle.std.specs.Option.{option_to_list}
+use Rattle.std.proofs.Common.{refl, sym, ap, ◌∙◌, subst, inl, inr, arith, true≢false}
+use Rattle.std.proofs.lemmas.Bool.{eqb-true}
+use Rattle.std.proofs.lemmas.List.{take_all}
+use Rattle.std.proofs.lemmas.List.Elements.{Contains-append_cases, Contains-append_left}
+use Rattle.std.proofs.lemmas.List.Elements.{Contains-append_right}
+use Rattle.shx_term.specs.Chains.{Chain}
+use Rattle.shx_term.specs.InOrder.{Lists}
+use Rattle.shx_term.specs.Members.{SameMembers}
+use Rattle.shx_term.specs.declared.triple.Triple.{Triple}
+use Rattle.shx_term.specs.declared.vocabulary.TheConstants.{RDFS_SUB_CLASS_OF}
+use Rattle.shx_term.proofs.IdOrderLemmas.{in_term_order_lists}
+use Rattle.shx_term.proofs.MemberLemmas.{Contains-filter, Contains-flat_map, Contains-from_filter}
+use Rattle.shx_term.proofs.MemberLemmas.{Contains-from_flat_map, Contains-from_map, Contains-head}
+use Rattle.shx_term.proofs.MemberLemmas.{Contains-map, Contains-one, none_in_empty}
+use Rattle.graph_view.specs.declared.key.Key.{Key}
+use Rattle.graph_view.specs.Graph.{AllKnown, Graph, objects_of, subjects_of, triples_with}
+use Rattle.graph_view.specs.Patched.{patched}
+use Rattle.graph_view.proofs.LookUpLemmas.{Contains-objects_of, Contains-subjects_of, Contains-triples_with}
+use Rattle.graph_view.proofs.PatchedLemmas.{Contains-patched, is_not}
+use Rattle.graph_view.proofs.SameGraphLemmas.{IsDistinct-filter}
+use Rattle.comp_core.specs.Rows.{is_empty}
+use Rattle.path_eval.specs.declared.direction.Direction.TheVariants.{Backward}
+use Rattle.path_eval.specs.Instances.{instance_route, IsInstance}
+use Rattle.path_eval.specs.Relation.{PathReads}
+use Rattle.path_eval.proofs.ChainLemmas.{Chain-keeps, chain_here, chain_step}
+use Rattle.path_eval.proofs.InstanceLemmas.{instance_kept, instance_test}
+use Rattle.path_eval.proofs.MeetsLemmas.{path_lists}
+use Rattle.path_eval.proofs.PathReadsLemmas.{path_reads_are}
+use Rattle.shape_eval.specs.declared.shape.PlanShape.{PlanShape}
+use Rattle.shape_eval.specs.declared.target.Target.{Target}
+use Rattle.shape_eval.specs.declared.target.Target.TheVariants as target
+use Rattle.shape_eval.specs.Targets.{nodes_of_target, nodes_of_targets, reads_of_target, target_nodes}
+use Rattle.shape_eval.specs.Targets.{target_reads, targets_of}
+use Rattle.edit_engine.specs.Renewal.{IsDifference}
+use Rattle.edit_engine.specs.inner.Told.{is_node_of, is_node_of_any, is_only_in, is_subclass, node_told}
+use Rattle.edit_engine.specs.inner.Told.{nodes_told, told_by}
+use Rattle.edit_engine.proofs.RenewedPairLemmas.{among_or_not}
+use Rattle.edit_engine.proofs.TargetChangeLemmas.{IsDistinct-ascending}
+use Rattle.edit_engine.proofs.TestLemmas.{any_from, any_to, first_alone, only_first}
+
+-- ---- target nodes as a relation over triples
+
+abbrev IsNodeOf : List Triple → Target → ℕ → Type 0
+IsNodeOf ts (target.Node node) x = x ≡ node
+IsNodeOf ts (target.Class class) x = IsInstance ts x class
+IsNodeOf ts (target.SubjectsOf p) x = (o : ℕ) × Contains ts (record { s = x; p = p; o = o })
+IsNodeOf ts (target.ObjectsOf p) x = (s : ℕ) × Contains ts (record { s = s; p = p; o = x })
+
+not_empty : (xs : List ℕ) → (not (is_empty xs) ≡ true) ↔ ((x : ℕ) × Contains xs x)
+not_empty [] = (λ e. absurd (cc), λ h. absurd (none_in_empty h.0 h.1))
+not_empty (x ∷ xs) = (
+  λ e. (x, Contains-head x xs),
+  λ h. is_not (is_empty (x ∷ xs)) (λ e. absurd (omega (arith, eqb-true (length (x ∷ xs)) 0 e))),
+)
+
+module _ (g : Graph) (known : AllKnown g) where
+  nodes_are : (t : Target) (x : ℕ) → Contains (nodes_of_target g t) x ↔ IsNodeOf g.triples t x
+  nodes_are (target.Node node) x = Contains-one node x
+  nodes_are (target.Class class) x = (path_lists g known Backward instance_route class).each x
+  nodes_are (target.SubjectsOf p) x = (
+    λ c.
+        let from = Contains-from_map (λ (t : Triple). t.s) (triples_with g p) x c in
+        let t = from.0 in
+        let held = (Contains-triples_with g p t).0 from.1 in
+        let same : t ≡ record { s = x; p = p; o = t.o } =
+        λ i. record { s = sym from.2 i; p = held.1 i; o = t.o } in
+        (t.o, subst (Contains g.triples) same held.0),
+    λ h.
+        let t : Triple = record { s = x; p = p; o = h.0 } in
+        Contains-map (λ (u : Triple). u.s) (triples_with g p) t
+        ((Contains-triples_with g p t).1 (h.1, refl)),
+  )
+  nodes_are (target.ObjectsOf p) x = (
+    λ c.
+        let from = Contains-from_map (λ (t : Triple). t.o) (triples_with g p) x c in
+        let t = from.0 in
+        let held = (Contains-triples_with g p t).0 from.1 in
+        let same : t ≡ record { s = t.s; p = p; o = x } =
+        λ i. record { s = t.s; p = held.1 i; o = sym from.2 i } in
+        (t.s, subst (Contains g.triples) same held.0),
+    λ h.
+        let t : Triple = record { s = h.0; p = p; o = x } in
+        Contains-map (λ (u : Triple). u.o) (triples_with g p) t
+        ((Contains-triples_with g p t).1 (h.1, refl)),
+  )
+
+  node_test : (t : Target) (x : ℕ) → (is_node_of g x t ≡ true) ↔ IsNodeOf g.triples t x
+  node_test (target.Node node) x =
+      (λ h. sym (eqb-true node x h), λ e. subst (λ y. nat_eq node y ≡ true) (sym e) (nat_eq_equiv.refl node))
+  node_test (target.Class class) x = instance_test g known x class
+  node_test (target.SubjectsOf p) x =
+      let some = not_empty (objects_of g x p) in (
+        λ e. let h = some.0 e in (h.0, (Contains-objects_of g x p h.0).0 h.1),
+        λ h. some.1 (h.0, (Contains-objects_of g x p h.0).1 h.1),
+      )
+  node_test (target.ObjectsOf p) x =
+      let some = not_empty (subjects_of g p x) in (
+        λ e. let h = some.0 e in (h.0, (Contains-subjects_of g p x h.0).0 h.1),
+        λ h. some.1 (h.0, (Contains-subjects_of g p x h.0).1 h.1),
+      )
+
+  -- a node of one of the targets
+  any_node : (ts : List Target) (x : ℕ) → Contains (nodes_of_targets g ts) x
+      ↔ ((t : Target) × Contains ts t × IsNodeOf g.triples t x)
+  any_node ts x =
+      let listed = (in_term_order_lists g.terms (flat_map (nodes_of_target g) ts)).each x in (
+        λ c.
+            let from = Contains-from_flat_map (nodes_of_target g) ts x (listed.0 c) in
+            (from.0, from.1, (nodes_are from.0 x).0 from.2),
+        λ h.
+            listed.1 (Contains-flat_map (nodes_of_target g) ts h.0 x h.1 ((nodes_are h.0 x).1 h.2)),
+      )
+
+  -- the test finds exactly the target nodes
+  any_node_test : (ts : List Target) (x : ℕ)
+      → (is_node_of_any g ts x ≡ true) ↔ Contains (nodes_of_targets g ts) x
+  any_node_test ts x =
+      let all = any_node ts x in (
+        λ e.
+            let found = any_from (is_node_of g x) ts e in
+            all.1 (found.0, found.1, (node_test found.0 x).0 found.2),
+        λ c.
+            let h = all.0 c in
+            any_to (is_node_of g x) ts h.0 h.1 ((node_test h.0 x).1 h.2),
+      )
+
+-- ---- what stays
+
+-- the same triples, but for the changed ones
+pub record SameBeside (changed ts us : List Triple) : Type 0 where
+  pub each : (t : Triple) → (Contains changed t → ⊥) → Contains ts t ↔ Contains us t
+
+pub SameBeside-patched : (g h : Graph) (added removed : List Triple) → h ≡ patched g added removed
+    → SameBeside (added ++ removed) g.triples h.triples
+SameBeside-patched g h added removed is =
+    subst (λ (k : Graph). SameBeside (added ++ removed) g.triples k.triples) (sym is) (record {
+      each = λ t none.
+          let are = Contains-patched g added removed t in (
+            λ c. are.1 (inl (c, λ d. none (Contains-append_right added removed t d))),
+            λ c. elim (are.0 c) [
+              | inl d ↦ d.0
+              | inr d ↦ absurd (none (Contains-append_left added removed t d))
+            ],
+          );
+    })
+
+pub SameBeside-back : {changed ts us : List Triple} → SameBeside changed ts us → SameBeside changed us ts
+SameBeside-back same = record { each = λ t none. ((same.each t none).1, (same.each t none).0) }
+
+-- no subclass is among the changed triples
+pub record NoSubclass (changed : List Triple) : Type 0 where
+  pub none : (t : Triple) → Contains changed t → is_subclass t ≡ true → ⊥
+
+none_passes : (ts : List Triple) (any : Bool) → any ≡ list_any is_subclass ts → any ≡ false
+    → (t : Triple) → Contains ts t → is_subclass t ≡ true → ⊥
+none_passes ts any tests out t c h = true≢false (sym (any_to is_subclass ts t c h) ∙ sym tests ∙ out)
+
+pub NoSubclass-both : (added removed : List Triple) (a b : Bool) → a ≡ list_any is_subclass added
+    → b ≡ list_any is_subclass removed → a ≡ false → b ≡ false → NoSubclass (added ++ removed)
+NoSubclass-both added removed a b first second not_first not_second = record {
+  none = λ t c h. elim (Contains-append_cases added removed t c) [
+    | inl d ↦ none_passes added a first not_first t d h
+    | inr d ↦ none_passes removed b second not_second t d h
+  ];
+}
+
+module _ {changed ts us : List Triple} (no_subclass : NoSubclass changed)
+    (same : SameBeside changed ts us) where
+  wider : (s o : ℕ) → Contains ts (record { s = s; p = RDFS_SUB_CLASS_OF; o = o })
+      → Contains us (record { s = s; p = RDFS_SUB_CLASS_OF; o = o })
+  wider s o = (same.each _ (λ d. no_subclass.none _ d refl)).0
+
+  chain_kept : (x y : ℕ) → Chain (λ s o. Contains ts (record { s = s; p = RDFS_SUB_CLASS_OF; o = o })) x y
+      → Chain (λ s o. Contains us (record { s = s; p = RDFS_SUB_CLASS_OF; o = o })) x y
+  chain_kept x y chain =
+      let R = λ (s o : ℕ). Contains ts (record { s = s; p = RDFS_SUB_CLASS_OF; o = o }) in
+      let S = λ (s o : ℕ). Contains us (record { s = s; p = RDFS_SUB_CLASS_OF; o = o }) in
+      Chain-keeps R (Chain S x) (λ z w c step. chain_step S x z w c (wider z w step)) x y chain
+      (chain_here S x)
+
+  -- what is read for the instances of a class depends on subclasses alone
+  class_reads_kept : (class : ℕ) (k : Key) → PathReads ts Backward instance_route class k
+      → PathReads us Backward instance_route class k
+  class_reads_kept class k h = elim h [
+    | inl more ↦ elim more [
+      | inl none ↦ absurd none
+      | inr m ↦ inl (inr (m.0, m.1, (m.2.0, chain_kept m.2.0 m.0 m.2.1, m.2.2)))
+    ]
+    | inr m ↦ inr (m.0, (m.1.0, chain_kept m.0 m.1.0 m.1.1, m.1.2), m.2)
+  ]
+
+  module _ (targets : List Target) where
+    is_told : (t : Target) (u : Triple) (x : ℕ) → Contains targets t → Contains changed u
+        → node_told t u ≡ Some x → Contains (nodes_told targets changed) x
+    is_told t u x c d e =
+        Contains-flat_map (told_by targets) changed u x d
+        (Contains-flat_map (λ a. option_to_list (node_told a u)) targets t x c
+        (subst (λ o. Contains (option_to_list o) x) (sym e) (Contains-head x [])))
+
+    node_kept : (t : Target) (x : ℕ) → Contains targets t → (Contains (nodes_told targets changed) x → ⊥)
+        → IsNodeOf ts t x → IsNodeOf us t x
+    node_kept (target.Node node) x c none h = h
+    node_kept (target.Class class) x c none h =
+        instance_kept ts us x
+        (λ o. (same.each _ (λ d. none (is_told (target.Class class) _ x c d refl))).0) wider class h
+    node_kept (target.SubjectsOf p) x c none h =
+        let e : node_told (target.SubjectsOf p) (record { s = x; p = p; o = h.0 }) ≡ Some x =
+        rw (nat_eq_equiv.refl p) refl in
+        (h.0, (same.each _ (λ d. none (is_told (target.SubjectsOf p) _ x c d e))).0 h.1)
+    node_kept (target.ObjectsOf p) x c none h =
+        let e : node_told (target.ObjectsOf p) (record { s = h.0; p = p; o = x }) ≡ Some x =
+        rw (nat_eq_equiv.refl p) refl in
+        (h.0, (same.each _ (λ d. none (is_told (target.ObjectsOf p) _ x c d e))).0 h.1)
+
+-- ---- two graphs
+
+module _ {changed : List Triple} (g h : Graph) (known_g : AllKnown g) (known_h : AllKnown h)
+    (no_subclass : NoSubclass changed) (same : SameBeside changed g.triples h.triples) where
+  any_node_kept : (ts : List Target) (x : ℕ) → (Contains (nodes_told ts changed) x → ⊥)
+      → Contains (nodes_of_targets g ts) x → Contains (nodes_of_targets h ts) x
+  any_node_kept ts x none c =
+      let from = (any_node g known_g ts x).0 c in
+      (any_node h known_h ts x).1 (from.0, from.1, node_kept no_subclass same ts from.0 x from.1 none from.2)
+
+  reads_kept : (t : Target) (k : Key) → Contains (reads_of_target g t) k → Contains (reads_of_target h t) k
+  reads_kept (target.Node node) k c = c
+  reads_kept (target.Class class) k c =
+      (path_reads_are h known_h Backward instance_route class k).1
+      (class_reads_kept no_subclass same class k
+      ((path_reads_are g known_g Backward instance_route class k).0 c))
+  reads_kept (target.SubjectsOf p) k c = c
+  reads_kept (target.ObjectsOf p) k c = c
+
+  pub target_reads_kept : (shapes : List PlanShape) (n : ℕ) (k : Key)
+      → Contains (target_reads shapes g n) k → Contains (target_reads shapes h n) k
+  target_reads_kept shapes n k c =
+      let targets = targets_of (slice_get shapes n) in
+      let from = Contains-from_flat_map (reads_of_target g) targets k c in
+      Contains-flat_map (reads_of_target h) targets from.0 k from.1 (reads_kept from.0 k from.2)
+
+  -- of the nodes that are told of, those that are target nodes in one graph alone are the difference
+  pub IsDifference-told : (shapes : List PlanShape) (n : ℕ) (told found : List ℕ)
+      → Lists nat_cmp (Contains (nodes_told (targets_of (slice_get shapes n)) changed)) told
+      → found ≡ filter (is_only_in g h (targets_of (slice_get shapes n))) told
+      → IsDifference nat_eq (target_nodes shapes g n) (target_nodes shapes h n) found
+  IsDifference-told shapes n told found tells is =
+      let targets = targets_of (slice_get shapes n) in
+      let test = is_only_in g h targets in
+      let here = λ (x : ℕ). is_node_of_any g targets x in
+      let there = λ (x : ℕ). is_node_of_any h targets x in
+      subst (IsDifference nat_eq (target_nodes shapes g n) (target_nodes shapes h n)) (sym is) (record {
+        once = IsDistinct-filter test nat_eq told (IsDistinct-ascending told tells.sorted);
+        each = λ x.
+            let first = any_node_test g known_g targets x in
+            let second = any_node_test h known_h targets x in (
+              λ c.
+                  let kept = Contains-from_filter test told x c in
+                  let only = only_first (here x) (there x) kept.1 in
+                  (first.0 only.0, λ d. only.1 (second.1 d)),
+              λ m. elim (among_or_not x (nodes_told targets changed)) [
+                | inl c ↦
+                    Contains-filter test told x ((tells.each x).1 c)
+                    (first_alone (here x) (there x) (first.1 m.0) (λ e. m.1 (second.0 e)))
+                | inr none ↦ absurd (m.1 (any_node_kept targets x none m.0))
+              ],
+            );
+      })
+
+pub SameMembers-reads_told : {changed : List Triple} (g h : Graph) → AllKnown g → AllKnown h
+    → NoSubclass changed → SameBeside changed g.triples h.triples → (shapes : List PlanShape) (n : ℕ)
+    → SameMembers (target_reads shapes g n) (target_reads shapes h n)
+SameMembers-reads_told g h known_g known_h no_subclass same shapes n = record {
+  each = λ k. (
+    target_reads_kept g h known_g known_h no_subclass same shapes n k,
+    target_reads_kept h g known_h known_g no_subclass (SameBeside-back same) shapes n k,
+  );
+}
+
+-- ---- as it is computed
+
+-- the nodes that are told of the targets of a shape
+pub listed_at : (shapes : List PlanShape) (n : ℕ) (sh : PlanShape) (targets : List Target)
+    (changed : List Triple) (told : List ℕ) → slice_get shapes n ≡ Some sh → targets ≡ sh.targets.items
+    → Lists nat_cmp (Contains (nodes_told targets changed)) told
+    → Lists nat_cmp (Contains (nodes_told (targets_of (slice_get shapes n)) changed)) told
+listed_at shapes n sh targets changed told at are lists =
+    subst (λ ts. Lists nat_cmp (Contains (nodes_told ts changed)) told) (are ∙ sym (ap targets_of at)) lists
+
+-- a filter of all that were gone over
+pub gone_over : (test : ℕ → Bool) (found items told : List ℕ) (i : ℕ) → found ≡ filter test (take i items)
+    → items ≡ told → length items ≤ i → found ≡ filter test told
+gone_over test found items told i is are all =
+    is ∙ ap (filter test) (take_all i items all ∙ are)

@@ -1,0 +1,13 @@
+use Rattle.std.specs.Prelude.{take}
+use Rattle.shape_eval.specs.Planned.{plan_of}
+use Rattle.edit_engine.specs.inner.Parts.{SameTargets, pairs_staying}
+use Rattle.edit_engine.proofs.EvaluatesLemmas.{HasEvaluated}
+use Rattle.edit_engine.proofs.renewal.Renewal.evaluate_touched.Given as goal
+
+abbrev pub invariant-loop-reader : goal.invariant-loop-reader
+invariant-loop-reader g l = record {
+  done : HasEvaluated (plan_of l.plan).shapes (g.V.GraphView.graph l.view) l.fn.self.evaluated.items
+      l.fn.steps l.self.evaluated.items l.steps
+      (pairs_staying (take l.reader-index l.touched) l.fn.self.leaving.keys);
+  others : SameTargets l.fn.self l.self;
+}

@@ -1,0 +1,43 @@
+//! What is true of graphs that hold the same triples over the same terms, in whatever order, as contracts of
+//! functions that do nothing.
+ghost use Rattle.std.specs.Prelude.{◌≡◌, ℕ, length};
+ghost use Rattle.std.specs.List.{IsDistinct};
+ghost use Rattle.shx_term.specs.declared.edit.Edit.{Edit};
+ghost use Rattle.shx_term.specs.Edit.{IsValidEdit};
+ghost use Rattle.shx_term.specs.Triple.{same_triple};
+ghost use Rattle.graph_view.specs.Graph.{Graph};
+ghost use Rattle.graph_view.specs.SameGraph.{SameGraph};
+ghost use Rattle.shape_eval.specs.Plan.{Planned};
+ghost use Rattle.shape_eval.specs.Report.{pairs, report};
+ghost use Rattle.edit_engine.specs.Edits.{changed_by, edited, outcome};
+ghost use Rattle.edit_engine.specs.MayBeAsked.{MayBeAsked};
+ghost use Rattle.edit_engine.specs.Touched.{touched_pairs};
+
+use shape_eval::{results_depend_on_reads, targets_depend_on_reads};
+
+/// A plan that may be asked of one may be asked of the other, and has the same pairs and the same report.
+pub fn same_graphs_answer_alike()
+    ensures asked { (plan : Planned) (g h : Graph) → SameGraph g h → MayBeAsked plan h → MayBeAsked plan g }
+    ensures pairs { (plan : Planned) (g h : Graph) → SameGraph g h → MayBeAsked plan h
+        → pairs plan g ≡ pairs plan h }
+    ensures report { (plan : Planned) (g h : Graph) → SameGraph g h → MayBeAsked plan h
+        → report plan g ≡ report plan h }
+{
+    results_depend_on_reads();
+    targets_depend_on_reads();
+}
+
+/// The same comes of an edit of either, they are the same after it, and it touches the same pairs.
+pub fn same_graphs_are_edited_alike()
+    ensures outcome { (most_triples most_terms : ℕ) (g h : Graph) (edit : Edit) → SameGraph g h
+        → outcome most_triples most_terms g edit ≡ outcome most_triples most_terms h edit }
+    ensures edited { (g h : Graph) (edit : Edit) → SameGraph g h → IsDistinct same_triple h.triples
+        → SameGraph (edited g edit) (edited h edit) }
+    ensures touched { (plan : Planned) (g h : Graph) (edit : Edit) → SameGraph g h → MayBeAsked plan h
+        → IsDistinct same_triple h.triples → IsValidEdit edit
+        → touched_pairs plan g (edited g edit) (changed_by g edit)
+        ≡ touched_pairs plan h (edited h edit) (changed_by h edit) }
+{
+    results_depend_on_reads();
+    targets_depend_on_reads();
+}

@@ -1,0 +1,226 @@
+//! Which nodes a change makes target nodes of a shape, and which it leaves none.
+ghost use Rattle.std.specs.Prelude.{◌≡◌, ◌<◌, ◌++◌, filter, length, nat_eq, not, slice_get, Contains};
+ghost use Rattle.std.specs.Prelude.{IfOk, MatchOption, OnOk};
+ghost use Rattle.std.specs.List.{list_any};
+ghost use Rattle.std.specs.Ordering.{nat_cmp};
+ghost use Rattle.comp_core.specs.TermTests.{is_among};
+ghost use Rattle.shx_term.specs.InOrder.{Lists};
+ghost use Rattle.shx_term.specs.Members.{SameMembers};
+ghost use Rattle.graph_view.specs.Patched.{IsPatch, patched};
+ghost use Rattle.path_eval.specs.declared.direction.Direction.{Direction};
+ghost use Rattle.path_eval.specs.Instances.{instance_route};
+ghost use Rattle.path_eval.specs.Values.{nodes_reached};
+ghost use Rattle.shape_eval.specs.Plan.{IsKnownPlan};
+ghost use Rattle.shape_eval.specs.Planned.{plan_of};
+ghost use Rattle.shape_eval.specs.Targets.{target_nodes, target_reads, targets_of};
+ghost use Rattle.edit_engine.specs.Renewal.{IsDifference};
+ghost use Rattle.edit_engine.specs.inner.Told.{is_node_of, is_node_of_any, is_subclass, node_told};
+ghost use Rattle.edit_engine.specs.inner.Told.{nodes_told, told_by};
+
+use comp_core::{Lookup, ShapeNo};
+use graph_view::{GraphView, Reads};
+use path_eval::classes;
+use shape_eval::{Plan, Target, eval_target};
+use shx_term::vocabulary::{RDF_TYPE, RDFS_SUB_CLASS_OF};
+use shx_term::{Id, Memory, Triple};
+use std::alloc::Global;
+
+/// What a change makes of the target of a shape.
+#[derive(Drop)]
+pub(crate) struct TargetChange {
+    /// The nodes that are targets now and were none.
+    pub(crate) entering: Vec<Id>,
+    /// Those that were targets and are none now.
+    pub(crate) leaving: Vec<Id>,
+    /// What is read for the target now, where that may be something else than before.
+    pub(crate) reads: Option<Reads>,
+}
+
+/// What a change of the graph makes of a target. The nodes that the changed triples tell of are tested in
+/// both graphs; only where a subclass is stated or taken back, the target is gone over.
+pub(crate) fn target_change<V: GraphView, W: GraphView>(
+    alloc: Global,
+    before: &V,
+    after: &W,
+    plan: &Plan,
+    shape: ShapeNo,
+    added: &[Triple],
+    removed: &[Triple],
+) -> Result<TargetChange, Memory>
+    requires before { IsKnownPlan (V.graph before.now).terms (plan_of plan.now).shapes }
+    requires after { IsKnownPlan (W.graph after.now).terms (plan_of plan.now).shapes }
+    requires shape { shape < length (plan_of plan.now).shapes }
+    requires patch { IsPatch (V.graph before.now) added.now removed.now }
+    requires patched { W.graph after.now ≡ patched (V.graph before.now) added.now removed.now }
+    ensures entering { IfOk result (λ change. IsDifference nat_eq
+        (target_nodes (plan_of plan.now).shapes (W.graph after.now) shape)
+        (target_nodes (plan_of plan.now).shapes (V.graph before.now) shape) change.entering.items) }
+    ensures leaving { IfOk result (λ change. IsDifference nat_eq
+        (target_nodes (plan_of plan.now).shapes (V.graph before.now) shape)
+        (target_nodes (plan_of plan.now).shapes (W.graph after.now) shape) change.leaving.items) }
+    ensures reads { IfOk result (λ change. MatchOption change.reads
+        (SameMembers (target_reads (plan_of plan.now).shapes (V.graph before.now) shape)
+        (target_reads (plan_of plan.now).shapes (W.graph after.now) shape))
+        (λ reads. SameMembers reads (target_reads (plan_of plan.now).shapes (W.graph after.now) shape))) }
+{
+    if changes_subclasses(added) || changes_subclasses(removed) {
+        return change_gone_over(alloc, before, after, plan, shape);
+    }
+    // All numbers in either graph have terms.
+    let _ = before.pool();
+    let _ = after.pool();
+    let told = nodes_told(alloc, &plan.shape(shape).targets, added, removed)?;
+    let mut entering = Vec::new(alloc);
+    let mut leaving = Vec::new(alloc);
+    for node in &told {
+        let was = is_target(alloc, before, plan, shape, *node)?;
+        let is = is_target(alloc, after, plan, shape, *node)?;
+        match (was, is) {
+            (false, true) => entering.push(*node)?,
+            (true, false) => leaving.push(*node)?,
+            _ => {}
+        }
+    }
+    Ok(TargetChange {
+        entering,
+        leaving,
+        reads: None,
+    })
+}
+
+fn changes_subclasses(triples: &[Triple]) -> bool
+    ensures { result ≡ list_any is_subclass triples.now }
+{
+    triples.iter().any(|t| t.p == RDFS_SUB_CLASS_OF)
+}
+
+// The nodes that changed triples tell of, each once: no other becomes a target node or ceases to be one.
+fn nodes_told(
+    alloc: Global,
+    targets: &[Target],
+    added: &[Triple],
+    removed: &[Triple],
+) -> Result<Vec<Id>, Memory>
+    ensures { IfOk result (λ nodes.
+        Lists nat_cmp (Contains (nodes_told targets.now (added.now ++ removed.now))) nodes.items) }
+{
+    let mut nodes = Vec::new(alloc);
+    for t in added.iter().chain(removed) {
+        add_told(&mut nodes, targets, t)?;
+    }
+    nodes.sort_unstable();
+    nodes.dedup();
+    Ok(nodes)
+}
+
+// Adds the nodes that one triple tells of.
+fn add_told(nodes: &mut Vec<Id>, targets: &[Target], t: &Triple) -> Result<(), Memory>
+    ensures { OnOk result (nodes.new.items ≡ nodes.old.items ++ told_by targets.now t.now) }
+{
+    for target in targets {
+        if let Some(node) = node_told(*target, t) {
+            nodes.push(node)?;
+        }
+    }
+    Ok(())
+}
+
+// The node that a triple tells of, as a target node of this target or as none.
+fn node_told(target: Target, t: &Triple) -> Option<Id>
+    ensures { result ≡ node_told target t.now }
+{
+    match target {
+        Target::Node(_) => None,
+        Target::Class(_) => (t.p == RDF_TYPE).then_some(t.s),
+        Target::SubjectsOf(p) => (t.p == p).then_some(t.s),
+        Target::ObjectsOf(p) => (t.p == p).then_some(t.o),
+    }
+}
+
+// Whether a node is a target node of a shape.
+fn is_target<V: GraphView>(
+    alloc: Global,
+    view: &V,
+    plan: &Plan,
+    shape: ShapeNo,
+    node: Id,
+) -> Result<bool, Memory>
+    requires shape { shape < length (plan_of plan.now).shapes }
+    ensures { IfOk result (λ is. is ≡ is_node_of_any (V.graph view.now)
+        (targets_of (slice_get (plan_of plan.now).shapes shape)) node) }
+{
+    let mut reads = Reads::new(alloc);
+    let classes = classes(alloc, view, node, &mut reads)?;
+    for target in &plan.shape(shape).targets {
+        if is_node_of(alloc, view, *target, node, &classes, &mut reads)? {
+            return Ok(true);
+        }
+    }
+    Ok(false)
+}
+
+// Whether a node, of which these are the classes, is a node of a target.
+fn is_node_of<V: GraphView>(
+    alloc: Global,
+    view: &V,
+    target: Target,
+    node: Id,
+    classes: &[Id],
+    reads: &mut Reads,
+) -> Result<bool, Memory>
+    requires classes { classes.now ≡ nodes_reached (V.graph view.now) Direction.Forward instance_route node }
+    ensures { IfOk result (λ is. is ≡ is_node_of (V.graph view.now) node target) }
+{
+    match target {
+        Target::Node(other) => Ok(other == node),
+        Target::Class(class) => Ok(classes.contains(&class)),
+        Target::SubjectsOf(p) => Ok(!view.objects(alloc, node, p, reads)?.is_empty()),
+        Target::ObjectsOf(p) => Ok(!view.subjects(alloc, p, node, reads)?.is_empty()),
+    }
+}
+
+// The same by all target nodes, before and after.
+fn change_gone_over<V: GraphView, W: GraphView>(
+    alloc: Global,
+    before: &V,
+    after: &W,
+    plan: &Plan,
+    shape: ShapeNo,
+) -> Result<TargetChange, Memory>
+    requires before { IsKnownPlan (V.graph before.now).terms (plan_of plan.now).shapes }
+    requires after { IsKnownPlan (W.graph after.now).terms (plan_of plan.now).shapes }
+    requires shape { shape < length (plan_of plan.now).shapes }
+    ensures entering { IfOk result (λ change. IsDifference nat_eq
+        (target_nodes (plan_of plan.now).shapes (W.graph after.now) shape)
+        (target_nodes (plan_of plan.now).shapes (V.graph before.now) shape) change.entering.items) }
+    ensures leaving { IfOk result (λ change. IsDifference nat_eq
+        (target_nodes (plan_of plan.now).shapes (V.graph before.now) shape)
+        (target_nodes (plan_of plan.now).shapes (W.graph after.now) shape) change.leaving.items) }
+    ensures reads { IfOk result (λ change. MatchOption change.reads
+        (SameMembers (target_reads (plan_of plan.now).shapes (V.graph before.now) shape)
+        (target_reads (plan_of plan.now).shapes (W.graph after.now) shape))
+        (λ reads. SameMembers reads (target_reads (plan_of plan.now).shapes (W.graph after.now) shape))) }
+{
+    let mut reads = Reads::new(alloc);
+    let new = eval_target(alloc, after, plan, shape, &mut reads)?;
+    let old = eval_target(alloc, before, plan, shape, &mut Reads::new(alloc))?;
+    Ok(TargetChange {
+        entering: without(alloc, &new, &old)?,
+        leaving: without(alloc, &old, &new)?,
+        reads: Some(reads),
+    })
+}
+
+// The nodes that are not among others, in their order.
+fn without(alloc: Global, nodes: &[Id], others: &[Id]) -> Result<Vec<Id>, Memory>
+    ensures { IfOk result (λ left. left.items ≡ filter (λ id. not (is_among id others.now)) nodes.now) }
+{
+    let others = Lookup::new(alloc, others)?;
+    let mut left = Vec::new(alloc);
+    for node in nodes {
+        if !others.has(*node) {
+            left.push(*node)?;
+        }
+    }
+    Ok(left)
+}

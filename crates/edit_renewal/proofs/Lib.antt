@@ -1,9 +1,0 @@
-pub mod ChangeLemmas
-pub mod EvaluatesLemmas
-pub mod KnownLemmas
-pub mod LeavingLemmas
-pub mod PairLemmas
-pub mod ReaderLemmas
-pub mod RenewalLemmas
-pub mod TargetChangeLemmas
-pub mod TouchedByLemmas

@@ -1,0 +1,12 @@
+//! The engine at work, as tests alone: edits, and how many pairs each evaluates.
+//!
+//! | file | what it holds |
+//! |---|---|
+//! | `tests/rows.rt` | the table: shapes, data and edits |
+//! | `tests/edits.rt` | an engine goes through the edits of a row, beside reports made from nothing |
+//! | `tests/watched.rt` | edits over a graph in which a look-up is seen |
+//! | `tests/opened.rt` | plans and graphs of texts |
+#![tactic(auto)]
+
+#[cfg(test)]
+mod tests;

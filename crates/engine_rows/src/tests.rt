@@ -1,0 +1,4 @@
+mod edits;
+mod opened;
+mod rows;
+mod watched;

@@ -1,0 +1,172 @@
+//! Plans and graphs of texts.
+ghost use Rattle.std.specs.Prelude.{◌≡◌, ◌≤◌, length, IfOk};
+ghost use Rattle.graph_view.specs.ListGraph.{plain_graph};
+ghost use Rattle.graph_view.specs.Valid.{IsValidView};
+ghost use Rattle.shape_eval.specs.Plan.{IsPlan, planned};
+ghost use Rattle.shape_eval.specs.Planned.{plan_of};
+ghost use Rattle.edit_engine.specs.MayBeAsked.{MayBeAsked};
+
+use due_view::{is_known_triple, is_valid};
+use edit_engine::{plans_stay_known, plans_target_shapes_once};
+use graph_view::{GraphEdit, GraphView, ListGraph};
+use iri_resolve::is_absolute;
+use row_tools::{RowFault, iri_text};
+use shape_check::{CheckFault, check_shapes};
+use shape_compile::{CompileFault, compile};
+use shape_eval::Plan;
+use shx_outside::RegexHost;
+use shx_term::{Limits, Pool, Scope, Triple};
+use std::alloc::Global;
+use ttl_read::{Document, TtlFault, read_document};
+
+const PREFIXES: &str = "\
+@prefix e: <http://e/> .
+@prefix sh: <http://www.w3.org/ns/shacl#> .
+@prefix rdf: <http://www.w3.org/1999/02/22-rdf-syntax-ns#> .
+@prefix rdfs: <http://www.w3.org/2000/01/rdf-schema#> .
+@prefix xsd: <http://www.w3.org/2001/XMLSchema#> .
+";
+
+// What a text behind the prefixes states.
+fn read(alloc: Global, text: &str, scope: Scope, pool: &mut Pool) -> Result<Document, RowFault> {
+    let base = "file:///";
+    if !is_absolute(base) {
+        return Err(RowFault::Unread);
+    }
+    let base = iri_text(alloc, base)?;
+    let text = format!(in alloc; "{PREFIXES}{text}")?;
+    let limits = Limits::program();
+    match read_document(alloc, text.as_bytes(), &base, scope, &limits, pool) {
+        Ok(document) => Ok(document),
+        Err(TtlFault::At { .. }) => Err(RowFault::Unread),
+        Err(TtlFault::Memory) => Err(RowFault::Memory),
+    }
+}
+
+fn state(graph: &mut ListGraph, t: Triple) -> Result<(), RowFault> {
+    if !is_known_triple(graph, &t) || graph.insert(t).is_err() {
+        return Err(RowFault::Unread);
+    }
+    Ok(())
+}
+
+// The graph of a document, which may hold so many triples.
+fn graph_of(
+    alloc: Global,
+    pool: Pool,
+    document: &Document,
+    triples: u64,
+) -> Result<ListGraph, RowFault> {
+    let mut graph = ListGraph::new(alloc, pool, triples);
+    for t in &document.triples {
+        state(&mut graph, *t)?;
+    }
+    Ok(graph)
+}
+
+// The plan of a graph of shapes.
+fn compiled(alloc: Global, graph: &ListGraph) -> Result<Plan, RowFault>
+    ensures fits { IfOk result (λ plan. IsPlan graph.now.pool.terms (plan_of plan).shapes) }
+    ensures plan { IfOk result (λ plan. plan_of plan ≡ planned graph.now.pool.terms (plan_of plan).shapes) }
+{
+    let limits = Limits::program();
+    let decls = match check_shapes(alloc, graph, &limits) {
+        Ok(decls) => decls,
+        Err(CheckFault::Shape(_)) => return Err(RowFault::Unread),
+        Err(CheckFault::Memory) => return Err(RowFault::Memory),
+    };
+    let mut host = RegexHost::new();
+    match compile(alloc, &decls, graph.pool(), &limits, &mut host) {
+        Ok(plan) => Ok(plan),
+        Err(CompileFault::Memory) => Err(RowFault::Memory),
+        Err(_) => Err(RowFault::Unread),
+    }
+}
+
+/// The plan of a shapes text, and the pool that it was read into.
+#[derive(Drop)]
+struct Shapes {
+    plan: Plan,
+    pool: Pool,
+}
+
+fn shapes_of(alloc: Global, text: &str) -> Result<Shapes, RowFault>
+    ensures fits { IfOk result (λ shapes. IsPlan shapes.pool.terms (plan_of shapes.plan).shapes) }
+    ensures plan { IfOk result
+        (λ shapes. plan_of shapes.plan ≡ planned shapes.pool.terms (plan_of shapes.plan).shapes) }
+{
+    let Stated { graph, document: _ } = state_text(
+        alloc,
+        text,
+        Scope::Shapes,
+        Pool::with_vocabulary(alloc, 1_000)?,
+        1_000,
+    )?;
+    let plan = compiled(alloc, &graph)?;
+    Ok(Shapes {
+        plan,
+        pool: graph.into_pool(),
+    })
+}
+
+/// The graph of a text, and the text, behind which lines are read.
+#[derive(Drop)]
+struct Stated {
+    graph: ListGraph,
+    document: Document,
+}
+
+// The graph may hold so many triples.
+fn state_text(
+    alloc: Global,
+    text: &str,
+    scope: Scope,
+    mut pool: Pool,
+    triples: u64,
+) -> Result<Stated, RowFault> {
+    let document = read(alloc, text, scope, &mut pool)?;
+    let graph = graph_of(alloc, pool, &document, triples)?;
+    Ok(Stated { graph, document })
+}
+
+// The valid graph of a data text, in which the terms of the pool stay.
+fn data_of(alloc: Global, text: &str, pool: Pool, triples: u64) -> Result<Stated, RowFault>
+    ensures valid { IfOk result (λ read. IsValidView (plain_graph read.graph)) }
+    ensures terms { IfOk result (λ read. length pool.terms ≤ length read.graph.pool.terms) }
+{
+    let known = pool.len();
+    let data = state_text(alloc, text, Scope::Data, pool, triples)?;
+    if data.graph.pool().len() >= known && is_valid(&data.graph) {
+        Ok(data)
+    } else {
+        Err(RowFault::Unread)
+    }
+}
+
+/// The plan of a shapes text, the graph of a data text, and that text, behind which lines are read.
+#[derive(Drop)]
+pub(super) struct Opened {
+    pub(super) plan: Plan,
+    pub(super) graph: ListGraph,
+    pub(super) document: Document,
+}
+
+/// What two texts state. The graph may hold so many triples.
+pub(super) fn open_texts(
+    alloc: Global,
+    shapes: &str,
+    data: &str,
+    triples: u64,
+) -> Result<Opened, RowFault>
+    ensures { IfOk result (λ opened. MayBeAsked (plan_of opened.plan) (plain_graph opened.graph)) }
+{
+    plans_target_shapes_once();
+    plans_stay_known();
+    let Shapes { plan, pool } = shapes_of(alloc, shapes)?;
+    let Stated { graph, document } = data_of(alloc, data, pool, triples)?;
+    Ok(Opened {
+        plan,
+        graph,
+        document,
+    })
+}

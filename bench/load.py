@@ -111,7 +111,7 @@ def scripts(folder, empty, out):
         before = run([PROGRAM, empty, path], out)[0]
         behind, _, peak, _ = run([PROGRAM, empty, path, lines], out)
         with open(out, encoding="utf-8") as answers:
-            changed = sum(answer == "ok changed\n" for answer in answers)
+            changed = sum(answer.startswith("ok changed ") for answer in answers)
         took = f"{before:.2f} | {behind - before:.2f}"
         print(f"| {name} | {count} | {took} | {peak:.0f} | {changed} |", flush=True)
         os.remove(path)

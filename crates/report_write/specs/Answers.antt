@@ -41,8 +41,8 @@ refusal_head line code = codes "refused line " ++ decimal line ++ codes ": " ++ 
 
 -- an answer as a line
 abbrev pub line_text : List Term → Answer → List ℕ
-line_text terms Changed = codes "ok changed\n"
-line_text terms Unchanged = codes "ok unchanged\n"
+line_text terms (Changed evaluated) = codes "ok changed evaluated " ++ decimal evaluated ++ codes "\n"
+line_text terms Unchanged = codes "ok unchanged evaluated 0\n"
 line_text terms (Count triples pairs results) =
     codes "count triples=" ++ decimal triples ++ codes " pairs=" ++ decimal pairs
     ++ codes " results=" ++ decimal results ++ codes "\n"

@@ -13,7 +13,10 @@ use text_output::{Format, WriteFault, Writer, add_number, add_term};
 /// What is said to a line of a script, before a report, or in its place. Terms are told by their numbers.
 #[derive(Clone, Copy, Debug, PartialEq, Eq)]
 pub enum Answer {
-    Changed,
+    /// The graph is another one, for which so many pairs were evaluated.
+    Changed {
+        evaluated: u64,
+    },
     Unchanged,
     Count {
         /// Of the graph.
@@ -108,8 +111,8 @@ fn add_line<W: Pieces>(answer: &Answer, pool: &Pool, out: &mut W)
     ensures { W.added out.old out.new (line_text pool.now.terms answer.now) }
 {
     match answer {
-        Answer::Changed => out.add(b"ok changed\n"),
-        Answer::Unchanged => out.add(b"ok unchanged\n"),
+        Answer::Changed { evaluated } => add_change(*evaluated, out),
+        Answer::Unchanged => out.add(b"ok unchanged evaluated 0\n"),
         Answer::Count {
             triples,
             pairs,
@@ -129,6 +132,14 @@ fn add_line<W: Pieces>(answer: &Answer, pool: &Pool, out: &mut W)
         Answer::Notice { count } => add_notice(*count, out),
         Answer::Usage => out.add(USAGE),
     }
+}
+
+fn add_change<W: Pieces>(evaluated: u64, out: &mut W)
+    ensures { W.added out.old out.new (codes "ok changed evaluated " ++ decimal evaluated ++ codes "\n") }
+{
+    out.add(b"ok changed evaluated ");
+    add_number(evaluated, out);
+    out.add(b"\n");
 }
 
 fn add_count<W: Pieces>(triples: u64, pairs: u64, results: u64, out: &mut W)

@@ -1,12 +1,13 @@
 -- What a line asks for, by its form.
 use Rattle.std.proofs.Common.{◌≡◌, ℕ, ◌≤◌, List, length, Result, Ok, Err, None, refl, sym, ap, subst, codes}
 use Rattle.std.specs.Str.{IsUtf8}
+use Rattle.shx_term.specs.declared.edit.Edit.TheVariants.{Insert, Remove}
 use Rattle.shx_term.specs.declared.fault_codes.TheConstants.{LINE_SYNTAX}
 use Rattle.shx_term.specs.declared.limits.Limits.{Limits}
 use Rattle.shx_term.specs.declared.triple.TermTriple.{TermTriple}
 use Rattle.ttl_meaning.specs.declared.document.Document.{Document}
 use Rattle.script_lines.specs.declared.command.Command.{Command}
-use Rattle.script_lines.specs.declared.command.Command.TheVariants.{Insert, Remove}
+use Rattle.script_lines.specs.declared.command.Command.TheVariants.{Edit as edits}
 use Rattle.script_lines.specs.declared.fault.LineFault.{LineFault}
 use Rattle.script_lines.specs.declared.fault.LineFault.TheVariants.{Line}
 use Rattle.script_lines.specs.declared.form.Form.{Form}
@@ -30,11 +31,11 @@ remove_terms line form terms is has =
 
 module _ (line : List ℕ) (document : Document) (form : Form) (terms : Terms) where
   pub insert_asked : form ≡ the_form.Insert terms → (triple : TermTriple)
-      → IsTripleRead line document terms (Ok triple) → IsAsked line document form (Ok (Insert triple))
+      → IsTripleRead line document terms (Ok triple) → IsAsked line document form (Ok (edits (Insert triple)))
   insert_asked is triple read = rw is (Ok triple, read, refl)
 
   pub remove_asked : form ≡ the_form.Remove terms → (triple : TermTriple)
-      → IsTripleRead line document terms (Ok triple) → IsAsked line document form (Ok (Remove triple))
+      → IsTripleRead line document terms (Ok triple) → IsAsked line document form (Ok (edits (Remove triple)))
   remove_asked is triple read = rw is (Ok triple, read, refl)
 
   pub insert_refused : form ≡ the_form.Insert terms → (fault : LineFault)

@@ -1,6 +1,7 @@
 -- A line has one reading.
 use Rattle.std.proofs.Common.{◌≡◌, ℕ, List, Result, Ok, Err, refl, sym, ap, ◌∙◌, subst, arith, inl, inr}
 use Rattle.std.specs.Str.{IsUtf8}
+use Rattle.shx_term.specs.declared.edit.Edit.TheVariants.{Insert, Remove}
 use Rattle.shx_term.specs.declared.limits.Limits.{Limits}
 use Rattle.shx_term.specs.declared.term.Term.{Term}
 use Rattle.shx_term.specs.declared.triple.TermTriple.{TermTriple}
@@ -8,14 +9,13 @@ use Rattle.ttl_meaning.specs.declared.document.Document.{Document}
 use Rattle.ttl_read.specs.ReadTerm.{Found, A, No, IsFound}
 use Rattle.ttl_read.proofs.OneFoundLemmas.{one_found}
 use Rattle.script_lines.specs.declared.command.Command.{Command}
-use Rattle.script_lines.specs.declared.command.Command.TheVariants.{Insert, Remove}
 use Rattle.script_lines.specs.declared.fault.LineFault.{LineFault}
 use Rattle.script_lines.specs.declared.form.Form.{Form}
 use Rattle.script_lines.specs.declared.form.Form.TheVariants as the_form
 use Rattle.script_lines.specs.declared.form.Terms.{Terms}
 use Rattle.script_lines.specs.Lines.{IsPredicateFound, IsTripleRead, BadSubject, BadPredicate, BadObject}
 use Rattle.script_lines.specs.Lines.{ATriple, IsAsked, IsLineRead, TooLong, NotUtf8, NoForm, AForm}
-use Rattle.script_lines.specs.Lines.{command_by, term_fault}
+use Rattle.script_lines.specs.Lines.{edits_by, term_fault}
 use Rattle.script_lines.proofs.OneFormLemmas.{one_form}
 
 -- ---- the parts of two things that are found
@@ -115,9 +115,9 @@ module _ (line : List ℕ) (utf8 : IsUtf8 line) (document : Document) where
   one_asked the_form.Report a b h k = h ∙ sym k
   one_asked the_form.Count a b h k = h ∙ sym k
   one_asked (the_form.Insert terms) a b h k =
-      h.2 ∙ ap (command_by Insert) (one_triple_read terms h.0 k.0 h.1 k.1) ∙ sym k.2
+      h.2 ∙ ap (edits_by Insert) (one_triple_read terms h.0 k.0 h.1 k.1) ∙ sym k.2
   one_asked (the_form.Remove terms) a b h k =
-      h.2 ∙ ap (command_by Remove) (one_triple_read terms h.0 k.0 h.1 k.1) ∙ sym k.2
+      h.2 ∙ ap (edits_by Remove) (one_triple_read terms h.0 k.0 h.1 k.1) ∙ sym k.2
 
 -- ---- the line
 

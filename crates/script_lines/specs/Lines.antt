@@ -9,17 +9,19 @@ use Rattle.shx_term.specs.declared.fault_codes.TheConstants.{UNKNOWN_PREFIX, BAD
 use Rattle.shx_term.specs.declared.fault_codes.TheConstants.{WIDE_VALUE}
 use Rattle.shx_term.specs.declared.fault_codes.TheConstants.{LINE_PREFIX, LINE_IRI, LINE_FLOAT, LINE_WIDE}
 use Rattle.shx_term.specs.declared.fault_codes.TheConstants.{LINE_TOO_LONG, LINE_NOT_UTF8, LINE_SYNTAX}
+use Rattle.shx_term.specs.declared.edit.Edit.{Edit}
+use Rattle.shx_term.specs.declared.edit.Edit.TheVariants.{Insert, Remove}
 use Rattle.shx_term.specs.declared.limits.Limits.{Limits}
 use Rattle.shx_term.specs.declared.term.Term.{Term}
 use Rattle.shx_term.specs.declared.triple.TermTriple.{TermTriple}
-use Rattle.shx_term.specs.ValidTriples.{IsValidTermTriple}
+use Rattle.shx_term.specs.Edit.{IsValidEdit}
 use Rattle.shx_term.specs.Vocabulary.{rdf}
 use Rattle.ttl_tokens.specs.declared.token.Token.{Token}
 use Rattle.ttl_tokens.specs.declared.token.TokenKind.TheVariants.{WordA}
 use Rattle.ttl_meaning.specs.declared.document.Document.{Document}
 use Rattle.ttl_read.specs.ReadTerm.{Found, A, No, IsFound}
 use Rattle.script_lines.specs.declared.command.Command.{Command}
-use Rattle.script_lines.specs.declared.command.Command.TheVariants.{Insert, Remove, Report, Count, Nothing}
+use Rattle.script_lines.specs.declared.command.Command.TheVariants.{Edit as edits, Report, Count, Nothing}
 use Rattle.script_lines.specs.declared.fault.LineFault.{LineFault}
 use Rattle.script_lines.specs.declared.fault.LineFault.TheVariants.{Line}
 use Rattle.script_lines.specs.declared.form.Form.{Form}
@@ -67,10 +69,10 @@ pub data IsTripleRead (line : List ℕ) (document : Document) (terms : Terms)
 
 -- ---- lines
 
--- the command over a triple, or the triple's fault
-abbrev pub command_by : (TermTriple → Command) → Result TermTriple LineFault → Result Command LineFault
-command_by command (Ok triple) = Ok (command triple)
-command_by command (Err fault) = Err fault
+-- an edit by a triple, or the triple's fault
+abbrev pub edits_by : (TermTriple → Edit) → Result TermTriple LineFault → Result Command LineFault
+edits_by edit (Ok triple) = Ok (edits (edit triple))
+edits_by edit (Err fault) = Err fault
 
 -- a line of this form asks for this
 abbrev pub IsAsked : List ℕ → Document → Form → Result Command LineFault → Type 0
@@ -79,10 +81,10 @@ IsAsked line document form.Report reading = reading ≡ Ok Report
 IsAsked line document form.Count reading = reading ≡ Ok Count
 IsAsked line document (form.Insert terms) reading =
     (triple : Result TermTriple LineFault) × IsTripleRead line document terms triple
-    × (reading ≡ command_by Insert triple)
+    × (reading ≡ edits_by Insert triple)
 IsAsked line document (form.Remove terms) reading =
     (triple : Result TermTriple LineFault) × IsTripleRead line document terms triple
-    × (reading ≡ command_by Remove triple)
+    × (reading ≡ edits_by Remove triple)
 
 -- a line is read so: the first of these that holds
 pub data IsLineRead (limits : Limits) (document : Document) (line : List ℕ)
@@ -98,8 +100,7 @@ pub data IsLineRead (limits : Limits) (document : Document) (line : List ℕ)
 
 -- what a command inserts or removes is a valid triple
 abbrev pub IsValidCommand : Command → Type 0
-IsValidCommand (Insert triple) = IsValidTermTriple triple
-IsValidCommand (Remove triple) = IsValidTermTriple triple
+IsValidCommand (edits edit) = IsValidEdit edit
 IsValidCommand Report = Unit {0}
 IsValidCommand Count = Unit {0}
 IsValidCommand Nothing = Unit {0}

@@ -1,12 +1,10 @@
-use shx_term::TermTriple;
+use shx_term::Edit;
 
 /// What a line of a script asks for.
 #[derive(Debug)]
 pub enum Command {
-    /// The triple is inserted.
-    Insert(TermTriple),
-    /// The triple is removed.
-    Remove(TermTriple),
+    /// The graph is edited.
+    Edit(Edit),
     /// The report is written again.
     Report,
     /// Triples, pairs and results are counted.
@@ -19,7 +17,7 @@ pub enum Command {
 impl Drop for Command {
     fn drop(self) {
         match self {
-            Command::Insert(_triple) | Command::Remove(_triple) => {}
+            Command::Edit(_edit) => {}
             Command::Report | Command::Count | Command::Nothing => {}
         }
     }

@@ -9,7 +9,7 @@ use crate::form::{Form, Terms, form_of};
 use crate::term::{predicate_at, term_at};
 use crate::{Command, LineFault};
 use shx_term::fault_codes::{LINE_NOT_UTF8, LINE_SYNTAX, LINE_TOO_LONG};
-use shx_term::{Limits, TermTriple};
+use shx_term::{Edit, Limits, TermTriple};
 use std::alloc::Global;
 use ttl_read::Document;
 
@@ -62,8 +62,14 @@ fn command_of(
         Form::Blank => Ok(Command::Nothing),
         Form::Report => Ok(Command::Report),
         Form::Count => Ok(Command::Count),
-        Form::Insert(terms) => Ok(Command::Insert(read_triple(alloc, line, terms, document)?)),
-        Form::Remove(terms) => Ok(Command::Remove(read_triple(alloc, line, terms, document)?)),
+        Form::Insert(terms) => {
+            let triple = read_triple(alloc, line, terms, document)?;
+            Ok(Command::Edit(Edit::Insert(triple)))
+        }
+        Form::Remove(terms) => {
+            let triple = read_triple(alloc, line, terms, document)?;
+            Ok(Command::Edit(Edit::Remove(triple)))
+        }
     }
 }
 

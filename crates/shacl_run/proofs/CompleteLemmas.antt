@@ -64,15 +64,15 @@ not_refused false before now calm same = refl
 
 module _ (limits : Limits) (words : List (List ℕ)) (before after : Outside) (status : Status) where
   defined_written : (due : Option Output) (output : Output) → IfSome due (λ defined. output ≡ defined)
-      → WritesWhole output before.sink after.sink status
-      → IfSome due (λ defined. WritesWhole defined before.sink after.sink status)
+      → WritesWhole output before after status
+      → IfSome due (λ defined. WritesWhole defined before after status)
   defined_written None output is whole = tt
   defined_written (Some defined) output is whole =
-      subst (λ o. WritesWhole o before.sink after.sink status) is whole
+      subst (λ o. WritesWhole o before after status) is whole
 
   due_by : (readings : Readings) → NothingFailed before after → IsAnswered status
       → ByVerdict limits readings.shapes (words_shapes before.inputs.text (command_words words))
-      before.patterns.faults after.patterns.faults (λ verdict.
+      before.patterns after.patterns (λ verdict.
       DataIsReadBy limits readings verdict (command_words words) before.inputs.text
       → LinesAreReadBy limits readings verdict (command_words words) before.inputs.text
       → WritesDue limits readings verdict words before after status)
@@ -166,7 +166,7 @@ module _ (limits : Limits) (readings : Readings) (words : List (List ℕ)) (befo
 
   written_by : (verdict : Verdict) → HasRoom limits readings words before verdict
       → WritesDue limits readings verdict words before after WriteFault
-      → HasCauses before after WriteFault → ⊥
+      → HasCauses words before after WriteFault → ⊥
   written_by verdict has due causes =
       let is = subst (λ told. IfSome told (λ defined. due.output ≡ defined)) has.due due.due in
       let front = subst (λ output. WritesFront output before.sink after.sink WriteFault) is (due.prefix tt) in

@@ -1,9 +1,9 @@
 -- A run over files, by what was prepared.
-use Rattle.std.proofs.Common.{◌≡◌, ◌≢◌, ℕ, true, List, Option, None, Some, Err, Ok, inl, refl, ap, subst}
-use Rattle.std.specs.Prelude.{All, IfSome}
+use Rattle.std.proofs.Common.{◌≡◌, ◌≢◌, ℕ, List, Option, None, Some, Result, Err, Ok, inl, inr, refl}
+use Rattle.std.proofs.Common.{ap, subst}
+use Rattle.std.specs.Prelude.{All, IfSome, ◌⊎◌}
 use Rattle.std.specs.Option.{option_and_then, option_map}
-use Rattle.shx_outside.specs.declared.role.Role.TheVariants.{Script}
-use Rattle.shx_outside.specs.Outside.{InputState, SinkState}
+use Rattle.shx_outside.specs.declared.role.Role.TheVariants.{Data, Script}
 use Rattle.shx_term.specs.declared.limits.Limits.{Limits}
 use Rattle.shx_term.specs.declared.term.Term.{Term}
 use Rattle.shx_term.specs.Pool.{Pooled}
@@ -14,13 +14,17 @@ use Rattle.text_output.specs.declared.format.Format.{Format}
 use Rattle.ttl_meaning.specs.State.{State}
 use Rattle.script_lines.specs.declared.fault.LineFault.TheVariants.{Memory}
 use Rattle.report_write.specs.declared.answer.Answer.{Answer}
+use Rattle.report_write.specs.declared.answer.Answer.TheVariants.{OfShape}
+use Rattle.shx_term.specs.declared.fault_codes.TheConstants.{PATTERN_REFUSED}
 use Rattle.command_words.specs.Asked.{Asked}
+use Rattle.command_words.specs.Words.{command_words}
 use Rattle.shacl_run.specs.declared.status.Status.{Status}
-use Rattle.shacl_run.specs.declared.status.Status.TheVariants.{InputFault, Refused}
+use Rattle.shacl_run.specs.declared.status.Status.TheVariants.{InputFault}
+use Rattle.shacl_run.specs.declared.unopened.Unopened.{Unopened}
 use Rattle.shacl_run.specs.declared.unopened.Unopened.TheVariants.{Told}
 use Rattle.shacl_run.specs.declared.validation.Validation.{Validation}
-use Rattle.shacl_run.specs.inner.Ends.{Ends}
-use Rattle.shacl_run.specs.inner.Files.{FilesAreRead, RunsFiles, files_output}
+use Rattle.shacl_run.specs.inner.Ends.{Ends, EndsByPattern}
+use Rattle.shacl_run.specs.inner.Files.{FilesAreRead, FilesOpenOnly, RunsFiles, RunsWords, files_output}
 use Rattle.shacl_run.specs.inner.Prepared.{AreRead, IsPrepared}
 use Rattle.shacl_run.specs.inner.Serving.{HaveReadings, LinesAreReadAt}
 use Rattle.shacl_run.specs.inner.Validation.{IsValidation}
@@ -28,12 +32,13 @@ use Rattle.shacl_run.specs.Manner.{LineReadings, Manner}
 use Rattle.shacl_run.specs.Names.{HasNamesOf}
 use Rattle.shacl_run.specs.Readings.{Readings, TextReading, States, Faulty, Long, ShapesAreRead, LinesAreRead}
 use Rattle.shacl_run.specs.Readings.{IsReadBehind, stated_graph}
-use Rattle.shacl_run.specs.Run.{Opening, manner_of, opening_fed, opening_output, refused, script_text}
+use Rattle.shacl_run.specs.Outside.{Outside}
+use Rattle.shacl_run.specs.Run.{IsOpening, Opening, manner_of, opening_fed, opening_output, refused}
+use Rattle.shacl_run.specs.Run.{script_text}
 use Rattle.shacl_run.specs.Run.{texts_opening, validation_output, with_data, with_shapes, with_verdict}
 use Rattle.shacl_run.specs.Run.Opening.{ends, opens}
-use Rattle.shacl_run.specs.RunClauses.{StopsFed}
+use Rattle.shacl_run.specs.RunClauses.{IsOpenedBy, OpensOnly, StopsFed}
 use Rattle.shacl_run.specs.ScriptState.{ScriptState, start_state}
-use Rattle.shacl_run.specs.Status.{IsAnswered}
 use Rattle.shacl_run.specs.Verdict.{Verdict, plans, stops}
 use Rattle.shacl_run.proofs.EndLemmas.{Ends-told}
 use Rattle.shacl_run.proofs.RunLemmas.{ByVerdict-then}
@@ -183,64 +188,78 @@ module _ (limits : Limits) (asked : Asked) (texts : List ℕ → Option (List �
 
 -- ---- a run whose texts were refused
 
-pub refusal_ends : (format : Format) (terms : List Term) (answer : Answer) (status : Status)
-    (faults faults' : ℕ) (before after : SinkState)
-    → Ends (Some (refused format terms answer)) status faults faults' before after
-    → IsAnswered status → status ≡ Refused
-refusal_ends format terms answer status faults faults' before after run_ends answered =
-    (run_ends.whole answered).defined.0
+-- it tells of a refused pattern where the host refused one
+pub by_pattern : (format : Format) (terms : List Term) (answer : Answer) (status : Status)
+    (before after : Outside)
+    → (after.patterns.faults ≡ before.patterns.faults)
+    ⊎ ((shape : ℕ) × (answer ≡ OfShape PATTERN_REFUSED shape))
+    → Ends (Some (refused format terms answer)) status before after
+    → EndsByPattern format status before after
+by_pattern format terms answer status before after (inl same) run_ends = inl same
+by_pattern format terms answer status before after (inr (shape, is)) run_ends =
+    inr (
+      terms,
+      shape,
+      subst (λ (a : Answer). Ends (Some (refused format terms a)) status before after) is
+          run_ends,
+    )
 
-module _ (limits : Limits) (readings : Readings) (asked : Asked) (refusals refusals' : ℕ)
-    (inputs inputs' : InputState) (before after : SinkState) (status : Status)
-    (right : ShapesAreRead limits asked.base readings.shapes (inputs.text asked.files.shapes_file)) where
+module _ (limits : Limits) (readings : Readings) (asked : Asked) (before after : Outside) (status : Status)
+    (DataIsOpened : Type 0)
+    (right : ShapesAreRead limits asked.base readings.shapes (before.inputs.text asked.files.shapes_file))
+    (data_opened : IsOpenedBy before.inputs after.inputs Data → DataIsOpened) where
   abbrev shapes_text : Option (List ℕ)
-  shapes_text = inputs.text asked.files.shapes_file
+  shapes_text = before.inputs.text asked.files.shapes_file
 
   abbrev data_text : Option (List ℕ)
-  data_text = inputs.text asked.files.data_file
+  data_text = before.inputs.text asked.files.data_file
 
   abbrev script : Option (List ℕ)
-  script = script_text inputs.text asked.files.script_file
+  script = script_text before.inputs.text asked.files.script_file
 
   abbrev manner : Manner
   manner = manner_of limits readings asked.format
 
-  pub files_refused : (answer : Answer) (pool : Pooled)
-      → IsPrepared limits asked.format asked.base shapes_text data_text refusals refusals'
-      (Err (Told answer pool))
-      → Ends (Some (refused asked.format pool.terms answer)) status inputs.faults inputs'.faults before after
-      → status ≢ InputFault
-      → RunsFiles limits readings asked refusals refusals' inputs inputs' before after status
-  files_refused answer pool is run_ends other =
-      inl (ByVerdict-then limits readings.shapes shapes_text refusals refusals' _ _
+  -- what was prepared
+  abbrev IsPreparedAs : Result Validation Unopened → Type 0
+  IsPreparedAs = IsPrepared limits asked.format asked.base shapes_text data_text before.patterns
+      after.patterns DataIsOpened
+
+  pub files_refused : (answer : Answer) (pool : Pooled) → IsPreparedAs (Err (Told answer pool))
+      → Ends (Some (refused asked.format pool.terms answer)) status before after
+      → status ≢ InputFault → (IsOpenedBy before.inputs after.inputs Script → ⊥)
+      → RunsFiles limits readings asked before after status
+  files_refused answer pool is run_ends other no_script =
+      inl (ByVerdict-then limits readings.shapes shapes_text before.patterns after.patterns _ _
       (λ verdict says data_right lines. record {
-        run_ends = Ends-told (files_output limits readings verdict asked inputs.text)
-            (Some (refused asked.format pool.terms answer)) status inputs.faults inputs'.faults before after
+        run_ends = Ends-told (files_output limits readings verdict asked before.inputs.text)
+            (Some (refused asked.format pool.terms answer)) status before after
             (ended_told manner script (texts_opening asked.format readings verdict shapes_text data_text)
-            (refused asked.format pool.terms answer) (says data_right)) run_ends;
+            (refused asked.format pool.terms answer) (says.due data_right)) run_ends;
         script_stops = λ failed opened. absurd (other failed);
+        opened = record {
+          data_text = λ opened. says.planned (data_opened opened);
+          script = λ opened. absurd (no_script opened);
+        };
       })
       (is.due (λ cut. cut) readings right))
 
   -- ---- a run of a validation
 
-  pub files_opened : (validation : Validation)
-      → IsPrepared limits asked.format asked.base shapes_text data_text refusals refusals' (Ok validation)
-      → Ends None status inputs.faults inputs'.faults before after
+  pub files_opened : (validation : Validation) → IsPreparedAs (Ok validation) → Ends None status before after
       → ((s : ScriptState) → IsValidation limits asked.format s validation
       → LinesAreReadAt manner s limits.script script
-      → Ends (option_map (validation_output manner validation.passed_over s) script) status inputs.faults
-      inputs'.faults before after)
+      → Ends (option_map (validation_output manner validation.passed_over s) script) status before after)
       → ((s : ScriptState) → IsValidation limits asked.format s validation
       → LinesAreReadAt manner s limits.script script → status ≡ InputFault
-      → inputs'.opened Script ≡ true
-      → StopsFed (opening_fed manner (opens validation.passed_over s)) script (inputs'.rest Script) before
-      after)
-      → RunsFiles limits readings asked refusals refusals' inputs inputs' before after status
+      → IsOpenedBy before.inputs after.inputs Script
+      → StopsFed (opening_fed manner (opens validation.passed_over s)) script (after.inputs.rest Script)
+      before.sink after.sink)
+      → RunsFiles limits readings asked before after status
   files_opened validation is causes run_ends fed =
-      inl (ByVerdict-then limits readings.shapes shapes_text refusals refusals' _ _
+      inl (ByVerdict-then limits readings.shapes shapes_text before.patterns after.patterns _ _
       (λ verdict says data_right lines.
-      let opened = says data_right in
+      let opened = says.due data_right in
       let s = opened.state in
       let due = option_map (validation_output manner validation.passed_over s) script in
       let opening = texts_opening asked.format readings verdict shapes_text data_text in
@@ -250,18 +269,47 @@ module _ (limits : Limits) (readings : Readings) (asked : Asked) (refusals refus
       told some) script lines in
       record {
         run_ends = by_opening opening validation.passed_over s
-            (λ o. Ends (option_and_then (opening_output manner script) o) status inputs.faults inputs'.faults
-            before after) opened.due causes
-            (λ told some. Ends-told (files_output limits readings verdict asked inputs.text) due status
-            inputs.faults inputs'.faults before after
-            (opened_told manner script opening validation.passed_over s opened.due)
+            (λ o. Ends (option_and_then (opening_output manner script) o) status before after) opened.due
+            causes
+            (λ told some. Ends-told (files_output limits readings verdict asked before.inputs.text) due status
+            before after (opened_told manner script opening validation.passed_over s opened.due)
             (run_ends s opened.stored (read told some)));
         script_stops = λ failed opens_script.
             by_opening opening validation.passed_over s
-            (λ o. IfSome o (λ opening. StopsFed (opening_fed manner opening) script (inputs'.rest Script)
-            before after)) opened.due tt
+            (λ o. IfSome o (λ opening. StopsFed (opening_fed manner opening) script
+            (after.inputs.rest Script) before.sink after.sink)) opened.due tt
             (λ told some. opening_told opening validation.passed_over s
-            (λ opening. StopsFed (opening_fed manner opening) script (inputs'.rest Script) before after)
-            opened.due (fed s opened.stored (read told some) failed opens_script.opened_after));
+            (λ opening. StopsFed (opening_fed manner opening) script (after.inputs.rest Script) before.sink
+            after.sink) opened.due (fed s opened.stored (read told some) failed opens_script));
+        opened = record {
+          data_text = λ by. says.planned (data_opened by);
+          script = λ _. opening_told opening validation.passed_over s IsOpening opened.due tt;
+        };
       })
       (is.due (λ cut. cut) readings right))
+
+-- ---- words that name files
+
+module _ (limits : Limits) (readings : Readings) (asked : Asked) (words : List (List ℕ))
+    (same : Some asked ≡ command_words words) (before after : Outside) (status : Status) where
+  words_open : (verdict : Verdict) → FilesOpenOnly readings verdict asked before.inputs after.inputs
+      → OpensOnly readings verdict words before.inputs after.inputs
+  words_open verdict only = record {
+    data_text = λ opened. rw (← same) (only.data_text opened);
+    script = λ opened. rw (← same) (only.script opened);
+  }
+
+  pub words_run : RunsFiles limits readings asked before after status
+      → RunsWords limits readings words before after status
+  words_run runs = elim runs [
+    | inl by ↦ inl (rw (← same) (ByVerdict-then limits readings.shapes
+        (before.inputs.text asked.files.shapes_file) before.patterns after.patterns _ _
+        (λ verdict says right lines.
+        let serves = says right lines in
+        record {
+          run_ends = serves.run_ends;
+          script_stops = serves.script_stops;
+          opened = words_open verdict serves.opened;
+        }) by))
+    | inr early ↦ inr early
+  ]

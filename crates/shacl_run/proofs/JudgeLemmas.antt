@@ -1,5 +1,6 @@
 -- Why a shapes text is refused whose shapes make no plan.
 use Rattle.std.proofs.Common.{◌≡◌, ℕ, List}
+use Rattle.shx_outside.specs.Outside.{PatternState}
 use Rattle.shx_term.specs.declared.limits.Limits.{Limits}
 use Rattle.shx_term.specs.declared.term.Scope.TheVariants.{Shapes}
 use Rattle.shx_term.specs.Pool.{Pooled}
@@ -16,13 +17,13 @@ use Rattle.shacl_run.proofs.VerdictLemmas.{StopsAs-same}
 
 module _ (limits : Limits) (base text : List ℕ) (pool : Pooled) where
   -- its shapes make no plan
-  pub shapes_unplanned : (refusals refusals' : ℕ) (refusal : Refusal) (document g : Graph) (end : State)
+  pub shapes_unplanned : (before after : PatternState) (refusal : Refusal) (document g : Graph) (end : State)
       → IsReadAs limits base Shapes vocabulary text (States document end) → pool.terms ≡ document.terms
-      → SameGraph (stated_graph document) g → IsUnplanned limits g refusals refusals' refusal
-      → RefusesShapes limits base text refusals refusals' (beside pool refusal)
-  shapes_unplanned refusals refusals' (Text answer) document g end read terms same unplanned = (
+      → SameGraph (stated_graph document) g → IsUnplanned limits g before after refusal
+      → RefusesShapes limits base text before after (beside pool refusal)
+  shapes_unplanned before after (Text answer) document g end read terms same unplanned = (
     States document end,
     read,
-    (terms, StopsAs-same limits (stated_graph document) g same refusals refusals' answer unplanned),
+    (terms, StopsAs-same limits (stated_graph document) g same before after answer unplanned),
   )
-  shapes_unplanned refusals refusals' (Cut stop) document g end read terms same unplanned = tt
+  shapes_unplanned before after (Cut stop) document g end read terms same unplanned = tt

@@ -1,8 +1,11 @@
 -- What was read decides what the two texts come to.
-use Rattle.std.proofs.Common.{◌≡◌, ℕ, List, Option, None, Some, refl, ◌∙◌, sym, subst, Result, Ok, Err}
-use Rattle.std.specs.Prelude.{IfSome, IfOk, IfErr}
+use Rattle.std.proofs.Common.{◌≡◌, ℕ, List, Option, None, Some, refl, ◌∙◌, sym, subst, inl, inr, Result, Ok}
+use Rattle.std.proofs.Common.{Err}
+use Rattle.std.specs.Prelude.{IfSome, IfOk, IfErr, ◌⊎◌}
 use Rattle.shx_outside.specs.declared.flags.Flags.{Flags}
 use Rattle.shx_outside.specs.declared.role.Role.TheVariants.{Shapes as of_shapes, Data as of_data}
+use Rattle.shx_outside.specs.Outside.{PatternState}
+use Rattle.shx_term.specs.declared.fault_codes.TheConstants.{PATTERN_REFUSED}
 use Rattle.shx_term.specs.declared.limits.Limits.{Limits}
 use Rattle.shx_term.specs.declared.term.Scope.{Scope}
 use Rattle.shx_term.specs.declared.term.Scope.TheVariants.{Shapes, Data}
@@ -17,7 +20,7 @@ use Rattle.text_output.specs.declared.format.Format.{Format}
 use Rattle.ttl_meaning.specs.State.{State}
 use Rattle.script_lines.specs.declared.fault.LineFault.TheVariants.{Memory as no_memory}
 use Rattle.report_write.specs.declared.answer.Answer.{Answer}
-use Rattle.report_write.specs.declared.answer.Answer.TheVariants.{TooLong}
+use Rattle.report_write.specs.declared.answer.Answer.TheVariants.{OfShape, TooLong}
 use Rattle.shacl_run.specs.declared.judge.Accepted.{Accepted}
 use Rattle.shacl_run.specs.declared.refusal.Refusal.{Refusal}
 use Rattle.shacl_run.specs.declared.refusal.Refusal.TheVariants.{Text, Cut}
@@ -26,19 +29,21 @@ use Rattle.shacl_run.specs.declared.unopened.Unopened.TheVariants as unopened
 use Rattle.shacl_run.specs.declared.stop.Stop.{Stop}
 use Rattle.shacl_run.specs.declared.validation.Validation.{Validation}
 use Rattle.shacl_run.specs.inner.Judging.{Accepts, IsShapesRefusal, Opens, RefusesData, RefusesShapes}
-use Rattle.shacl_run.specs.inner.Prepared.{AreRead, HasNamesRead, IsPrepared}
+use Rattle.shacl_run.specs.inner.Prepared.{AreRead, HasNamesRead, HostStays, IsPrepared, Prepares}
+use Rattle.shacl_run.specs.inner.Prepared.{PreparesBy}
 use Rattle.shacl_run.specs.inner.Refusal.{IsRefusalOf}
 use Rattle.shacl_run.specs.inner.Unopened.{beside}
 use Rattle.shacl_run.specs.Manner.{LineReadings}
 use Rattle.shacl_run.specs.Names.{HasNamesOf}
 use Rattle.shacl_run.specs.Readings.{Readings, TextReading, States, Faulty, Long, IsReadAs, stated_graph}
-use Rattle.shacl_run.specs.Readings.{AreJudged, ComeTo, DataIsRead, PatternsAreAdmitted, ShapesAreRead}
+use Rattle.shacl_run.specs.Readings.{AreJudged, ComeTo, DataIsRead, HavePlan, IsRefusedIn}
+use Rattle.shacl_run.specs.Readings.{PatternsAreAdmitted, ShapesAreRead}
 use Rattle.shacl_run.specs.Run.{Opening, texts_opening, with_data, with_shapes, with_verdict, passed_over}
 use Rattle.shacl_run.specs.Run.{refused}
 use Rattle.shacl_run.specs.Run.Opening.{ends, opens}
-use Rattle.shacl_run.specs.RunClauses.{RoseWhere}
-use Rattle.shacl_run.specs.Verdict.{Obstacle, Verdict, plans, refuses_pattern, stops}
-use Rattle.shacl_run.specs.Verdict.Obstacle.{recurs}
+use Rattle.shacl_run.specs.RunClauses.{ByVerdict, RoseWhere}
+use Rattle.shacl_run.specs.Verdict.{Obstacle, Verdict, obstacle_answer, plans, refuses_pattern, stops}
+use Rattle.shacl_run.specs.Verdict.Obstacle.{breaks, recurs, reaches_far, misspells, is_refused}
 use Rattle.shacl_run.proofs.ReadingLemmas.{read_once}
 
 -- ---- the texts that are told
@@ -74,32 +79,31 @@ admitted_bytes limits base (Some text) rest bytes admits whole all =
 
 -- ---- what the shapes text comes to
 
+module _ (limits : Limits) (base : List ℕ) (reading : TextReading) (readings : Readings) where
+  -- what holds of one reading of the text holds of any
+  read_alike : (P : TextReading → Type 0) → P reading → (shapes : Option (List ℕ))
+      → IsToldAs limits base Shapes vocabulary shapes reading
+      → ShapesAreRead limits base readings.shapes shapes → IfSome shapes (λ bytes. P readings.shapes)
+  read_alike P holds None told right = tt
+  read_alike P holds (Some text) told right =
+      subst P (read_once limits base Shapes vocabulary text reading readings.shapes told right) holds
+
+  -- and so the texts come to what that reading does
+  opening_once : (verdict : Verdict) (format : Format) (P : Opening → Type 0)
+      (shapes data_text : Option (List ℕ)) → IsToldAs limits base Shapes vocabulary shapes reading
+      → ShapesAreRead limits base readings.shapes shapes
+      → (readings.shapes ≡ reading → IfSome (with_shapes format readings verdict reading data_text) P)
+      → IfSome (texts_opening format readings verdict shapes data_text) P
+  opening_once verdict format P None data_text told right holds = tt
+  opening_once verdict format P (Some text) data_text told right holds =
+      let same : readings.shapes ≡ reading =
+      read_once limits base Shapes vocabulary text readings.shapes reading right told in
+      rw same (holds same)
+
 judged_told : (limits : Limits) (reading : TextReading) (verdict : Verdict) → ComeTo limits reading verdict
     → (shapes : Option (List ℕ)) → AreJudged limits reading shapes verdict
 judged_told limits reading verdict come None = tt
 judged_told limits reading verdict come (Some text) = come
-
-module _ (limits : Limits) (base : List ℕ) (reading : TextReading) (verdict : Verdict)
-    (come : ComeTo limits reading verdict) (readings : Readings) where
-  -- any reading of it comes to the same
-  judged_once : (shapes : Option (List ℕ)) → IsToldAs limits base Shapes vocabulary shapes reading
-      → ShapesAreRead limits base readings.shapes shapes → AreJudged limits readings.shapes shapes verdict
-  judged_once None told right = tt
-  judged_once (Some text) told right =
-      subst (λ (r : TextReading). ComeTo limits r verdict)
-      (read_once limits base Shapes vocabulary text reading readings.shapes told right) come
-
-  -- and so the texts come to what that reading does
-  opening_once : (format : Format) (P : Opening → Type 0) (shapes data_text : Option (List ℕ))
-      → IsToldAs limits base Shapes vocabulary shapes reading
-      → ShapesAreRead limits base readings.shapes shapes
-      → (readings.shapes ≡ reading → IfSome (with_shapes format readings verdict reading data_text) P)
-      → IfSome (texts_opening format readings verdict shapes data_text) P
-  opening_once format P None data_text told right holds = tt
-  opening_once format P (Some text) data_text told right holds =
-      let same : readings.shapes ≡ reading =
-      read_once limits base Shapes vocabulary text readings.shapes reading right told in
-      rw same (holds same)
 
 -- the data text is read so, behind the shapes of this document
 opening_data : (limits : Limits) (base : List ℕ) (readings : Readings) (format : Format)
@@ -119,36 +123,73 @@ opening_data limits base readings format P document end plan (Some text) other s
 -- ---- what stands in the way
 
 -- the shapes of a reading are refused so
-record Refuses (limits : Limits) (reading : TextReading) (refusals refusals' : ℕ) (terms : List Term)
+record Refuses (limits : Limits) (reading : TextReading) (before after : PatternState) (terms : List Term)
     (answer : Answer) : Type 0 where
   obstacle : Obstacle
   come : ComeTo limits reading (stops obstacle)
-  patterns : RoseWhere (refuses_pattern (stops obstacle)) refusals refusals'
+  patterns : RoseWhere (refuses_pattern (stops obstacle)) before.faults after.faults
+  last : IsRefusedIn limits reading (stops obstacle) after.refused
   told : (format : Format) (readings : Readings) (data_text : Option (List ℕ))
       → IfSome (with_shapes format readings (stops obstacle) reading data_text)
       (λ opening. opening ≡ ends (refused format terms answer))
 
-refuses : (limits : Limits) (reading : TextReading) (refusals refusals' : ℕ) (terms : List Term)
-    (answer : Answer) → IsShapesRefusal limits reading refusals refusals' terms answer
-    → Refuses limits reading refusals refusals' terms answer
-refuses limits (States document end) refusals refusals' terms answer is = record {
+refuses : (limits : Limits) (reading : TextReading) (before after : PatternState) (terms : List Term)
+    (answer : Answer) → IsShapesRefusal limits reading before after terms answer
+    → Refuses limits reading before after terms answer
+refuses limits (States document end) before after terms answer is = record {
   obstacle = is.1.obstacle;
   come = is.1.judged;
   patterns = is.1.patterns;
+  last = is.1.refused;
   told = λ format readings data_text. rw (is.0, is.1.told) refl;
 }
-refuses limits (Faulty code at) refusals refusals' terms answer is = record {
+refuses limits (Faulty code at) before after terms answer is = record {
   obstacle = recurs 0;
   come = refl;
   patterns = is.1;
+  last = tt;
   told = λ format readings data_text. rw is.0 refl;
 }
-refuses limits Long refusals refusals' terms answer is = record {
+refuses limits Long before after terms answer is = record {
   obstacle = recurs 0;
   come = refl;
   patterns = is.1;
+  last = tt;
   told = λ format readings data_text. rw is.0 refl;
 }
+
+-- what is told of shapes that are refused tells whether a pattern was
+told_obstacle : (obstacle : Obstacle) (before after : ℕ)
+    → RoseWhere (refuses_pattern (stops obstacle)) before after → (answer : Answer)
+    → answer ≡ obstacle_answer obstacle
+    → (after ≡ before) ⊎ ((shape : ℕ) × (answer ≡ OfShape PATTERN_REFUSED shape))
+told_obstacle (breaks fault) before after same answer told = inl same
+told_obstacle (recurs shape) before after same answer told = inl same
+told_obstacle (reaches_far shape) before after same answer told = inl same
+told_obstacle (misspells shape) before after same answer told = inl same
+told_obstacle (is_refused shape) before after rose answer told = inr (shape, told)
+
+told_refusal : (limits : Limits) (reading : TextReading) (before after : PatternState) (terms : List Term)
+    (answer : Answer) → IsShapesRefusal limits reading before after terms answer
+    → (after.faults ≡ before.faults) ⊎ ((shape : ℕ) × (answer ≡ OfShape PATTERN_REFUSED shape))
+told_refusal limits (States document end) before after terms answer is =
+    told_obstacle is.1.obstacle before.faults after.faults is.1.patterns answer is.1.told
+told_refusal limits (Faulty code at) before after terms answer is = inl is.1
+told_refusal limits Long before after terms answer is = inl is.1
+
+pub HostStays-unplanned : (limits : Limits) (base text : List ℕ) (before after : PatternState)
+    (why : Unopened) → RefusesShapes limits base text before after why
+    → HostStays before.faults after.faults (Err why)
+HostStays-unplanned limits base text before after (unopened.Told answer pool) (reading, read, is) =
+    told_refusal limits reading before after pool.terms answer is
+HostStays-unplanned limits base text before after (unopened.Cut stop) is = tt
+
+-- where its count stays, what is told is no matter
+pub HostStays-same : (before after : ℕ) → after ≡ before → (prepared : Result Validation Unopened)
+    → HostStays before after prepared
+HostStays-same before after same (Ok validation) = same
+HostStays-same before after same (Err (unopened.Told answer pool)) = inl same
+HostStays-same before after same (Err (unopened.Cut stop)) = tt
 
 data_ends : (format : Format) (notices : ℕ) (plan : Planned) (other : TextReading) (terms : List Term)
     (answer : Answer) → IsRefusalOf of_data other answer
@@ -192,9 +233,13 @@ data_told limits base document end other verdict (Some text) told = λ document'
 -- ---- what was prepared
 
 module _ (limits : Limits) (format : Format) (base : List ℕ) (shapes data_text : Option (List ℕ))
-    (refusals refusals' : ℕ) where
+    (before after : PatternState) (DataIsOpened : Type 0) where
+  -- so it is prepared
+  abbrev Is : Result Validation Unopened → Type 0
+  Is = IsPrepared limits format base shapes data_text before after DataIsOpened
+
   prepared_cut : (stop : Stop)
-      → IsPrepared limits format base shapes data_text refusals refusals' (Err (unopened.Cut stop))
+      → Is (Err (unopened.Cut stop))
   prepared_cut stop = record {
     due = λ uncut. absurd (uncut tt);
     read = λ uncut. absurd (uncut tt);
@@ -203,20 +248,26 @@ module _ (limits : Limits) (format : Format) (base : List ℕ) (shapes data_text
   -- the shapes text is refused
   shapes_refused : (reading : TextReading) (answer : Answer) (pool : Pooled)
       → IsToldAs limits base Shapes vocabulary shapes reading
-      → IsShapesRefusal limits reading refusals refusals' pool.terms answer
-      → IsPrepared limits format base shapes data_text refusals refusals' (Err (unopened.Told answer pool))
-  shapes_refused reading answer pool told is =
-      let found = refuses limits reading refusals refusals' pool.terms answer is in
+      → IsShapesRefusal limits reading before after pool.terms answer → (DataIsOpened → ⊥)
+      → Is (Err (unopened.Told answer pool))
+  shapes_refused reading answer pool told is closed =
+      let found = refuses limits reading before after pool.terms answer is in
       let verdict = stops found.obstacle in
       let readings : Readings = record { shapes = reading; data_text = Long; lines = no_lines } in
       record {
         due = λ uncut readings right. record {
           verdict = verdict;
-          judged = judged_once limits base reading verdict found.come readings shapes told right;
+          judged = read_alike limits base reading readings (λ r. ComeTo limits r verdict) found.come shapes
+              told right;
           patterns = found.patterns;
-          says = λ data_right. opening_once limits base reading verdict found.come readings format
-              (λ opening. opening ≡ ends (refused format pool.terms answer)) shapes data_text told right
-              (λ same. found.told format readings data_text);
+          refused = read_alike limits base reading readings
+              (λ r. IsRefusedIn limits r verdict after.refused) found.last shapes told right;
+          says = record {
+            due = λ data_right. opening_once limits base reading readings verdict format
+                (λ opening. opening ≡ ends (refused format pool.terms answer)) shapes data_text told right
+                (λ same. found.told format readings data_text);
+            planned = λ opened. absurd (closed opened);
+          };
         };
         read = λ uncut. record {
           readings = readings;
@@ -229,26 +280,27 @@ module _ (limits : Limits) (format : Format) (base : List ℕ) (shapes data_text
       }
 
   -- ... since it is too long
-  pub prepared_long : refusals' ≡ refusals → (pool : Pooled) (refusal : Refusal)
+  pub prepared_long : after.faults ≡ before.faults → (DataIsOpened → ⊥) → (pool : Pooled) (refusal : Refusal)
       → ((answer : Answer) → refusal ≡ Text answer
       → (answer ≡ TooLong of_shapes) × IsTooLong shapes limits.text)
-      → IsPrepared limits format base shapes data_text refusals refusals' (Err (beside pool refusal))
-  prepared_long quiet pool (Text answer) long =
+      → Is (Err (beside pool refusal))
+  prepared_long quiet closed pool (Text answer) long =
       let (is, longer) = long answer refl in
       shapes_refused Long answer pool (told_long limits base Shapes vocabulary shapes longer) (is, quiet)
-  prepared_long quiet pool (Cut stop) long = prepared_cut stop
+      closed
+  prepared_long quiet closed pool (Cut stop) long = prepared_cut stop
 
   module _ (rest : Option (List ℕ)) (bytes : List ℕ) (whole : ReadsWhole shapes rest limits.text bytes) where
     -- ... or makes no plan
-    pub prepared_unplanned : (why : Unopened) → RefusesShapes limits base bytes refusals refusals' why
-        → IsPrepared limits format base shapes data_text refusals refusals' (Err why)
-    prepared_unplanned (unopened.Told answer pool) (reading, is, refuses) =
+    pub prepared_unplanned : (why : Unopened) → RefusesShapes limits base bytes before after why
+        → (DataIsOpened → ⊥) → Is (Err why)
+    prepared_unplanned (unopened.Told answer pool) (reading, is, refusal) closed =
         shapes_refused reading answer pool
-        (told_bytes limits base Shapes vocabulary shapes rest bytes reading whole is) refuses
-    prepared_unplanned (unopened.Cut stop) refuses = prepared_cut stop
+        (told_bytes limits base Shapes vocabulary shapes rest bytes reading whole is) refusal closed
+    prepared_unplanned (unopened.Cut stop) refusal closed = prepared_cut stop
 
     -- its shapes are accepted, so the data text decides
-    module _ (accepted : Accepted) (accepts : Accepts limits base bytes refusals refusals' accepted) where
+    module _ (accepted : Accepted) (accepts : Accepts limits base bytes before after accepted) where
       abbrev plan : Planned
       plan = plan_of accepted.plan
 
@@ -280,25 +332,40 @@ module _ (limits : Limits) (format : Format) (base : List ℕ) (shapes data_text
           → DataIsRead limits base readings (plans plan) data_text
           → IfSome (texts_opening format readings (plans plan) shapes data_text) P
       both_decide other told P holds readings right data_right =
-          opening_once limits base reading (plans plan) accepts.plan.judged readings format P shapes data_text
-          shapes_told right
+          opening_once limits base reading readings (plans plan) format P shapes data_text shapes_told right
           (λ same. opening_data limits base readings format P accepts.document accepts.end plan data_text
           other same data_right told holds)
 
+      -- the verdict is that the shapes have this plan
+      planned_by : (prepared : Result Validation Unopened) (readings : Readings)
+          → ShapesAreRead limits base readings.shapes shapes
+          → (DataIsRead limits base readings (plans plan) data_text
+          → Prepares limits format readings (plans plan) shapes data_text prepared)
+          → ByVerdict limits readings.shapes shapes before after
+          (PreparesBy limits format base readings shapes data_text DataIsOpened prepared)
+      planned_by prepared readings right due = record {
+        verdict = plans plan;
+        judged = read_alike limits base reading readings (λ r. ComeTo limits r (plans plan))
+            accepts.plan.judged shapes shapes_told right;
+        patterns = accepts.plan.patterns;
+        refused = read_alike limits base reading readings
+            (λ r. IsRefusedIn limits r (plans plan) after.refused) tt shapes shapes_told right;
+        says = record {
+          due = due;
+          planned = λ _. read_alike limits base reading readings (λ r. HavePlan r (plans plan)) tt shapes
+              shapes_told right;
+        };
+      }
+
       data_refused : (other : TextReading) (answer : Answer) (pool : Pooled)
           → IsToldAs limits base Data held data_text other → IsRefusalOf of_data other answer
-          → IsPrepared limits format base shapes data_text refusals refusals'
+          → Is
           (Err (unopened.Told answer pool))
       data_refused other answer pool told is = record {
-        due = λ uncut readings right. record {
-          verdict = plans plan;
-          judged = judged_once limits base reading (plans plan) accepts.plan.judged readings shapes
-              shapes_told right;
-          patterns = accepts.plan.patterns;
-          says = both_decide other told (λ opening. opening ≡ ends (refused format pool.terms answer))
-              (data_ends format (passed_over (stated_graph accepts.document)) plan other pool.terms answer is)
-              readings right;
-        };
+        due = λ uncut readings right. planned_by (Err (unopened.Told answer pool)) readings right
+            (both_decide other told (λ opening. opening ≡ ends (refused format pool.terms answer))
+            (data_ends format (passed_over (stated_graph accepts.document)) plan other pool.terms answer is)
+            readings right);
         read = λ uncut. both_read other (Err (unopened.Told answer pool)) told
             (λ document end plan same. data_refuses other answer is document end);
       }
@@ -306,7 +373,7 @@ module _ (limits : Limits) (format : Format) (base : List ℕ) (shapes data_text
       pub prepared_data_long : (pool : Pooled) (refusal : Refusal)
           → ((answer : Answer) → refusal ≡ Text answer
           → (answer ≡ TooLong of_data) × IsTooLong data_text limits.text)
-          → IsPrepared limits format base shapes data_text refusals refusals' (Err (beside pool refusal))
+          → Is (Err (beside pool refusal))
       prepared_data_long pool (Text answer) long =
           let (is, longer) = long answer refl in
           data_refused Long answer pool (told_long limits base Data held data_text longer) is
@@ -325,30 +392,24 @@ module _ (limits : Limits) (format : Format) (base : List ℕ) (shapes data_text
           → IfOk prepared (Opens limits format base accepted.pool.terms plan bytes')
           → IfOk prepared (λ validation. validation.passed_over ≡ accepted.passed_over)
           → IfErr prepared (RefusesData limits base accepted.pool.terms bytes')
-          → IsPrepared limits format base shapes data_text refusals refusals' prepared
-      prepared_opened rest' bytes' (Ok validation) whole' (other, is, found) passed refuses =
+          → Is prepared
+      prepared_opened rest' bytes' (Ok validation) whole' (other, is, found) passed refusal =
           let told = data_bytes rest' bytes' other whole' is in
           let notices : passed_over (stated_graph accepts.document) ≡ validation.passed_over =
           sym (passed ∙ accepts.passed) in
           record {
-            due = λ uncut readings right. record {
-              verdict = plans plan;
-              judged = judged_once limits base reading (plans plan) accepts.plan.judged readings shapes
-                  shapes_told right;
-              patterns = accepts.plan.patterns;
-              says = λ data_right. record {
-                state = _;
-                stored = found.stored;
-                due = both_decide other told (λ opening. opening ≡ opens validation.passed_over _)
-                    (λ i. with_data format (notices i) plan (found.is i)) readings right data_right;
-              };
-            };
+            due = λ uncut readings right. planned_by (Ok validation) readings right (λ data_right. record {
+              state = _;
+              stored = found.stored;
+              due = both_decide other told (λ opening. opening ≡ opens validation.passed_over _)
+                  (λ i. with_data format (notices i) plan (found.is i)) readings right data_right;
+            });
             read = λ uncut. both_read other (Ok validation) told (λ document end same.
                 let one : found.end ≡ end =
                 same_end other found.document document found.end end found.is same in
                 subst (λ (end : State). HasNamesOf end validation.document) one found.stored.names_are);
           }
       prepared_opened rest' bytes' (Err (unopened.Told answer pool)) whole' found passed
-          (other, is, refuses) =
-          data_refused other answer pool (data_bytes rest' bytes' other whole' is) refuses
-      prepared_opened rest' bytes' (Err (unopened.Cut stop)) whole' found passed refuses = prepared_cut stop
+          (other, is, refusal) =
+          data_refused other answer pool (data_bytes rest' bytes' other whole' is) refusal
+      prepared_opened rest' bytes' (Err (unopened.Cut stop)) whole' found passed refusal = prepared_cut stop

@@ -24,7 +24,7 @@ use Rattle.shacl_run.specs.declared.refusal.Refusal.TheVariants.{Text}
 use Rattle.shacl_run.specs.Readings.{TextReading, States, Faulty, Long, IsReadAs, IsKnownDocument}
 use Rattle.shacl_run.specs.Readings.{numbered_from, setting_of}
 use Rattle.shacl_run.specs.inner.Refusal.{RefusesAs}
-use Rattle.shacl_run.proofs.EditLemmas.{numbered_known}
+use Rattle.edit_engine.proofs.StatedLemmas.{numbered_known}
 
 module _ (limits : Limits) (base : List ℕ) (scope : Scope) (held : List Term) (text : List ℕ) where
   pub read_once : (a b : TextReading) → IsReadAs limits base scope held text a

@@ -1,25 +1,26 @@
 -- What a run promises, by how it ends.
-use Rattle.std.proofs.Common.{◌≡◌, ◌≢◌, ℕ, List, [], ◌∷◌, ◌++◌, Option, None, Some, length}
-use Rattle.std.proofs.Common.{refl, subst, inl, inr}
+use Rattle.std.proofs.Common.{◌≡◌, ◌≢◌, ℕ, ◌-◌, List, [], ◌∷◌, ◌++◌, Option, None, Some, length}
+use Rattle.std.proofs.Common.{refl, subst, inl, inr, arith}
 use Rattle.std.specs.Prelude.{IfSome, ◌⊎◌}
-use Rattle.shx_outside.specs.declared.role.Role.TheVariants.{Script}
-use Rattle.shx_outside.specs.Outside.{SinkState}
+use Rattle.shx_outside.specs.Outside.{PatternState}
 use Rattle.shx_outside.specs.Told.{Grew, Fell}
 use Rattle.shx_term.specs.declared.limits.Limits.{Limits}
+use Rattle.text_output.specs.declared.format.Format.{Format}
 use Rattle.text_output.specs.Writes.{Put}
 use Rattle.shacl_run.specs.declared.status.Status.{Status}
 use Rattle.shacl_run.specs.declared.status.Status.TheVariants.{Conforms, Violates, BadWords, Refused}
 use Rattle.shacl_run.specs.declared.status.Status.TheVariants.{InputFault, WriteFault, Memory, LinesRefused}
-use Rattle.shacl_run.specs.inner.Ends.{PutsWhole, PutsFront, Ends}
+use Rattle.shacl_run.specs.inner.Ends.{PutsWhole, PutsFront, Ends, EndsByPattern}
 use Rattle.shacl_run.specs.inner.Files.{RunsWords}
 use Rattle.shacl_run.specs.Outside.{Outside}
 use Rattle.shacl_run.specs.Readings.{Readings, TextReading}
-use Rattle.shacl_run.specs.Run.{Output, run_output}
-use Rattle.shacl_run.specs.RunClauses.{ByVerdict, WritesWhole, WritesFront, WritesDue, Writes, ScriptStops}
-use Rattle.shacl_run.specs.RunClauses.{IsOpenedBy, HasCauses, IsRead, ReadsToEnd, StaysWithin, IsRun}
+use Rattle.shacl_run.specs.Run.{Output, run_output, words_format}
+use Rattle.shacl_run.specs.RunClauses.{ByVerdict, WritesWhole, WritesFront, Writes, ReadsAll}
+use Rattle.shacl_run.specs.RunClauses.{HasCauses, IsRead, OpensInTurn, StaysWithin, TellsRefusal, IsRun}
 use Rattle.shacl_run.specs.RunClauses.{ShapesAreReadBy}
 use Rattle.shacl_run.specs.Status.{IsAnswered, IsReported, IsCutShort}
 use Rattle.shacl_run.specs.Verdict.{Verdict}
+use Rattle.shacl_run.specs.Work.{evaluating, no_work}
 use Rattle.command_words.specs.Words.{command_words}
 use Rattle.shacl_run.proofs.EndLemmas.{cut_or_answered}
 
@@ -36,25 +37,34 @@ answered_or_cut LinesRefused = inl tt
 -- ---- one output for all that is said of it
 
 -- an output, which is the one that is due where it is told
-record Written (due : Option Output) (status : Status) (before after : SinkState) : Type 0 where
+record Written (due : Option Output) (status : Status) (before after : Outside) : Type 0 where
   output : Output
   is : IfSome due (λ defined. output ≡ defined)
   exact : IsAnswered status → WritesWhole output before after status
-  prefix : IsCutShort status → WritesFront output before after status
+  prefix : IsCutShort status → WritesFront output before.sink after.sink status
 
-module _ (status : Status) (before after : SinkState) where
-  -- where no output is told, one that begins with what was put
+module _ (status : Status) (before after : Outside) where
+  -- where no output is told, one that begins with what was put, and takes the work that was counted
   untold_whole : IsAnswered status → PutsWhole None status before after → Written None status before after
   untold_whole answered puts = record {
-    output = record { text = puts.written; status = status };
+    output = record {
+      text = puts.written;
+      status = status;
+      work = evaluating (after.steps - before.steps);
+    };
     is = tt;
-    exact = λ _. record { status_is = refl; put = puts.put };
+    exact = λ _. record {
+      status_is = refl;
+      put = puts.put;
+      evaluations = λ reported. omega (arith, puts.risen reported);
+    };
     prefix = λ cut. absurd (cut_or_answered status answered cut);
   }
 
-  untold_front : IsCutShort status → PutsFront None status before after → Written None status before after
+  untold_front : IsCutShort status → PutsFront None status before.sink after.sink
+      → Written None status before after
   untold_front cut puts = record {
-    output = record { text = puts.written ++ 0 ∷ []; status = status };
+    output = record { text = puts.written ++ 0 ∷ []; status = status; work = no_work };
     is = tt;
     exact = λ answered. absurd (cut_or_answered status answered cut);
     prefix = λ _. record {
@@ -67,18 +77,21 @@ module _ (status : Status) (before after : SinkState) where
     };
   }
 
-  written : (due : Option Output) (faults faults' : ℕ) → Ends due status faults faults' before after
-      → Written due status before after
-  written None faults faults' run_ends = elim (answered_or_cut status) [
+  written : (due : Option Output) → Ends due status before after → Written due status before after
+  written None run_ends = elim (answered_or_cut status) [
     | inl answered ↦ untold_whole answered (run_ends.whole answered)
     | inr cut ↦ untold_front cut (run_ends.front cut)
   ]
-  written (Some output) faults faults' run_ends = record {
+  written (Some output) run_ends = record {
     output = output;
     is = refl;
     exact = λ answered.
         let puts = run_ends.whole answered in
-        record { status_is = puts.defined.0; put = subst (Put before after) puts.defined.1 puts.put };
+        record {
+          status_is = puts.defined.0;
+          put = subst (Put before.sink after.sink) puts.defined.1 puts.put;
+          evaluations = puts.defined.2;
+        };
     prefix = λ cut.
         let puts = run_ends.front cut in
         record {
@@ -91,70 +104,101 @@ module _ (status : Status) (before after : SinkState) where
         };
   }
 
-  -- bytes were put behind what the sink held
-  record HasPut : Type 0 where
-    bytes : List ℕ
-    grew : Grew before.held after.held bytes
-    fell : Fell before.room after.room (length bytes)
+  -- ---- what failed
 
-  has_put : (due : Option Output) (faults faults' : ℕ) → Ends due status faults faults' before after → HasPut
-  has_put due faults faults' run_ends = elim (answered_or_cut status) [
-    | inl answered ↦
+  -- bytes were put behind what the sink held; where the count of refused patterns did not stay, they tell of
+  -- one
+  record HasPut (format : Format) : Type 0 where
+    bytes : List ℕ
+    grew : Grew before.sink.held after.sink.held bytes
+    fell : Fell before.sink.room after.sink.room (length bytes)
+    tells : IsAnswered status → after.patterns.faults ≢ before.patterns.faults
+        → (status ≡ Refused) × TellsRefusal format bytes
+
+  put_answered : (format : Format) → IsAnswered status → Ends None status before after
+      → EndsByPattern format status before after → HasPut format
+  put_answered format answered run_ends by = elim by [
+    | inl same ↦
         let puts = run_ends.whole answered in
-        record { bytes = puts.written; grew = puts.put.grew; fell = puts.put.fell }
+        record {
+          bytes = puts.written;
+          grew = puts.put.grew;
+          fell = puts.put.fell;
+          tells = λ _ other. absurd (other same);
+        }
+    | inr told ↦
+        let (terms, shape, ends) = told in
+        let puts = ends.whole answered in
+        record {
+          bytes = puts.written;
+          grew = puts.put.grew;
+          fell = puts.put.fell;
+          tells = λ _ _. (
+            puts.defined.0,
+            record { terms = terms; shape = shape; is = puts.defined.1 },
+          );
+        }
+  ]
+
+  has_put : (format : Format) → Ends None status before after
+      → EndsByPattern format status before after ⊎ IsCutShort status → HasPut format
+  has_put format run_ends by = elim (answered_or_cut status) [
+    | inl answered ↦ elim by [
+      | inl by_pattern ↦ put_answered format answered run_ends by_pattern
+      | inr cut ↦ absurd (cut_or_answered status answered cut)
+    ]
     | inr cut ↦
         let puts = run_ends.front cut in
-        record { bytes = puts.written; grew = puts.grew; fell = puts.fell }
+        record {
+          bytes = puts.written;
+          grew = puts.grew;
+          fell = puts.fell;
+          tells = λ answered. absurd (cut_or_answered status answered cut);
+        }
   ]
 
 -- ---- by a verdict
 
 -- what follows by each verdict follows by the one of the shapes
 pub ByVerdict-then : (limits : Limits) (shapes : TextReading) (text : Option (List ℕ))
-    (refusals refusals' : ℕ) (Says More : Verdict → Type 0)
+    (before after : PatternState) (Says More : Verdict → Type 0)
     → ((verdict : Verdict) → Says verdict → More verdict)
-    → ByVerdict limits shapes text refusals refusals' Says
-    → ByVerdict limits shapes text refusals refusals' More
-ByVerdict-then limits shapes text refusals refusals' Says More more by = record {
+    → ByVerdict limits shapes text before after Says → ByVerdict limits shapes text before after More
+ByVerdict-then limits shapes text before after Says More more by = record {
   verdict = by.verdict;
   judged = by.judged;
   patterns = by.patterns;
+  refused = by.refused;
   says = more by.verdict by.says;
 }
 
 -- ---- what a run promises
 
-module _ (limits : Limits) (words : List (List ℕ)) (before after : Outside) (status : Status)
-    (nested : after.nested ≡ before.nested) where
-  writes_due : (readings : Readings) (verdict : Verdict)
-      → Ends (run_output limits readings verdict words before.inputs.text) status
-      before.inputs.faults after.inputs.faults before.sink after.sink
-      → (status ≡ InputFault → IsOpenedBy before.inputs after.inputs Script
-      → ScriptStops limits readings verdict words before.inputs after.inputs before.sink after.sink)
-      → WritesDue limits readings verdict words before after status
-  writes_due readings verdict run_ends stops =
-      let due = run_output limits readings verdict words before.inputs.text in
-      let w = written status before.sink after.sink due before.inputs.faults after.inputs.faults run_ends in
-      record { output = w.output; due = w.is; exact = w.exact; prefix = w.prefix; script_stops = stops }
-
-  writes : (readings : Readings)
-      → RunsWords limits readings words before.patterns.faults after.patterns.faults before.inputs
-      after.inputs before.sink after.sink status
+module _ (limits : Limits) (words : List (List ℕ)) (before after : Outside) (status : Status) where
+  writes : (readings : Readings) → RunsWords limits readings words before after status
       → Writes limits readings words before after status
   writes readings runs = elim runs [
-    | inl by ↦ inl (ByVerdict-then limits readings.shapes _ before.patterns.faults after.patterns.faults _ _
+    | inl by ↦ inl (ByVerdict-then limits readings.shapes _ before.patterns after.patterns _ _
         (λ verdict says right lines.
         let serves = says right lines in
-        writes_due readings verdict serves.run_ends serves.script_stops) by)
+        let w = written status before after (run_output limits readings verdict words before.inputs.text)
+        serves.run_ends in
+        record {
+          output = w.output;
+          due = w.is;
+          exact = w.exact;
+          prefix = w.prefix;
+          script_stops = serves.script_stops;
+          opened = serves.opened;
+        }) by)
     | inr early ↦ inr early
   ]
 
-  has_causes : Ends None status before.inputs.faults after.inputs.faults before.sink after.sink
-      → (IsAnswered status → status ≢ Refused → after.patterns.faults ≡ before.patterns.faults)
-      → HasCauses before after status
-  has_causes run_ends quiet_patterns =
-      let put =
-      has_put status before.sink after.sink None before.inputs.faults after.inputs.faults run_ends in
+  has_causes : Ends None status before after
+      → EndsByPattern (words_format (command_words words)) status before after ⊎ IsCutShort status
+      → HasCauses words before after status
+  has_causes run_ends by =
+      let put = has_put status before after (words_format (command_words words)) run_ends by in
       let causes = run_ends.causes in
       record {
         bytes = put.bytes;
@@ -165,24 +209,25 @@ module _ (limits : Limits) (words : List (List ℕ)) (before after : Outside) (s
         used_up = causes.used_up;
         quiet_inputs = causes.quiet_inputs;
         quiet_sink = causes.quiet_sink;
-        quiet_patterns = quiet_patterns;
-        nested_still = nested;
+        quiet_patterns = put.tells;
+        nested_still = causes.nested_still;
       }
 
   pub IsRun-ended : ((readings : Readings)
       → ShapesAreReadBy limits readings (command_words words) before.inputs.text
-      → RunsWords limits readings words before.patterns.faults after.patterns.faults before.inputs
-      after.inputs before.sink after.sink status)
-      → Ends None status before.inputs.faults after.inputs.faults before.sink after.sink
-      → (IsAnswered status → status ≢ Refused → after.patterns.faults ≡ before.patterns.faults)
+      → RunsWords limits readings words before after status)
+      → Ends None status before after
+      → EndsByPattern (words_format (command_words words)) status before after ⊎ IsCutShort status
       → (IsAnswered status → IsRead limits words before.inputs.text)
-      → (IsReported status → IfSome (command_words words) (λ asked. ReadsToEnd after.inputs asked.files))
-      → IfSome (command_words words) (λ asked. StaysWithin limits before.inputs after.inputs asked.files)
-      → IsRun limits words before after status
-  IsRun-ended runs causes quiet_patterns read read_to_end within = record {
+      → (IsReported status
+      → IfSome (command_words words) (λ asked. ReadsAll asked.files before.inputs after.inputs))
+      → OpensInTurn before.inputs after.inputs status
+      → StaysWithin limits before.inputs after.inputs → IsRun limits words before after status
+  IsRun-ended runs causes by read read_to_end opened within = record {
     writes = λ readings right. writes readings (runs readings right);
     read = read;
     read_to_end = read_to_end;
-    causes = has_causes causes quiet_patterns;
+    causes = has_causes causes by;
+    opened = opened;
     within = within;
   }

@@ -1,11 +1,9 @@
--- What may be asked of a graph: views stay valid and plans known where terms and valid triples are added, and
--- what a text states is valid.
-use Rattle.std.proofs.Common.{◌≡◌, ℕ, ◌<◌, Bool, true, false, List, [], ◌∷◌, ◌++◌, length, None, Some}
-use Rattle.std.proofs.Common.{refl, sym, subst, arith, length-append}
-use Rattle.std.specs.Prelude.{All, flat_map, map}
+-- What may be asked of a graph: what a text states, and what is stored of it, is a valid view.
+use Rattle.std.proofs.Common.{◌≡◌, Bool, true, false, List, [], ◌∷◌, None, Some, refl, sym, subst}
+use Rattle.std.specs.Prelude.{All}
 use Rattle.std.specs.Cmp.{first_so, second_so}
 use Rattle.std.specs.List.{list_all}
-use Rattle.std.proofs.lemmas.List.Elements.{All-cons, All-head, All-nil, All-tail, All-weaker}
+use Rattle.std.proofs.lemmas.List.Elements.{All-cons, All-head, All-nil, All-tail}
 use Rattle.shx_term.specs.declared.term.Term.{Term}
 use Rattle.shx_term.specs.declared.term.Term.TheVariants.{Iri, Blank, Lit}
 use Rattle.shx_term.specs.declared.triple.Triple.{Triple}
@@ -15,24 +13,17 @@ use Rattle.shx_term.specs.Pool.{Pooled, with_term, with_terms}
 use Rattle.shx_term.specs.TripleTerms.{numbered, numbered_all, terms_of}
 use Rattle.shx_term.specs.ValidTriples.{IsIri, IsNoLiteral, IsNotWide, IsValidTermTriple}
 use Rattle.shx_term.specs.Vocabulary.{vocabulary}
-use Rattle.shx_term.proofs.HeldLemmas.{with_terms_grow}
 use Rattle.shx_term.proofs.MemberLemmas.{All_of_each, each_of_All}
-use Rattle.graph_view.specs.Graph.{Graph, HasAlso, graph_of}
+use Rattle.graph_view.specs.Graph.{Graph, graph_of}
 use Rattle.graph_view.specs.SameGraph.{SameGraph}
 use Rattle.graph_view.specs.Valid.{IsValidTriple, IsValidView}
 use Rattle.graph_view.proofs.SameGraphLemmas.{first_places_same}
 use Rattle.shx_term.proofs.SetLemmas.{SameMembers-sym}
-use Rattle.graph_view.proofs.ValidLemmas.{IsValidTriple-numbered, IsValidView-entered, IsValidView-inserted}
-use Rattle.shape_eval.specs.declared.shape.PlanShape.{PlanShape}
-use Rattle.shape_eval.specs.Constraint.{constraint_numbers}
-use Rattle.shape_eval.specs.Plan.{HasTermsOf, IsKnownPlan, path_numbers, target_number}
+use Rattle.graph_view.proofs.ValidLemmas.{IsValidTriple-numbered, IsValidView-entered}
 use Rattle.ttl_meaning.specs.declared.document.Document.{Document}
 use Rattle.ttl_meaning.specs.inner.DocumentOf.{IsDocumentOf}
 use Rattle.ttl_meaning.specs.IsStated.{Bounds}
 use Rattle.ttl_meaning.specs.State.{State}
-use Rattle.shacl_run.specs.declared.edit.Edited.{Edited}
-use Rattle.shacl_run.specs.declared.edit.Edited.TheVariants.{Changed, Unchanged, Refused}
-use Rattle.shacl_run.specs.Edits.{graph_after, terms_with}
 use Rattle.shacl_run.specs.inner.Validation.{HasNoWide}
 
 -- ---- terms that are no wide literals
@@ -89,18 +80,6 @@ valid_entered g (t ∷ ts) valid narrow =
     valid_entered one ts (IsValidView-entered g one t valid (All-head IsNotWide t ts narrow) refl refl)
     (All-tail IsNotWide t ts narrow)
 
--- ... and where a valid triple is added behind its terms
-pub valid_stated : (g h : Graph) (t : TermTriple) (u : Triple) (old : List Triple) → IsValidView g
-    → IsValidTermTriple t → h.terms ≡ terms_with g t → numbered h.terms t ≡ Some u → old ≡ g.triples
-    → HasAlso old h.triples u → IsValidView h
-valid_stated g h t u old valid fit terms number same also =
-    let k : Graph = record g { terms = terms_with g t } in
-    let entered = valid_entered g (terms_of (t ∷ [])) valid
-    (narrow_terms (t ∷ []) (All-cons IsValidTermTriple t [] fit (All-nil IsValidTermTriple))) in
-    IsValidView-inserted k h u entered
-    (subst (λ ts. IsValidTriple ts u) terms (IsValidTriple-numbered h.terms t u number fit)) terms
-    (subst (λ us. HasAlso us h.triples u) same also)
-
 -- ... and where the same triples stand in another order
 pub valid_members : (g h : Graph) → g.terms ≡ h.terms → SameMembers g.triples h.triples → IsValidView g
     → IsValidView h
@@ -149,46 +128,3 @@ valid_document bounds s document pool is narrow =
           (valid_numbered pool.terms s.triples is.valid);
       terms = subst HasNoWide (sym is.terms) entered.terms;
     }
-
--- ---- plans
-
-module _ (terms more : List Term) where
-  below_more : (ids : List ℕ) → All (λ id. id < length terms) ids
-      → All (λ id. id < length (terms ++ more)) ids
-  below_more ids all =
-      All-weaker (λ id. id < length terms) (λ id. id < length (terms ++ more))
-      (λ id below. omega (arith, length-append terms more)) ids all
-
-  shape_known_more : (sh : PlanShape) → HasTermsOf terms sh → HasTermsOf (terms ++ more) sh
-  shape_known_more sh has = record {
-    node = omega (arith, has.node, length-append terms more);
-    severity = omega (arith, has.severity, length-append terms more);
-    messages = below_more sh.messages.items has.messages;
-    path = below_more (path_numbers sh.path) has.path;
-    targets = below_more (map target_number sh.targets.items) has.targets;
-    constraints = below_more (flat_map constraint_numbers sh.constraints.items) has.constraints;
-  }
-
-  -- a plan stays known where there are more terms
-  plan_known_more : (shapes : List PlanShape) → IsKnownPlan terms shapes → IsKnownPlan (terms ++ more) shapes
-  plan_known_more shapes known = record {
-    each = All-weaker (HasTermsOf terms) (HasTermsOf (terms ++ more)) shape_known_more shapes known.each;
-  }
-
--- where terms are entered
-pub plan_known_entered : (terms ts : List Term) (shapes : List PlanShape) → IsKnownPlan terms shapes
-    → IsKnownPlan (with_terms terms ts) shapes
-plan_known_entered terms ts shapes known =
-    let grown = with_terms_grow terms ts in
-    subst (λ ts. IsKnownPlan ts shapes) (sym grown.1) (plan_known_more terms grown.0 shapes known)
-
--- and so by an edit that would make a known graph of it
-pub plan_known_edited : (outcome : Edited) (g h k : Graph) (shapes : List PlanShape)
-    → SameGraph (graph_after outcome g h) k → IsKnownPlan g.terms shapes → IsKnownPlan h.terms shapes
-    → IsKnownPlan k.terms shapes
-plan_known_edited Changed g h k shapes same known known' =
-    subst (λ ts. IsKnownPlan ts shapes) same.terms known'
-plan_known_edited Unchanged g h k shapes same known known' =
-    subst (λ ts. IsKnownPlan ts shapes) same.terms known
-plan_known_edited (Refused code) g h k shapes same known known' =
-    subst (λ ts. IsKnownPlan ts shapes) same.terms known

@@ -1,5 +1,6 @@
 -- A report is written, and then its script is answered.
-use Rattle.std.proofs.Common.{◌≡◌, ℕ, false, nat_lt, List, [], Option, None, Some, Result, Ok, Err}
+use Rattle.std.proofs.Common.{◌≡◌, ℕ, ◌+◌, Bool, false, nat_lt, List, [], length, Option, None, Some, Result}
+use Rattle.std.proofs.Common.{Ok, Err}
 use Rattle.std.proofs.Common.{refl, sym, ap, ◌∙◌, subst, append-nil, arith}
 use Rattle.std.proofs.lemmas.Bool.Decides.{nat_tests}
 use Rattle.std.proofs.lemmas.List.Elements.{All-nil}
@@ -12,75 +13,107 @@ use Rattle.shx_term.specs.declared.limits.Limits.{Limits}
 use Rattle.text_input.specs.Lines.{script_lines}
 use Rattle.text_input.proofs.ScriptLineLemmas.{script_lines-none}
 use Rattle.text_output.specs.declared.format.Format.{Format}
-use Rattle.text_output.specs.Writes.{Put}
+use Rattle.text_output.specs.Writes.{Put, FellShort}
 use Rattle.ttl_meaning.specs.State.{State}
 use Rattle.script_lines.specs.declared.fault.LineFault.TheVariants as line_fault
 use Rattle.shacl_run.specs.declared.validation.Validation.{Validation}
 use Rattle.shacl_run.specs.declared.status.Status.{Status}
-use Rattle.shacl_run.specs.declared.status.Status.TheVariants.{InputFault}
+use Rattle.shacl_run.specs.declared.status.Status.TheVariants.{WriteFault}
 use Rattle.shacl_run.specs.declared.stop.Stop.{Stop}
 use Rattle.shacl_run.specs.declared.stop.Stop.TheVariants.{Input, Write, Memory}
 use Rattle.shacl_run.specs.inner.Ends.{Ends}
-use Rattle.shape_eval.specs.Report.{report}
+use Rattle.shape_eval.specs.Report.{pairs, report}
 use Rattle.shacl_run.specs.Run.{Output, Opening, behind, ending, output_from, validation_output, script_text}
-use Rattle.shacl_run.specs.Run.{fed_text, first_text}
+use Rattle.shacl_run.specs.Outside.{Outside}
+use Rattle.shacl_run.specs.Run.{fed_text, first_text, first_work}
 use Rattle.shacl_run.specs.Run.{opening_output, opening_fed, status_of_rows}
 use Rattle.shacl_run.specs.Manner.{Manner}
 use Rattle.shacl_run.specs.Readings.{IsReadBehind}
 use Rattle.shacl_run.specs.Run.Opening.{ends, opens}
 use Rattle.shacl_run.specs.RunClauses.{StopsFed}
-use Rattle.shacl_run.specs.Script.{answers_text, state_after}
+use Rattle.shacl_run.specs.Script.{Served, serve_lines}
 use Rattle.shacl_run.specs.ScriptState.{ScriptState}
 use Rattle.shacl_run.specs.inner.Serving.{due_at, HaveReadings, Prefixed, PutsReport}
-use Rattle.shacl_run.specs.inner.Stops.{stop_status}
+use Rattle.shacl_run.specs.inner.Stops.{end_status}
 use Rattle.shacl_run.specs.inner.Validation.{IsValidation}
-use Rattle.shacl_run.proofs.EndLemmas.{Ends-memory, Ends-short, Ends-whole}
-use Rattle.shacl_run.proofs.ServingLemmas.{rows_answered, rows_quiet}
+use Rattle.shacl_run.specs.Work.{evaluating}
+use Rattle.shacl_run.proofs.EndLemmas.{Ends-after, Ends-memory, Ends-short, Ends-whole}
+use Rattle.shacl_run.proofs.ServedLemmas.{rows_answered}
 
 -- what is put in the format of a validation is put in that of the run
 pub puts_in : (manner : Manner) (s : ScriptState) (validation : Validation) (before after : SinkState)
-    (r : Result Status Stop) → IsValidation manner.limits manner.format s validation
+    (steps steps' : ℕ) (r : Result Status Stop) → IsValidation manner.limits manner.format s validation
     → ((limits : Limits) (s : ScriptState) → IsValidation limits validation.format s validation
-    → PutsReport validation.format validation.passed_over s before after r)
-    → PutsReport manner.format validation.passed_over s before after r
-puts_in manner s validation before after r is puts =
+    → PutsReport validation.format validation.passed_over s before after steps steps' r)
+    → PutsReport manner.format validation.passed_over s before after steps steps' r
+puts_in manner s validation before after steps steps' r is puts =
     let own : IsValidation manner.limits validation.format s validation =
     subst (λ (format : Format). IsValidation manner.limits format s validation) (sym is.format_is) is in
-    subst (λ (format : Format). PutsReport format validation.passed_over s before after r) is.format_is
-    (puts manner.limits s own)
+    subst (λ (format : Format). PutsReport format validation.passed_over s before after steps steps' r)
+    is.format_is (puts manner.limits s own)
+
+-- what holds where something is due holds in any case
+pub in_any_case : (due : Option Output) (P : Type 0) → P → IfSome due (λ told. P)
+in_any_case None P holds = tt
+in_any_case (Some output) P holds = holds
 
 module _ (format : Format) (notices : ℕ) (s : ScriptState) where
-  -- the report was not put whole
-  pub Ends-unreported : (due later : Option Output)
-      → IfSome due (Prefixed (first_text format notices s) later)
-      → (stop : Stop) (faults : ℕ) (before after : SinkState)
-      → PutsReport format notices s before after (Err stop)
-      → Ends due (stop_status stop) faults faults before after
-  Ends-unreported due later prefixed Input faults before after puts = absurd puts
-  Ends-unreported due later prefixed Memory faults before after puts =
-      subst (λ sink. Ends due (stop_status Memory) faults faults before sink) (sym puts)
-      (Ends-memory due faults faults before refl)
-  Ends-unreported due later prefixed Write faults before after puts =
-      Ends-short due (first_text format notices s) faults faults before after
+  -- the report was put, and then the run ended with what is due after it
+  pub Ends-behind_report : (due later : Option Output)
+      → IfSome due (Prefixed (first_text format notices s) (first_work s) later) → (status : Status)
+      → (before within after : Outside) → Put before.sink within.sink (first_text format notices s)
+      → within.inputs.faults ≡ before.inputs.faults → within.nested ≡ before.nested
+      → within.steps ≡ before.steps + (first_work s).evaluated
+      → Ends later status within after → Ends due status before after
+  Ends-behind_report due later prefixed status before within after put quiet nested steps run_ends =
+      Ends-after (first_text format notices s) (first_work s) status before within after
+      (record { put = put; inputs = quiet; nested = nested; risen = omega (arith, steps) }) due later prefixed
+      (in_any_case due (within.steps ≡ before.steps + (first_work s).evaluated) steps) run_ends
+
+  -- the sink failed within the report
+  pub Ends-within_report : (due later : Option Output)
+      → IfSome due (Prefixed (first_text format notices s) (first_work s) later) → (before after : Outside)
+      → after.inputs.faults ≡ before.inputs.faults → after.nested ≡ before.nested
+      → FellShort before.sink after.sink (first_text format notices s) → Ends due WriteFault before after
+  Ends-within_report due later prefixed before after quiet nested short =
+      Ends-short due (first_text format notices s) before after
       (IfSome_then due prefixed (λ told first. (first.rest.text, ap (λ (o : Output). o.text) first.whole)))
-      refl puts
+      quiet nested short
 
   -- where no script is named, the report is all that is due
   abbrev pub alone : Output
-  alone = record { text = first_text format notices s; status = status_of_rows (report s.plan s.graph) }
+  alone = record {
+    text = first_text format notices s;
+    status = status_of_rows (report s.plan s.graph);
+    work = first_work s;
+  }
 
-  pub Ends-unscripted : (due : Option Output) → IfSome due (λ told. told ≡ alone) → (status : Status)
-      (faults : ℕ) (before after : SinkState) → PutsReport format notices s before after (Ok status)
-      → Ends due status faults faults before after
-  Ends-unscripted due told status faults before after (put, is) =
-      subst (λ status. Ends due status faults faults before after) (sym is)
-      (Ends-whole due alone faults faults before after told (rows_answered (report s.plan s.graph)) refl put)
+  pub Ends-unscripted : (due : Option Output) → IfSome due (λ told. told ≡ alone)
+      → (r : Result Status Stop) (before after : Outside)
+      → PutsReport format notices s before.sink after.sink before.steps after.steps r
+      → after.inputs.faults ≡ before.inputs.faults → after.nested ≡ before.nested
+      → Ends due (end_status r) before after
+  Ends-unscripted due told (Ok status) before after (put, is, steps) quiet nested =
+      subst (λ status. Ends due status before after) (sym is)
+      (Ends-whole due alone before after told (rows_answered (report s.plan s.graph))
+      (record { inputs = quiet; nested = nested; steps = λ _. steps }) put)
+  Ends-unscripted due told (Err Input) before after puts quiet nested = absurd puts
+  Ends-unscripted due told (Err Memory) before after puts quiet nested =
+      Ends-memory due before after (record { sink = puts; inputs = quiet; nested = nested })
+  Ends-unscripted due told (Err Write) before after puts quiet nested =
+      Ends-short due (first_text format notices s) before after
+      (IfSome_then due told (λ output same. (
+        [],
+        ap (λ (o : Output). o.text) same ∙ sym (append-nil (first_text format notices s)),
+      )))
+      quiet nested puts
 
 module _ (manner : Manner) (notices : ℕ) (s : ScriptState) where
   -- what is due is the report, and then what is due of the script
   pub validation_prefixed : (script : Option (List ℕ))
       → IfSome (option_map (validation_output manner notices s) script)
-      (Prefixed (first_text manner.format notices s) (due_at manner s manner.limits.script script))
+      (Prefixed (first_text manner.format notices s) (first_work s)
+      (due_at manner s manner.limits.script script))
   validation_prefixed None = tt
   validation_prefixed (Some bytes) =
       record { rest = output_from manner s manner.limits.script bytes; is = refl; whole = refl }
@@ -93,13 +126,20 @@ module _ (manner : Manner) (notices : ℕ) (s : ScriptState) where
       let none : script_lines limit [] ≡ [] = script_lines-none limit in
       let within : nat_lt limit 0 ≡ false = grind (arith, nat_tests) in
       let first = first_text manner.format notices s in
-      (λ i. behind first (behind (answers_text manner s (none i))
-      (ending manner.format (within i) (state_after manner s (none i)))))
+      (λ i. behind first (first_work s) (served_output (within i) (serve_lines manner s (none i))))
       ∙ (λ i. record {
         text = append-nil first i;
         status = status_of_unrefused i;
+        work = evaluating (no_more (length (pairs s.plan s.graph)) i);
       })
     where
+      served_output : Bool → Served → Output
+      served_output past served =
+          behind served.text served.work (ending manner.format past served.state)
+
+      no_more : (n : ℕ) → n + (0 + 0) ≡ n
+      no_more n = omega arith
+
       status_of_unrefused : (ending manner.format false s).status ≡ status_of_rows (report s.plan s.graph)
       status_of_unrefused = rw unrefused refl
 
@@ -112,17 +152,6 @@ module _ (manner : Manner) (notices : ℕ) (s : ScriptState) where
         let (taken, rest, left_is, whole, grew) = stops.told bytes is in
         (taken, rest, left_is, whole, Grew-then put.grew grew);
   }
-
--- a report that was put, or not, is no fault of an input
-pub unreported_quiet : (format : Format) (notices : ℕ) (s : ScriptState) (stop : Stop)
-    (before after : SinkState) → PutsReport format notices s before after (Err stop) → stop ≡ Input → ⊥
-unreported_quiet format notices s Input before after puts is = puts
-unreported_quiet format notices s Write before after puts is = absurd (cc)
-unreported_quiet format notices s Memory before after puts is = absurd (cc)
-
-pub reported_quiet : (s : ScriptState) (status : Status) → status ≡ status_of_rows (report s.plan s.graph)
-    → status ≡ InputFault → ⊥
-reported_quiet s status same is = rows_quiet (report s.plan s.graph) (sym same ∙ is)
 
 -- an empty script has no line that needs a reading
 pub readings_empty : (limits : Limits) (end : State) (budget : ℕ) → HaveReadings limits end budget (Some [])

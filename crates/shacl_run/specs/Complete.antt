@@ -1,5 +1,5 @@
 -- What follows where nothing outside fails: a run answers as is due, or memory is wanted.
-use Rattle.std.specs.Prelude.{◌≡◌, ◌≢◌, ℕ, ◌≤◌, ◌⊎◌, false, List, length, Option, Some, IfSome}
+use Rattle.std.specs.Prelude.{◌≡◌, ◌≢◌, ℕ, ◌≤◌, ◌⊎◌, false, List, length, Some, IfSome}
 use Rattle.shx_outside.specs.Counted.{last_count}
 use Rattle.shx_term.specs.declared.limits.Limits.{Limits}
 use Rattle.graph_view.specs.Graph.{Graph}
@@ -42,7 +42,7 @@ pub record IsDue (limits : Limits) (readings : Readings) (words : List (List ℕ
   pub written : DataIsReadBy limits readings verdict (command_words words) before.inputs.text
       → LinesAreReadBy limits readings verdict (command_words words) before.inputs.text
       → IfSome (run_output limits readings verdict words before.inputs.text)
-      (λ output. WritesWhole output before.sink after.sink status)
+      (λ output. WritesWhole output before after status)
 
 -- the run wanted memory, or what is due was written, whatever the texts are read as
 abbrev pub IsComplete : Limits → List (List ℕ) → Outside → Outside → Status → Type 0

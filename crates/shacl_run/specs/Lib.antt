@@ -1,6 +1,5 @@
 pub mod Admits
 pub mod Complete
-pub mod Edits
 pub mod Manner
 pub mod Names
 pub mod Outside
@@ -11,4 +10,5 @@ pub mod Script
 pub mod ScriptState
 pub mod Status
 pub mod Verdict
+pub mod Work
 pub mod inner

@@ -2,6 +2,7 @@
 -- fault; and what each line of the script asks for, or its fault.
 use Rattle.std.specs.Prelude.{◌≡◌, ℕ, ◌<◌, ◌≤◌, false, All, List, length, Option, None, Some, IfSome, Result}
 use Rattle.shx_outside.specs.declared.flags.Flags.{Flags}
+use Rattle.shx_outside.specs.Outside.{FlaggedText}
 use Rattle.shx_term.specs.declared.limits.Limits.{Limits}
 use Rattle.shx_term.specs.declared.term.Scope.{Scope}
 use Rattle.shx_term.specs.declared.term.Scope.TheVariants.{Shapes, Data}
@@ -23,7 +24,7 @@ use Rattle.script_lines.specs.declared.fault.LineFault.{LineFault}
 use Rattle.script_lines.specs.Lines.{IsLineRead}
 use Rattle.shacl_run.specs.Manner.{LineReadings}
 use Rattle.shacl_run.specs.Names.{HasNamesOf}
-use Rattle.shacl_run.specs.Verdict.{Verdict, IsVerdict, plans, refuses_pattern}
+use Rattle.shacl_run.specs.Verdict.{Verdict, IsRefusedAt, IsVerdict, plans, refuses_pattern, stops}
 
 -- a document: its graph, and the state at its end, with the base, the prefixes and the blank nodes that hold
 -- for what is read behind it; or a fault: its code, and the byte at which it stands; or a text that is longer
@@ -80,6 +81,17 @@ ComeTo limits Long verdict = refuses_pattern verdict ≡ false
 -- and so do those of a text, where it is told
 abbrev pub AreJudged : Limits → TextReading → Option (List ℕ) → Verdict → Type 0
 AreJudged limits reading text verdict = IfSome text (λ bytes. ComeTo limits reading verdict)
+
+-- they have a plan
+abbrev pub HavePlan : TextReading → Verdict → Type 0
+HavePlan (States document end) (plans plan) = Unit {0}
+HavePlan reading verdict = ⊥
+
+-- where a pattern of them was refused, it is the one that the host refused last
+abbrev pub IsRefusedIn : Limits → TextReading → Verdict → Option FlaggedText → Type 0
+IsRefusedIn limits (States document end) (stops obstacle) last =
+    IsRefusedAt limits (stated_graph document) obstacle last
+IsRefusedIn limits reading verdict last = Unit {0}
 
 -- each pattern of the shapes text may be built with the flags of its shape; where the text is not told, each
 -- text may be

@@ -10,7 +10,7 @@ use Rattle.graph_view.specs.Graph.{Graph}
 use Rattle.graph_view.specs.Key.{look}
 use Rattle.comp_core.specs.declared.row.ResultRow.{ResultRow}
 use Rattle.shape_eval.specs.Plan.{Planned}
-use Rattle.shape_eval.specs.Report.{report}
+use Rattle.shape_eval.specs.Report.{pairs, report}
 use Rattle.shx_term.specs.declared.vocabulary.TheConstants.{SH_SPARQL}
 use Rattle.shx_term.specs.declared.term.Term.{Term}
 use Rattle.text_input.specs.Lines.{script_lines, fed_lines}
@@ -28,29 +28,36 @@ use Rattle.command_words.specs.Words.{command_words}
 use Rattle.shacl_run.specs.Manner.{Manner}
 use Rattle.shacl_run.specs.Readings.{Readings, TextReading, States, Faulty, Long, stated_graph}
 use Rattle.shacl_run.specs.Verdict.{Verdict, obstacle_answer, plans, stops}
-use Rattle.shacl_run.specs.Script.{said_text, answers_text, state_after}
+use Rattle.shacl_run.specs.Script.{said_text, serve_lines}
 use Rattle.shacl_run.specs.Script.Said.{reports}
 use Rattle.shacl_run.specs.ScriptState.{ScriptState, start_state}
+use Rattle.shacl_run.specs.Work.{Work, and_then, evaluating, no_work}
 
--- what is written, and how the run ends
+-- what is written, how the run ends, and the work that it takes
 pub record Output : Type 0 where
   pub text : List ℕ
   pub status : Status
+  pub work : Work
 
 -- an output that is one answer, whose terms are these
 abbrev pub answer_output : Format → List Term → Answer → Status → Output
 answer_output format terms answer status = record {
   text = answer_text format terms answer;
   status = status;
+  work = no_work;
 }
 
 -- a text is refused, with this answer
 abbrev pub refused : Format → List Term → Answer → Output
 refused format terms answer = answer_output format terms answer Refused
 
--- a text, and then an output
-abbrev pub behind : List ℕ → Output → Output
-behind front output = record { text = front ++ output.text; status = output.status }
+-- a text and work, and then an output
+abbrev pub behind : List ℕ → Work → Output → Output
+behind front work output = record {
+  text = front ++ output.text;
+  status = output.status;
+  work = and_then work output.work;
+}
 
 abbrev pub status_of_rows : List ResultRow → Status
 status_of_rows [] = Conforms
@@ -63,13 +70,13 @@ status_of_state s = if s.refused then LinesRefused else status_of_rows (report s
 -- how a run ends after the lines of its script: where it is longer than its limit, and where it is not
 abbrev pub ending : Format → Bool → ScriptState → Output
 ending format true s = refused format s.graph.terms (TooLong Script)
-ending format false s = record { text = []; status = status_of_state s }
+ending format false s = record { text = []; status = status_of_state s; work = no_work }
 
 -- what is due from a state on, of a script of which so many bytes more are allowed, and these are left
 abbrev pub output_from : Manner → ScriptState → ℕ → List ℕ → Output
 output_from manner s budget left =
-    behind (answers_text manner s (script_lines budget left))
-    (ending manner.format (nat_lt budget (length left)) (state_after manner s (script_lines budget left)))
+    let served = serve_lines manner s (script_lines budget left) in
+    behind served.text served.work (ending manner.format (nat_lt budget (length left)) served.state)
 
 -- the notice that so many triples were passed over: nothing where there are none
 abbrev pub notice_text : Format → ℕ → List ℕ
@@ -79,21 +86,31 @@ notice_text format count = if count == 0 then [] else answer_text format [] (Not
 abbrev pub first_text : Format → ℕ → ScriptState → List ℕ
 first_text format notices s = notice_text format notices ++ said_text format s reports
 
+-- for it each pair is evaluated
+abbrev pub first_work : ScriptState → Work
+first_work s = evaluating (length (pairs s.plan s.graph))
+
 -- the same, and then the answers to a script
 abbrev pub validation_output : Manner → ℕ → ScriptState → List ℕ → Output
 validation_output manner notices s script =
-    behind (first_text manner.format notices s) (output_from manner s manner.limits.script script)
+    behind (first_text manner.format notices s) (first_work s)
+    (output_from manner s manner.limits.script script)
 
 -- what is written up to and with the answers to those lines whose line feed stands in these bytes of the
 -- script
 abbrev pub fed_text : Manner → ScriptState → List ℕ → List ℕ
-fed_text manner s taken = answers_text manner s (fed_lines taken)
+fed_text manner s taken = (serve_lines manner s (fed_lines taken)).text
 
 -- what the words and the two texts come to: an output; or a state that is reported, behind the notice that so
 -- many triples of the shapes text were passed over, and that then answers the script
 pub data Opening : Type 0 where
   ends : Output → Opening
   opens : ℕ → ScriptState → Opening
+
+-- a state is reported
+abbrev pub IsOpening : Opening → Type 0
+IsOpening (ends output) = ⊥
+IsOpening (opens notices s) = Unit {0}
 
 -- how many triples of a shapes graph are passed over: those with sh:sparql
 abbrev pub passed_over : Graph → ℕ

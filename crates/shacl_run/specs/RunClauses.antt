@@ -1,21 +1,27 @@
 -- What a run promises, in terms of the output that is due.
-use Rattle.std.specs.Prelude.{◌≡◌, ◌≢◌, ℕ, Bool, true, false, List, [], ◌++◌, Option, Some, None, length}
-use Rattle.std.specs.Prelude.{IfSome, ◌⊎◌}
+use Rattle.std.specs.Prelude.{◌≡◌, ◌≢◌, ℕ, ◌+◌, ◌<◌, ◌≤◌, Bool, true, false, List, [], ◌++◌, length}
+use Rattle.std.specs.Prelude.{Option, Some, None, IfSome, ◌⊎◌}
 use Rattle.shx_outside.specs.declared.flags.Flags.{Flags}
 use Rattle.shx_outside.specs.declared.role.Role.{Role}
 use Rattle.shx_outside.specs.declared.role.Role.TheVariants.{Shapes, Data, Script}
 use Rattle.shx_outside.specs.Counted.{Rose}
-use Rattle.shx_outside.specs.Outside.{InputState, SinkState}
+use Rattle.shx_outside.specs.Outside.{InputState, PatternState, SinkState}
 use Rattle.shx_outside.specs.Told.{Grew, Fell, IsAtEnd}
+use Rattle.shx_term.specs.declared.fault_codes.TheConstants.{PATTERN_REFUSED}
 use Rattle.shx_term.specs.declared.limits.Limits.{Limits}
+use Rattle.shx_term.specs.declared.term.Term.{Term}
 use Rattle.text_input.specs.TextRead.{TakesWithin}
+use Rattle.text_output.specs.declared.format.Format.{Format}
 use Rattle.text_output.specs.Writes.{Put}
+use Rattle.report_write.specs.declared.answer.Answer.TheVariants.{OfShape}
+use Rattle.report_write.specs.Answers.{answer_text}
 use Rattle.shacl_run.specs.declared.status.Status.{Status}
-use Rattle.shacl_run.specs.declared.status.Status.TheVariants.{InputFault, WriteFault, Refused}
+use Rattle.shacl_run.specs.declared.status.Status.TheVariants.{BadWords, InputFault, WriteFault, Refused}
 use Rattle.shacl_run.specs.Outside.{Outside}
-use Rattle.shacl_run.specs.Run.{Output, run_output, opening, opening_fed, words_manner, words_script}
-use Rattle.shacl_run.specs.Readings.{Readings, TextReading, AreJudged, DataIsRead, PatternsAreAdmitted}
-use Rattle.shacl_run.specs.Readings.{LinesAreRead, ShapesAreRead}
+use Rattle.shacl_run.specs.Run.{Output, IsOpening, run_output, opening, opening_fed, words_format}
+use Rattle.shacl_run.specs.Run.{words_manner, words_script}
+use Rattle.shacl_run.specs.Readings.{Readings, TextReading, AreJudged, DataIsRead, HavePlan, IsRefusedIn}
+use Rattle.shacl_run.specs.Readings.{LinesAreRead, PatternsAreAdmitted, ShapesAreRead}
 use Rattle.shacl_run.specs.Verdict.{Verdict, refuses_pattern}
 use Rattle.shacl_run.specs.Status.{IsAnswered, IsReported, IsCutShort}
 use Rattle.command_words.specs.Asked.{Asked, Files}
@@ -61,12 +67,39 @@ PatternsAreAdmittedBy limits None texts admits = Unit {0}
 PatternsAreAdmittedBy limits (Some words) texts admits =
     PatternsAreAdmitted limits words.base (texts words.files.shapes_file) admits
 
+-- ---- what is opened
+
+-- how often a role was opened has risen, or stands at its last value
+abbrev pub IsOpened : InputState → InputState → Role → Type 0
+IsOpened before after role = Rose (before.opens role) (after.opens role)
+
+-- a role was opened, as its count shows
+abbrev pub IsOpenedBy : InputState → InputState → Role → Type 0
+IsOpenedBy before after role = before.opens role < after.opens role
+
+-- each text is opened at most once: the data text behind the shapes text, the script behind the data text,
+-- and none where the words cannot be read
+pub record OpensInTurn (before after : InputState) (status : Status) : Type 0 where
+  pub once : (role : Role) → after.opens role ≤ before.opens role + 1
+  pub data_text : IsOpenedBy before after Data → IsOpened before after Shapes
+  pub script : IsOpenedBy before after Script → IsOpened before after Data
+  pub no_words : status ≡ BadWords → (role : Role) → after.opens role ≡ before.opens role
+
+-- and none behind a text that is refused
+pub record OpensOnly (readings : Readings) (verdict : Verdict) (words : List (List ℕ))
+    (before after : InputState) : Type 0 where
+  pub data_text : IsOpenedBy before after Data
+      → IfSome (words_shapes before.text (command_words words)) (λ text. HavePlan readings.shapes verdict)
+  pub script : IsOpenedBy before after Script → IfSome (opening readings verdict words before.text) IsOpening
+
 -- ---- what is written
 
--- the bytes written and the status are those of the output
-pub record WritesWhole (output : Output) (before after : SinkState) (status : Status) : Type 0 where
+-- the bytes written and the status are those of the output; and where reports were given to the end, as many
+-- pairs were evaluated
+pub record WritesWhole (output : Output) (before after : Outside) (status : Status) : Type 0 where
   pub status_is : status ≡ output.status
-  pub put : Put before after output.text
+  pub put : Put before.sink after.sink output.text
+  pub evaluations : IsReported status → after.steps ≡ before.steps + output.work.evaluated
 
 -- the bytes written are a front of its text: a proper one where the sink failed
 pub record WritesFront (output : Output) (before after : SinkState) (status : Status) : Type 0 where
@@ -91,18 +124,12 @@ pub record StopsFed (fed : List ℕ → List ℕ) (script left : Option (List �
 
 -- where an input failed after the script was opened, the answers to the lines that were taken whole stand
 -- written
-abbrev pub ScriptStops : Limits → Readings → Verdict → List (List ℕ) → InputState → InputState → SinkState
-    → SinkState → Type 0
-ScriptStops limits readings verdict words inputs inputs' before after =
-    IfSome (opening readings verdict words inputs.text) (λ opening.
+abbrev pub ScriptStops : Limits → Readings → Verdict → List (List ℕ) → Outside → Outside → Type 0
+ScriptStops limits readings verdict words before after =
+    IfSome (opening readings verdict words before.inputs.text) (λ opening.
     StopsFed (opening_fed (words_manner limits readings words) opening)
-    (words_script inputs.text (command_words words))
-    (inputs'.rest Script) before after)
-
--- a role that was not opened before and is opened now
-pub record IsOpenedBy (before after : InputState) (role : Role) : Type 0 where
-  pub closed_before : before.opened role ≡ false
-  pub opened_after : after.opened role ≡ true
+    (words_script before.inputs.text (command_words words))
+    (after.inputs.rest Script) before.sink after.sink)
 
 -- of one output, which is the defined one where the texts are told that it depends on: where memory and the
 -- outside serve it is written whole, and after a failure a front of it; where the script could not be read
@@ -112,43 +139,50 @@ pub record WritesDue (limits : Limits) (readings : Readings) (verdict : Verdict)
   pub output : Output
   pub due : IfSome (run_output limits readings verdict words before.inputs.text)
       (λ defined. output ≡ defined)
-  pub exact : IsAnswered status → WritesWhole output before.sink after.sink status
+  pub exact : IsAnswered status → WritesWhole output before after status
   pub prefix : IsCutShort status → WritesFront output before.sink after.sink status
   pub script_stops : status ≡ InputFault → IsOpenedBy before.inputs after.inputs Script
-      → ScriptStops limits readings verdict words before.inputs after.inputs before.sink after.sink
+      → ScriptStops limits readings verdict words before after
+  pub opened : OpensOnly readings verdict words before.inputs after.inputs
 
 -- the shapes come to one verdict, by which all is said; and the pattern host's count rose where the verdict
--- is that a pattern was refused
+-- is that a pattern was refused, which is then the last that the host refused
 pub record ByVerdict (limits : Limits) (shapes : TextReading) (text : Option (List ℕ))
-    (refusals refusals' : ℕ) (Says : Verdict → Type 0) : Type 0 where
+    (before after : PatternState) (Says : Verdict → Type 0) : Type 0 where
   pub verdict : Verdict
   pub judged : AreJudged limits shapes text verdict
-  pub patterns : RoseWhere (refuses_pattern verdict) refusals refusals'
+  pub patterns : RoseWhere (refuses_pattern verdict) before.faults after.faults
+  pub refused : IfSome text (λ bytes. IsRefusedIn limits shapes verdict after.refused)
   pub says : Says verdict
 
--- memory or the inputs failed before the shapes had a verdict: nothing was written
-pub record StopsEarly (opened opened' : Role → Bool) (before after : SinkState) (status : Status) : Type 0
-  where
-    pub cut : IsCutShort status
-    pub no_write_fault : status ≢ WriteFault
-    pub nothing_put : after ≡ before
-    pub no_script : opened' Script ≡ opened Script
+-- memory or the inputs failed before the shapes had a verdict: nothing was written, and no other text opened
+pub record StopsEarly (before after : Outside) (status : Status) : Type 0 where
+  pub cut : IsCutShort status
+  pub no_write_fault : status ≢ WriteFault
+  pub nothing_put : after.sink ≡ before.sink
+  pub no_script : after.inputs.opens Script ≡ before.inputs.opens Script
 
 -- what is written, as the shapes text is read
 abbrev pub Writes : Limits → Readings → List (List ℕ) → Outside → Outside → Status → Type 0
 Writes limits readings words before after status =
     ByVerdict limits readings.shapes (words_shapes before.inputs.text (command_words words))
-    before.patterns.faults after.patterns.faults (λ verdict.
+    before.patterns after.patterns (λ verdict.
     DataIsReadBy limits readings verdict (command_words words) before.inputs.text
     → LinesAreReadBy limits readings verdict (command_words words) before.inputs.text
     → WritesDue limits readings verdict words before after status)
-    ⊎ StopsEarly before.inputs.opened after.inputs.opened before.sink after.sink status
+    ⊎ StopsEarly before after status
 
 -- ---- what failed
 
+-- the bytes are the line that tells of a shape whose pattern was refused
+pub record TellsRefusal (format : Format) (bytes : List ℕ) : Type 0 where
+  pub terms : List Term
+  pub shape : ℕ
+  pub is : bytes ≡ answer_text format terms (OfShape PATTERN_REFUSED shape)
+
 -- whatever the texts are read as: bytes were put behind what the sink held; a failure comes only where its
 -- count rose, and otherwise no count rose; no nested evaluation is counted so far
-pub record HasCauses (before after : Outside) (status : Status) : Type 0 where
+pub record HasCauses (words : List (List ℕ)) (before after : Outside) (status : Status) : Type 0 where
   pub bytes : List ℕ
   pub grew : Grew before.sink.held after.sink.held bytes
   pub fell : Fell before.sink.room after.sink.room (length bytes)
@@ -157,30 +191,36 @@ pub record HasCauses (before after : Outside) (status : Status) : Type 0 where
   pub used_up : status ≡ WriteFault → (room : ℕ) → before.sink.room ≡ Some room → after.sink.room ≡ Some 0
   pub quiet_inputs : status ≢ InputFault → after.inputs.faults ≡ before.inputs.faults
   pub quiet_sink : status ≢ WriteFault → after.sink.faults ≡ before.sink.faults
-  pub quiet_patterns : IsAnswered status → status ≢ Refused → after.patterns.faults ≡ before.patterns.faults
+  pub quiet_patterns : IsAnswered status → after.patterns.faults ≢ before.patterns.faults
+      → (status ≡ Refused) × TellsRefusal (words_format (command_words words)) bytes
   pub nested_still : after.nested ≡ before.nested
 
 -- ---- what was read
 
--- the script was read to its end, where the words name one
-abbrev pub ScriptAtEnd : Option (List ℕ) → Option (List ℕ) → Type 0
-ScriptAtEnd None rest = Unit {0}
-ScriptAtEnd (Some name) rest = IsAtEnd rest
+-- each text that was opened was read to its end
+pub record ReadsToEnd (before after : InputState) : Type 0 where
+  pub each : (role : Role) → IsOpenedBy before after role → IsAtEnd (after.rest role)
 
--- every text that the words name was read to its end
-pub record ReadsToEnd (inputs : InputState) (files : Files) : Type 0 where
-  pub shapes_text : IsAtEnd (inputs.rest Shapes)
-  pub data_text : IsAtEnd (inputs.rest Data)
-  pub script : ScriptAtEnd files.script_file (inputs.rest Script)
+-- where the words name a script, it was opened
+abbrev pub ScriptIsOpened : Option (List ℕ) → InputState → InputState → Type 0
+ScriptIsOpened None before after = Unit {0}
+ScriptIsOpened (Some name) before after = IsOpened before after Script
+
+-- every text that the words name was opened, and read to its end
+pub record ReadsAll (files : Files) (before after : InputState) : Type 0 where
+  pub shapes_text : IsOpened before after Shapes
+  pub data_text : IsOpened before after Data
+  pub script : ScriptIsOpened files.script_file before after
+  pub to_end : ReadsToEnd before after
 
 -- no more than one byte past its limit was taken of any text that was opened
-pub record StaysWithin (limits : Limits) (before after : InputState) (files : Files) : Type 0 where
+pub record StaysWithin (limits : Limits) (before after : InputState) : Type 0 where
   pub shapes_text : IsOpenedBy before after Shapes
-      → TakesWithin (before.text files.shapes_file) (after.rest Shapes) limits.text
+      → TakesWithin (after.whole Shapes) (after.rest Shapes) limits.text
   pub data_text : IsOpenedBy before after Data
-      → TakesWithin (before.text files.data_file) (after.rest Data) limits.text
+      → TakesWithin (after.whole Data) (after.rest Data) limits.text
   pub script : IsOpenedBy before after Script
-      → IfSome files.script_file (λ name. TakesWithin (before.text name) (after.rest Script) limits.script)
+      → TakesWithin (after.whole Script) (after.rest Script) limits.script
 
 -- ---- the whole
 
@@ -194,9 +234,10 @@ pub record IsRun (limits : Limits) (words : List (List ℕ)) (before after : Out
     pub read : IsAnswered status → IsRead limits words before.inputs.text
     -- each text was read to its end, where a report was given to its end
     pub read_to_end : IsReported status
-        → IfSome (command_words words) (λ asked. ReadsToEnd after.inputs asked.files)
+        → IfSome (command_words words) (λ asked. ReadsAll asked.files before.inputs after.inputs)
     -- a failure has its cause
-    pub causes : HasCauses before after status
+    pub causes : HasCauses words before after status
+    -- each text is opened once, in turn
+    pub opened : OpensInTurn before.inputs after.inputs status
     -- no more is taken of a text than is needed to know that it is too long
-    pub within : IfSome (command_words words)
-        (λ asked. StaysWithin limits before.inputs after.inputs asked.files)
+    pub within : StaysWithin limits before.inputs after.inputs

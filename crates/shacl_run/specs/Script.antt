@@ -1,27 +1,31 @@
--- Scripts: what each line does to the graph, and what is said to it.
+-- Scripts: what each line does to the graph, what is said to it, and what work it takes.
 use Rattle.std.specs.Prelude.{ℕ, ◌+◌, true, List, [], ◌∷◌, ◌++◌, flat_map, length, Option, None, Some, Result}
 use Rattle.std.specs.Prelude.{Ok, Err}
+use Rattle.shx_term.specs.declared.edit.Edit.{Edit}
+use Rattle.shx_term.specs.declared.fault_codes.TheConstants.{GRAPH_TRIPLES, GRAPH_TERMS}
 use Rattle.shx_term.specs.declared.limits.Limits.{Limits}
 use Rattle.graph_view.specs.Graph.{Graph}
 use Rattle.shape_eval.specs.Report.{pairs, report}
+use Rattle.edit_engine.specs.Edits.{Outcome, NoEffect, PastTriples, PastTerms, Effect}
+use Rattle.edit_engine.specs.Edits.{changed_by, edited, outcome}
+use Rattle.edit_engine.specs.Touched.{touched_pairs}
 use Rattle.text_output.specs.declared.format.Format.{Format}
 use Rattle.report_write.specs.declared.answer.Answer.{Answer}
-use Rattle.report_write.specs.declared.answer.Answer.TheVariants.{Changed as ok_changed, Count as counted}
-use Rattle.report_write.specs.declared.answer.Answer.TheVariants.{Unchanged as ok_unchanged, RefusedLine}
-use Rattle.report_write.specs.declared.answer.Answer.TheVariants.{RefusedAt}
+use Rattle.report_write.specs.declared.answer.Answer.TheVariants.{Changed, Count as counted, Unchanged}
+use Rattle.report_write.specs.declared.answer.Answer.TheVariants.{RefusedLine, RefusedAt}
 use Rattle.report_write.specs.Answers.{answer_text}
 use Rattle.report_write.specs.ReportTexts.{report_text}
 use Rattle.script_lines.specs.declared.command.Command.{Command}
-use Rattle.script_lines.specs.declared.command.Command.TheVariants.{Insert, Remove, Report, Count, Nothing}
+use Rattle.script_lines.specs.declared.command.Command.TheVariants.{Edit as edits, Report, Count, Nothing}
 use Rattle.script_lines.specs.declared.fault.LineFault.{LineFault}
 use Rattle.script_lines.specs.declared.fault.LineFault.TheVariants.{Line, Memory}
-use Rattle.shacl_run.specs.declared.edit.Edited.{Edited}
-use Rattle.shacl_run.specs.declared.edit.Edited.TheVariants.{Changed, Unchanged, Refused}
-use Rattle.shacl_run.specs.Edits.{graph_with, graph_without, inserted, removed}
 use Rattle.shacl_run.specs.Manner.{Manner}
 use Rattle.shacl_run.specs.ScriptState.{ScriptState}
+use Rattle.shacl_run.specs.Work.{Work, and_then, evaluating, no_work}
 
--- what is said: an answer, or the report of the graph
+-- ---- what is said
+
+-- an answer, or the report of the graph
 pub data Said : Type 0 where
   answers : Answer → Said
   reports : Said
@@ -30,19 +34,23 @@ abbrev pub said_text : Format → ScriptState → Said → List ℕ
 said_text format s (answers answer) = answer_text format s.graph.terms answer
 said_text format s reports = report_text format s.graph.terms s.plan.shapes (report s.plan s.graph)
 
--- what is said to a line, and where the script then stands
+-- ---- steps
+
+-- what is said to a line, where the script then stands, and the work that it took
 pub record Step : Type 0 where
   pub said : List Said
   pub state : ScriptState
+  pub work : Work
 
 abbrev pub step_text : Format → Step → List ℕ
 step_text format step = flat_map (said_text format step.state) step.said
 
--- a line was answered so, and the graph is then this one
-abbrev pub answered : ScriptState → List Said → Graph → Step
-answered s said g = record {
+-- a line was answered so, and nothing else changes
+abbrev pub stays : ScriptState → List Said → Step
+stays s said = record {
   said = said;
-  state = record s { graph = g; line = s.line + 1 };
+  state = record s { line = s.line + 1 };
+  work = no_work;
 }
 
 -- how a line is refused whose fault stands at a byte, or at none
@@ -55,13 +63,30 @@ abbrev pub refusal : ScriptState → ℕ → Option ℕ → Step
 refusal s code at = record {
   said = answers (refusal_answer (s.line + 1) code at) ∷ [];
   state = record s { line = s.line + 1; refused = true };
+  work = no_work;
 }
 
--- what comes of an edit that would make this graph
-abbrev pub edit_step : ScriptState → Graph → Edited → Step
-edit_step s h Changed = answered s (answers ok_changed ∷ []) h
-edit_step s h Unchanged = answered s (answers ok_unchanged ∷ []) s.graph
-edit_step s h (Refused code) = refusal s code None
+-- the graph is another one, for which so many pairs were evaluated
+abbrev pub changed : ScriptState → Graph → ℕ → Step
+changed s g count = record {
+  said = answers (Changed count) ∷ [];
+  state = record s { graph = g; line = s.line + 1 };
+  work = evaluating count;
+}
+
+-- ---- what lines ask for
+
+-- how many pairs an edit touches
+abbrev pub touched_count : ScriptState → Edit → ℕ
+touched_count s edit =
+    length (touched_pairs s.plan s.graph (edited s.graph edit) (changed_by s.graph edit))
+
+-- by what comes of it
+abbrev pub edit_step : ScriptState → Edit → Outcome → Step
+edit_step s edit NoEffect = stays s (answers Unchanged ∷ [])
+edit_step s edit PastTriples = refusal s GRAPH_TRIPLES None
+edit_step s edit PastTerms = refusal s GRAPH_TERMS None
+edit_step s edit Effect = changed s (edited s.graph edit) (touched_count s edit)
 
 -- how many triples, pairs and results there are
 abbrev pub count_answer : ScriptState → Answer
@@ -69,29 +94,35 @@ count_answer s =
     counted (length s.graph.triples) (length (pairs s.plan s.graph)) (length (report s.plan s.graph))
 
 abbrev pub command_step : Limits → ScriptState → Command → Step
-command_step limits s (Insert t) =
-    edit_step s (graph_with s.graph t) (inserted limits.triples limits.terms s.graph t)
-command_step limits s (Remove t) = edit_step s (graph_without s.graph t) (removed s.graph t)
-command_step limits s Report = answered s (reports ∷ []) s.graph
-command_step limits s Count = answered s (answers (count_answer s) ∷ []) s.graph
-command_step limits s Nothing = answered s [] s.graph
+command_step limits s (edits edit) = edit_step s edit (outcome limits.triples limits.terms s.graph edit)
+command_step limits s Report = stays s (reports ∷ [])
+command_step limits s Count = stays s (answers (count_answer s) ∷ [])
+command_step limits s Nothing = stays s []
 
 -- a line that is no command is refused; that memory was wanted is no reading
 abbrev pub reading_step : Limits → ScriptState → Result Command LineFault → Step
 reading_step limits s (Ok command) = command_step limits s command
 reading_step limits s (Err (Line code at)) = refusal s code at
-reading_step limits s (Err Memory) = record { said = []; state = s }
+reading_step limits s (Err Memory) = record { said = []; state = s; work = no_work }
 
 abbrev pub script_step : Manner → ScriptState → List ℕ → Step
 script_step manner s line = reading_step manner.limits s (manner.lines line)
 
--- the answers to lines, one after the other, and where the script then stands
-abbrev pub answers_text : Manner → ScriptState → List (List ℕ) → List ℕ
-answers_text manner s [] = []
-answers_text manner s (line ∷ lines) =
-    let step = script_step manner s line in
-    step_text manner.format step ++ answers_text manner step.state lines
+-- ---- lines, one after the other
 
-abbrev pub state_after : Manner → ScriptState → List (List ℕ) → ScriptState
-state_after manner s [] = s
-state_after manner s (line ∷ lines) = state_after manner (script_step manner s line).state lines
+-- what was said to some lines, where the script then stands, and the work that they took
+pub record Served : Type 0 where
+  pub text : List ℕ
+  pub state : ScriptState
+  pub work : Work
+
+abbrev pub serve_lines : Manner → ScriptState → List (List ℕ) → Served
+serve_lines manner s [] = record { text = []; state = s; work = no_work }
+serve_lines manner s (line ∷ lines) =
+    let step = script_step manner s line in
+    let later = serve_lines manner step.state lines in
+    record {
+      text = step_text manner.format step ++ later.text;
+      state = later.state;
+      work = and_then step.work later.work;
+    }

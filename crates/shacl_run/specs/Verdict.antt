@@ -2,6 +2,7 @@
 use Rattle.std.specs.Prelude.{◌≡◌, ℕ, Bool, true, false, List, [], Option, Some, None, slice_index}
 use Rattle.shx_term.specs.declared.fault_codes.TheConstants.{RECURSIVE, BAD_PATTERN, PATTERN_REFUSED}
 use Rattle.shx_term.specs.declared.fault_codes.TheConstants.{REFERENCES_TOO_DEEP}
+use Rattle.shx_outside.specs.Outside.{FlaggedText}
 use Rattle.shx_term.specs.declared.limits.Limits.{Limits}
 use Rattle.graph_view.specs.Graph.{Graph}
 use Rattle.shape_decl.specs.Declarations.{declarations}
@@ -9,7 +10,7 @@ use Rattle.shape_check.specs.Faults.{first, graph_faults}
 use Rattle.shape_check.specs.declared.fault.ShapeFault.{ShapeFault}
 use Rattle.shape_eval.specs.Plan.{Planned}
 use Rattle.shape_refs.specs.Outcome.{IsLeastRecursive, IsLeastTooDeep}
-use Rattle.shape_compile.specs.Answers.{IsAtPattern, IsBadPattern, IsPlanOf}
+use Rattle.shape_compile.specs.Answers.{IsAtPattern, IsBadPattern, IsPlanOf, IsRefusedPattern}
 use Rattle.report_write.specs.declared.answer.Answer.{Answer}
 use Rattle.report_write.specs.declared.answer.Answer.TheVariants.{OfShape, Rule}
 
@@ -53,6 +54,11 @@ IsObstacle limits g (is_refused shape) =
 abbrev pub IsVerdict : Limits → Graph → Verdict → Type 0
 IsVerdict limits g (plans plan) = BreaksNone limits g × IsPlanOf limits g.terms (declarations limits g) plan
 IsVerdict limits g (stops obstacle) = IsObstacle limits g obstacle
+
+-- where the host refused a pattern, what it refused last is one of the shape that is told
+abbrev pub IsRefusedAt : Limits → Graph → Obstacle → Option FlaggedText → Type 0
+IsRefusedAt limits g (is_refused shape) last = IsRefusedPattern g.terms (declarations limits g) shape last
+IsRefusedAt limits g obstacle last = Unit {0}
 
 -- ---- what is told in place of a report
 

@@ -1,6 +1,7 @@
 //! How a run ends.
-ghost use Rattle.std.specs.Prelude.{◌≡◌, ℕ, Some};
+ghost use Rattle.std.specs.Prelude.{◌≡◌, ◌≢◌, Some};
 ghost use Rattle.shacl_run.specs.inner.Ends.{Ends};
+ghost use Rattle.shacl_run.specs.Outside.{Outside};
 ghost use Rattle.shacl_run.specs.Run.{refused, status_of_rows};
 ghost use Rattle.shacl_run.specs.Status.{IsReported};
 ghost use Rattle.shacl_run.specs.inner.Stops.{end_status};
@@ -19,10 +20,11 @@ pub fn refuse<O: Sink>(
     format: Format,
     out: &mut O,
 ) -> Result<Status, Stop>
-    ensures ends { (faults : ℕ) → Ends (Some (refused format pool.now.terms answer.now)) (end_status result)
-        faults faults (O.state out.old) (O.state out.new) }
+    ensures ends { (at : Outside) → Ends (Some (refused format pool.now.terms answer.now)) (end_status result)
+        (record at { sink = O.state out.old }) (record at { sink = O.state out.new }) }
     ensures unreported { IsReported (end_status result) → ⊥ }
-    ensures output { end_status result ≡ Status.InputFault → ⊥ }
+    ensures output { end_status result ≢ Status.InputFault }
+    ensures words { end_status result ≢ Status.BadWords }
 {
     write_answer(answer, pool, format, out)?;
     Ok(Status::Refused)

@@ -1,39 +1,43 @@
 //! All results of a graph.
-ghost use Rattle.std.specs.Prelude.{◌≡◌, ◌<◌, ◌++◌, flat_map, length, map, IfOk, OnOk};
+ghost use Rattle.std.specs.Prelude.{◌≡◌, ◌+◌, ◌<◌, ◌++◌, flat_map, length, map, IfOk, OnOk};
 ghost use Rattle.graph_view.specs.Valid.{IsValidView};
 ghost use Rattle.shx_term.specs.declared.limits.Limits.{Limits as LimitsOf};
 ghost use Rattle.text_output.specs.declared.format.Format.{Format};
 ghost use Rattle.shape_eval.specs.Plan.{IsKnownPlan};
 ghost use Rattle.shape_eval.specs.Planned.{plan_of};
-ghost use Rattle.shape_eval.specs.Report.{at_shape, report};
+ghost use Rattle.shape_eval.specs.Report.{at_shape, pairs, report};
 ghost use Rattle.shape_eval.specs.Results.{results};
 ghost use Rattle.shape_eval.specs.Targets.{target_nodes};
+ghost use Rattle.shacl_run.specs.Run.{first_work};
 ghost use Rattle.shacl_run.specs.ScriptState.{ScriptState};
 ghost use Rattle.shacl_run.specs.inner.Validation.{IsValidation, Stands};
 
 use crate::validation::Validation;
 use comp_core::{ResultRow, ShapeNo};
+use edit_engine::same_graphs_answer_alike;
 use graph_view::{GraphView, Reads};
-use shape_eval::{Plan, eval_pair, eval_target, results_depend_on_reads, targets_depend_on_reads};
+use shape_eval::{Plan, eval_pair, eval_target};
 use shx_term::{Memory, Steps};
 use std::alloc::Global;
 use std::sync::ledger::Ledger;
 
-/// The results of a validation's graph in the order of a report. Each evaluation of a shape at a target node
-/// counts a step.
+/// The results of a validation's graph in the order of a report, of which nothing else is kept. Each
+/// evaluation of a shape at a target node counts a step.
 pub fn report_of<L: Ledger>(
     alloc: Global,
     validation: &Validation,
     steps: &mut Steps<L>,
 ) -> Result<Vec<ResultRow>, Memory>
     requires { Stands validation.now }
-    ensures { (limits : LimitsOf) (format : Format) (s : ScriptState)
+    ensures rows { (limits : LimitsOf) (format : Format) (s : ScriptState)
         → IsValidation limits format s validation.now
         → IfOk result (λ rows. rows.items ≡ report s.plan s.graph) }
+    ensures work { (limits : LimitsOf) (format : Format) (s : ScriptState)
+        → IsValidation limits format s validation.now
+        → OnOk result (steps.new ≡ steps.old + (first_work s).evaluated) }
 {
     // The graph is stored in an order of its own, which makes no difference.
-    results_depend_on_reads();
-    targets_depend_on_reads();
+    same_graphs_answer_alike();
     evaluate(alloc, &validation.graph, &validation.plan, steps)
 }
 
@@ -46,7 +50,9 @@ fn evaluate<V: GraphView, L: Ledger>(
 ) -> Result<Vec<ResultRow>, Memory>
     requires valid { IsValidView (V.graph view.now) }
     requires plan { IsKnownPlan (V.graph view.now).terms (plan_of plan.now).shapes }
-    ensures { IfOk result (λ rows. rows.items ≡ report (plan_of plan.now) (V.graph view.now)) }
+    ensures rows { IfOk result (λ rows. rows.items ≡ report (plan_of plan.now) (V.graph view.now)) }
+    ensures steps { OnOk result (steps.new
+        ≡ steps.old + length (pairs (plan_of plan.now) (V.graph view.now))) }
 {
     let mut rows = Vec::new(alloc);
     for shape in plan.targeted() {
@@ -67,9 +73,11 @@ fn add_shape<V: GraphView, L: Ledger>(
     requires valid { IsValidView (V.graph view.now) }
     requires plan { IsKnownPlan (V.graph view.now).terms (plan_of plan.now).shapes }
     requires shape { shape < length (plan_of plan.now).shapes }
-    ensures { OnOk result (rows.new.items ≡ rows.old.items
+    ensures rows { OnOk result (rows.new.items ≡ rows.old.items
         ++ flat_map (results (plan_of plan.now).shapes (V.graph view.now))
         (map (at_shape shape) (target_nodes (plan_of plan.now).shapes (V.graph view.now) shape))) }
+    ensures steps { OnOk result (steps.new ≡ steps.old
+        + length (target_nodes (plan_of plan.now).shapes (V.graph view.now) shape)) }
 {
     let nodes = eval_target(alloc, view, plan, shape, &mut Reads::new(alloc))?;
     for node in &nodes {

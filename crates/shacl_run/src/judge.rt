@@ -52,10 +52,10 @@ pub fn judge<P: PatternHost>(
     requires fresh { pool.terms ≡ vocabulary }
     requires limit { pool.limit ≡ limits.now.terms }
     requires admitted { PatternsAreAdmitted limits.now base.now (Some text.now) (P.admits patterns.old) }
-    ensures accepts { IfOk result (Accepts limits.now base.now text.now
-        (P.state patterns.old).faults (P.state patterns.new).faults) }
-    ensures refused { IfErr result (RefusesShapes limits.now base.now text.now
-        (P.state patterns.old).faults (P.state patterns.new).faults) }
+    ensures accepts { IfOk result
+        (Accepts limits.now base.now text.now (P.state patterns.old) (P.state patterns.new)) }
+    ensures refused { IfErr result
+        (RefusesShapes limits.now base.now text.now (P.state patterns.old) (P.state patterns.new)) }
     ensures limit { IfOk result (λ accepted. accepted.pool.limit ≡ limits.now.terms) }
     ensures no_wide { IfOk result (λ accepted. HasNoWide accepted.pool.terms) }
     ensures cut { IfErr result IsStill }
@@ -90,9 +90,9 @@ fn plan_shapes<V: GraphView, P: PatternHost>(
     requires admitted { AreAdmitted (P.admits patterns.old) (V.graph graph.now).terms
         (declarations limits.now (V.graph graph.now)) }
     ensures plan { IfOk result (λ plan. PlansAs limits.now (V.graph graph.now)
-        (P.state patterns.old).faults (P.state patterns.new).faults (plan_of plan)) }
+        (P.state patterns.old) (P.state patterns.new) (plan_of plan)) }
     ensures refused { IfErr result (IsUnplanned limits.now (V.graph graph.now)
-        (P.state patterns.old).faults (P.state patterns.new).faults) }
+        (P.state patterns.old) (P.state patterns.new)) }
     ensures cut { IfErr result IsQuiet }
 {
     let decls = match check_shapes(alloc, graph, limits) {

@@ -8,25 +8,24 @@
 //! | `status.rt`, `stop.rt`, `ending.rt` | how a run ends, and why it is cut short |
 //! | `prepare.rt`, `unopened.rt` | from the texts to a validation, or to why there is none |
 //! | `judge.rt`, `obstacle.rt` | from the shapes text to a plan, or to what stands in its way |
-//! | `validation.rt` | `Validation`: the plan, the data graph, and how far the script has come |
+//! | `validation.rt` | `Validation`: the plan of the shapes, and the data graph |
 //! | `open_validation.rt` | from the data text to a validation |
-//! | `evaluation.rt` | all results of a graph |
-//! | `run_validation.rt`, `serve.rt` | the report of a validation, and its script |
-//! | `take_line.rt`, `reply.rt` | one line of a script: taken, done, answered |
+//! | `run_validation.rt` | the report of a validation, and its script where there is one |
+//! | `evaluation.rt` | all results of a graph, where there is none |
+//! | `script_run.rt` | `ScriptRun`: the engine that keeps the report, and how far the script has come |
+//! | `serve.rt`, `take_line.rt`, `reply.rt` | a script line by line: taken, done, answered |
 //! | `read_once.rt` | a law: a line has one reading |
-//! | `edit.rt`, `count.rt` | insertions and removals; counts |
 //! | `turtle.rt`, `refusal.rt` | what a text of Turtle states; why a text is not taken |
 //! | `stored_graph.rt` | the form in which graphs are stored |
 //!
 //! It stands on `ttl_read` and `text_input` for texts, on `shape_check` and `shape_compile` for shapes, on
-//! `triple_store` and `shape_eval` for results, and on `report_write`, `script_lines` and `command_words`.
+//! `triple_store` for graphs, on `edit_engine` for results that are kept current, and on `report_write`,
+//! `script_lines` and `command_words`.
 //! Start with `top.rt`; `specs/RunClauses.antt` says what a run promises, `specs/Run.antt` what it writes,
 //! and `specs/Verdict.antt` what shapes come to.
 #![tactic(auto)]
 
 mod complete;
-mod count;
-mod edit;
 mod ending;
 mod evaluation;
 mod judge;
@@ -37,6 +36,7 @@ mod read_once;
 mod refusal;
 mod reply;
 mod run_validation;
+mod script_run;
 mod serve;
 mod status;
 mod stop;

@@ -1,5 +1,5 @@
 //! From the data text to a validation.
-ghost use Rattle.std.specs.Prelude.{◌≡◌, ◌<◌, ◌≤◌, ◌^◌, false, length, IfOk, IfErr};
+ghost use Rattle.std.specs.Prelude.{◌≡◌, ◌≤◌, length, IfOk, IfErr};
 ghost use Rattle.iri_resolve.specs.Resolution.{IsAbsolute};
 ghost use Rattle.graph_view.specs.Graph.{graph_of};
 ghost use Rattle.graph_view.specs.SameGraph.{SameGraph};
@@ -10,7 +10,7 @@ ghost use Rattle.shape_eval.specs.Plan.{IsKnownPlan, RefersLower};
 ghost use Rattle.shape_eval.specs.Planned.{plan_of};
 ghost use Rattle.shacl_run.specs.inner.Judging.{Opens, RefusesData};
 ghost use Rattle.shacl_run.specs.inner.Unopened.{IsStill};
-ghost use Rattle.shacl_run.specs.inner.Validation.{HasNoWide, IsNew, Stands};
+ghost use Rattle.shacl_run.specs.inner.Validation.{HasNoWide, Stands, TargetsItsOwn};
 ghost use Rattle.shacl_run.specs.Names.{HasNamesOf};
 ghost use Rattle.shacl_run.specs.Readings.{IsKnownDocument};
 
@@ -19,6 +19,7 @@ use crate::stored_graph::StoredGraph;
 use crate::turtle::read_turtle;
 use crate::unopened::Unopened;
 use crate::validation::Validation;
+use edit_engine::plans_stay_known;
 use shx_term::{IriText, Limits, Memory, Scope};
 use std::alloc::Global;
 use text_output::Format;
@@ -40,16 +41,17 @@ pub fn open_validation(
     requires within { length text.now ≤ limits.now.text }
     requires known { IsKnownPlan accepted.pool.terms (plan_of accepted.plan).shapes }
     requires refers { RefersLower (plan_of accepted.plan).shapes }
-    requires few { length (plan_of accepted.plan).targeted < 2 ^ 32 }
+    requires within_plan { TargetsItsOwn (plan_of accepted.plan) }
     requires no_wide { HasNoWide accepted.pool.terms }
     ensures opened { IfOk result
         (Opens limits.now format base.now accepted.pool.terms (plan_of accepted.plan) text.now) }
     ensures refused { IfErr result (RefusesData limits.now base.now accepted.pool.terms text.now) }
     ensures passed { IfOk result (λ validation. validation.passed_over ≡ accepted.passed_over) }
     ensures stands { IfOk result Stands }
-    ensures fresh { IfOk result IsNew }
     ensures cut { IfErr result IsStill }
 {
+    // The plan stays known among the terms of the data.
+    plans_stay_known();
     let mut accepted = accepted;
     let document = match read_turtle(alloc, text, base, Scope::Data, limits, &mut accepted.pool) {
         Ok(document) => document,
@@ -71,7 +73,7 @@ fn validation_over(
     requires valid { IsValidView (record { terms = accepted.pool.terms; triples = document.triples.items }) }
     requires plan { IsKnownPlan accepted.pool.terms (plan_of accepted.plan).shapes }
     requires refers { RefersLower (plan_of accepted.plan).shapes }
-    requires few { length (plan_of accepted.plan).targeted < 2 ^ 32 }
+    requires within_plan { TargetsItsOwn (plan_of accepted.plan) }
     ensures stores { IfOk result (λ validation.
         SameGraph (graph_of accepted.pool.terms document.triples.items) (plain_graph validation.graph)) }
     ensures names { (end : State) → HasNamesOf end document
@@ -80,8 +82,6 @@ fn validation_over(
     ensures stands { IfOk result Stands }
     ensures passed { IfOk result (λ validation. validation.passed_over ≡ accepted.passed_over) }
     ensures format { IfOk result (λ validation. validation.format ≡ format) }
-    ensures line { IfOk result (λ validation. validation.line ≡ 0) }
-    ensures refused { IfOk result (λ validation. validation.refused ≡ false) }
     ensures triple_limit { IfOk result (λ validation. validation.graph.limit ≡ limit) }
     ensures term_limit { IfOk result (λ validation. validation.graph.pool.limit ≡ accepted.pool.limit) }
 {
@@ -98,7 +98,5 @@ fn validation_over(
         plan,
         format,
         passed_over,
-        line: 0,
-        refused: false,
     })
 }

@@ -1,19 +1,22 @@
 //! Before anything is written: the two texts are read, and a validation is opened.
-ghost use Rattle.std.specs.Prelude.{◌≡◌, true, false, IfOk, IfErr};
+ghost use Rattle.std.specs.Prelude.{◌≡◌, ◌+◌, ◌<◌, ◌≤◌, IfOk, IfErr, OnOk};
 ghost use Rattle.iri_resolve.specs.Resolution.{IsAbsolute};
 ghost use Rattle.report_write.specs.declared.answer.Answer.{Answer as answer_type};
 ghost use Rattle.report_write.specs.declared.answer.Answer.TheVariants.{TooLong};
-ghost use Rattle.shx_outside.specs.declared.role.Role.TheVariants.{Shapes, Data, Script};
+ghost use Rattle.shx_outside.specs.declared.role.Role.TheVariants.{Shapes, Data};
+ghost use Rattle.shx_outside.specs.Counted.{Rose};
 ghost use Rattle.shx_outside.specs.Told.{StaysAdmitted, SameTexts, OthersStay};
 ghost use Rattle.shx_term.specs.Limits.{AreUsable};
 ghost use Rattle.text_input.specs.TextRead.{ReadsWhole, IsTooLong, TakesWithin};
 ghost use Rattle.shacl_run.specs.declared.refusal.Refusal.TheVariants.{Text};
-ghost use Rattle.shacl_run.specs.inner.Prepared.{IsPrepared, IsReadToEnd, Stores};
+ghost use Rattle.shacl_run.specs.inner.Prepared.{AreReadToEnd, HostStays, IsPrepared, PreparesWithin};
+ghost use Rattle.shacl_run.specs.inner.Prepared.{Stores};
+ghost use Rattle.shacl_run.specs.RunClauses.{IsOpenedBy};
 ghost use Rattle.shx_term.specs.Vocabulary.{vocabulary};
 ghost use Rattle.shacl_run.specs.Readings.{PatternsAreAdmitted};
 ghost use Rattle.shacl_run.specs.inner.Refusal.{RefusalCause};
 ghost use Rattle.shacl_run.specs.inner.Unopened.{UnopenedCause};
-ghost use Rattle.shacl_run.specs.inner.Validation.{IsNew, Stands};
+ghost use Rattle.shacl_run.specs.inner.Validation.{Stands};
 
 use crate::judge::judge;
 use crate::open_validation::open_validation;
@@ -22,6 +25,7 @@ use crate::stop::Stop;
 use crate::unopened::Unopened;
 use crate::validation::Validation;
 use command_words::Asked;
+use edit_engine::plans_target_shapes_once;
 use report_write::Answer;
 use shx_outside::{Inputs, PatternHost, Role};
 use shx_term::{IriText, Limits, Pool};
@@ -48,24 +52,19 @@ pub fn prepare<I: Inputs, P: PatternHost>(
     requires limit { pool.limit ≡ limits.now.terms }
     ensures prepared { IsPrepared limits.now asked.now.format asked.now.base.now
         ((I.state host.old).text asked.now.shapes_file.now) ((I.state host.old).text asked.now.data_file.now)
-        (P.state patterns.old).faults (P.state patterns.new).faults result }
+        (P.state patterns.old) (P.state patterns.new) (IsOpenedBy (I.state host.old) (I.state host.new) Data)
+        result }
     ensures stored { IfOk result (Stores limits.now asked.now.format) }
-    ensures fresh { IfOk result IsNew }
     ensures stands { IfOk result Stands }
-    ensures quiet_patterns { IfOk result (λ validation.
-        (P.state patterns.new).faults ≡ (P.state patterns.old).faults) }
-    ensures ends { IfOk result (IsReadToEnd (I.state host.new)) }
-    ensures shapes_within { (I.state host.old).opened Shapes ≡ false → (I.state host.new).opened Shapes ≡ true
-        → TakesWithin ((I.state host.old).text asked.now.shapes_file.now) ((I.state host.new).rest Shapes)
-        limits.now.text }
-    ensures data_within { (I.state host.old).opened Data ≡ false → (I.state host.new).opened Data ≡ true
-        → TakesWithin ((I.state host.old).text asked.now.data_file.now) ((I.state host.new).rest Data)
-        limits.now.text }
-    ensures script { (I.state host.new).opened Script ≡ (I.state host.old).opened Script }
+    ensures patterns { HostStays (P.state patterns.old).faults (P.state patterns.new).faults result }
+    ensures ends { OnOk result (AreReadToEnd (I.state host.old) (I.state host.new)) }
+    ensures within { PreparesWithin limits.now.text (I.state host.old) (I.state host.new) }
     ensures cause { UnopenedCause (I.state host.old).faults (I.state host.new).faults result }
     ensures admitted { StaysAdmitted (I.admits host.old) (I.admits host.new) }
     ensures texts { SameTexts (I.state host.old) (I.state host.new) }
 {
+    // So the plan of the shapes may be asked of the data.
+    plans_target_shapes_once();
     let base = IriText::new(String::from_str(alloc, asked.base)?);
     let shapes_text = match read_within(alloc, host, Role::Shapes, asked.shapes_file, limits.text) {
         Ok(text) => text,
@@ -91,8 +90,10 @@ fn read_within<I: Inputs>(
         ReadsWhole ((I.state host.old).text name.now) ((I.state host.new).rest role) most bytes.items) }
     ensures too_long { IfErr result (λ refusal. (answer : answer_type) → refusal ≡ Text answer
         → (answer ≡ TooLong role) × IsTooLong ((I.state host.old).text name.now) most) }
-    ensures within { (I.state host.new).opened role ≡ true
-        → TakesWithin ((I.state host.old).text name.now) ((I.state host.new).rest role) most }
+    ensures within { (I.state host.old).opens role < (I.state host.new).opens role
+        → TakesWithin ((I.state host.new).whole role) ((I.state host.new).rest role) most }
+    ensures once { (I.state host.new).opens role ≤ (I.state host.old).opens role + 1 }
+    ensures opened { OnOk result (Rose ((I.state host.old).opens role) ((I.state host.new).opens role)) }
     ensures cause { RefusalCause (I.state host.old).faults (I.state host.new).faults result }
     ensures others { OthersStay role (I.state host.old) (I.state host.new) }
     ensures admitted { StaysAdmitted (I.admits host.old) (I.admits host.new) }

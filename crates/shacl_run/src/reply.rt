@@ -1,191 +1,201 @@
 //! Replies to the lines of a script.
-ghost use Rattle.std.specs.Prelude.{◌≡◌, ◌<◌, ◌+◌, ◌-◌, ◌^◌, IfOk};
+ghost use Rattle.std.specs.Prelude.{◌≡◌, ◌<◌, ◌≤◌, ◌+◌, ◌-◌, ◌^◌, ℕ, true, false, IfOk, OnOk};
 ghost use Rattle.shacl_run.specs.Manner.{Manner};
 ghost use Rattle.text_output.specs.Writes.{Writes};
-ghost use Rattle.shape_eval.specs.Planned.{plan_of};
 ghost use Rattle.script_lines.specs.Lines.{IsValidCommand};
+ghost use Rattle.shx_term.specs.declared.edit.Edit.{Edit as edit_type};
+ghost use Rattle.shx_term.specs.Edit.{IsValidEdit};
+ghost use Rattle.edit_engine.specs.Edits.{outcome};
 ghost use Rattle.shacl_run.specs.inner.Reply.{reply_text, Replies};
-ghost use Rattle.graph_view.specs.Graph.{Graph};
 ghost use Rattle.ttl_meaning.specs.State.{State};
-ghost use Rattle.shacl_run.specs.Edits.{graph_after};
 ghost use Rattle.shacl_run.specs.Names.{HasNamesOf};
 ghost use Rattle.shacl_run.specs.Readings.{HasReading, IsReadBehind};
 ghost use Rattle.shacl_run.specs.Script.{command_step, edit_step, refusal, script_step};
 ghost use Rattle.shacl_run.specs.ScriptState.{ScriptState};
-ghost use Rattle.shacl_run.specs.inner.Validation.{IsValidation, Stands};
+ghost use Rattle.shacl_run.specs.inner.Validation.{IsScriptRun};
 
-use crate::count::count;
-use crate::edit::{Edited, insert, remove};
-use crate::evaluation::report_of;
 use crate::read_once::lines_are_read_once;
-use crate::validation::Validation;
-use comp_core::ResultRow;
+use crate::script_run::ScriptRun;
+use edit_engine::{
+    Change, Edit, EditFault, same_graphs_answer_alike, same_graphs_are_edited_alike,
+};
 use graph_view::GraphView;
 use report_write::{Answer, write_answer, write_report};
 use script_lines::{Command, LineFault, read_line};
 use shx_outside::Sink;
+use shx_term::fault_codes::{GRAPH_TERMS, GRAPH_TRIPLES};
 use shx_term::{Limits, Memory, Steps};
 use std::alloc::{AllocError, Global};
 use std::sync::ledger::Ledger;
 use text_output::WriteFault;
 
 /// What is said to a line.
+#[derive(Clone, Copy, Debug)]
 pub enum Reply {
     Answers(Answer),
-    Report(Vec<ResultRow>),
+    /// The report of the graph as it is now.
+    Report,
     /// The line is blank.
     Nothing,
 }
 
-impl Drop for Reply {
-    fn drop(self) {
-        match self {
-            Reply::Answers(_answer) => {}
-            Reply::Report(_rows) => {}
-            Reply::Nothing => {}
-        }
-    }
-}
-
 /// Does what a line asks for, a line that is not too long. A refused line changes nothing but the count of
 /// lines.
-pub fn reply_to<L: Ledger>(
+pub fn reply_to<L: Ledger, M: Ledger>(
     alloc: Global,
-    validation: &mut Validation,
+    script: &mut ScriptRun,
     line: &[u8],
     limits: &Limits,
+    nested: &mut Steps<M>,
     steps: &mut Steps<L>,
 ) -> Result<Reply, Memory>
-    requires few { validation.old.line < 2 ^ 64 - 1 }
-    requires stands { Stands validation.old }
-    ensures stands { IfOk result (λ reply. Stands validation.new) }
+    requires few { script.old.line < 2 ^ 64 - 1 }
     ensures replies { (manner : Manner) (s : ScriptState) → manner.limits ≡ limits.now
-        → IsValidation manner.limits manner.format s validation.old
+        → IsScriptRun manner.limits manner.format s script.old
         → IsReadBehind limits.now s.data_end line.now (manner.lines line.now)
-        → IfOk result (λ reply. Replies manner (script_step manner s line.now) reply validation.new) }
-    ensures read { (end : State) → HasNamesOf end validation.old.document
+        → IfOk result (λ reply.
+        Replies manner (script_step manner s line.now) reply script.new steps.old steps.new) }
+    ensures read { (end : State) → HasNamesOf end script.old.document
         → IfOk result (λ reply. HasReading limits.now end line.now) }
-    ensures names { validation.new.document ≡ validation.old.document }
-    ensures line { IfOk result (λ _. validation.new.line ≡ validation.old.line + 1) }
+    ensures names { script.new.document ≡ script.old.document }
+    ensures line { OnOk result (script.new.line ≡ script.old.line + 1) }
+    ensures risen { OnOk result (steps.old ≤ steps.new) }
+    ensures nested { nested.new ≡ nested.old }
 {
     // So what is read here is the reading that was told.
     lines_are_read_once();
-    match read_line(alloc, line, &validation.document, limits) {
-        Ok(command) => do_command(alloc, validation, &command, steps),
-        Err(LineFault::Line { code, at }) => Ok(refuse_line(validation, code, at)),
+    match read_line(alloc, line, &script.document, limits) {
+        Ok(command) => do_command(alloc, script, &command, nested, steps),
+        Err(LineFault::Line { code, at }) => Ok(refuse_line(script, code, at)),
         Err(LineFault::Memory) => Err(AllocError),
     }
 }
 
 /// Refuses the line at hand: it is counted, and nothing else changes.
-pub fn refuse_line(validation: &mut Validation, code: u32, at: Option<u64>) -> Reply
-    requires { validation.old.line < 2 ^ 64 - 1 }
-    ensures stands { Stands validation.old → Stands validation.new }
-    ensures replies { (manner : Manner) (s : ScriptState)
-        → IsValidation manner.limits manner.format s validation.old
-        → Replies manner (refusal s code at) result validation.new }
-    ensures names { validation.new.document ≡ validation.old.document }
-    ensures line { validation.new.line ≡ validation.old.line + 1 }
+pub fn refuse_line(script: &mut ScriptRun, code: u32, at: Option<u64>) -> Reply
+    requires { script.old.line < 2 ^ 64 - 1 }
+    ensures replies { (manner : Manner) (s : ScriptState) (steps : ℕ)
+        → IsScriptRun manner.limits manner.format s script.old
+        → Replies manner (refusal s code at) result script.new steps steps }
+    ensures names { script.new.document ≡ script.old.document }
+    ensures line { script.new.line ≡ script.old.line + 1 }
 {
-    validation.line += 1;
-    validation.refused = true;
-    let line = validation.line;
+    script.line += 1;
+    script.refused = true;
+    let line = script.line;
     Reply::Answers(match at {
         Some(at) => Answer::RefusedAt { line, code, at },
         None => Answer::RefusedLine { line, code },
     })
 }
 
-fn do_command<L: Ledger>(
+fn do_command<L: Ledger, M: Ledger>(
     alloc: Global,
-    validation: &mut Validation,
+    script: &mut ScriptRun,
     command: &Command,
+    nested: &mut Steps<M>,
     steps: &mut Steps<L>,
 ) -> Result<Reply, Memory>
-    requires few { validation.old.line < 2 ^ 64 - 1 }
-    requires stands { Stands validation.old }
+    requires few { script.old.line < 2 ^ 64 - 1 }
     requires valid { IsValidCommand command.now }
-    ensures stands { IfOk result (λ reply. Stands validation.new) }
     ensures replies { (manner : Manner) (s : ScriptState)
-        → IsValidation manner.limits manner.format s validation.old
+        → IsScriptRun manner.limits manner.format s script.old
         → IfOk result (λ reply.
-        Replies manner (command_step manner.limits s command.now) reply validation.new) }
-    ensures names { validation.new.document ≡ validation.old.document }
-    ensures line { IfOk result (λ _. validation.new.line ≡ validation.old.line + 1) }
+        Replies manner (command_step manner.limits s command.now) reply script.new steps.old steps.new) }
+    ensures names { script.new.document ≡ script.old.document }
+    ensures line { OnOk result (script.new.line ≡ script.old.line + 1) }
+    ensures risen { OnOk result (steps.old ≤ steps.new) }
+    ensures nested { nested.new ≡ nested.old }
 {
+    // The graph may be stored in another order than the script's.
+    same_graphs_answer_alike();
+    let _ = script.engine.view();
     match command {
-        Command::Insert(triple) => {
-            let edited = insert(&mut validation.graph, triple)?;
-            Ok(edit_reply(validation, edited))
-        }
-        Command::Remove(triple) => {
-            let edited = remove(&mut validation.graph, triple);
-            Ok(edit_reply(validation, edited))
-        }
-        Command::Report => {
-            let rows = report_of(alloc, validation, steps)?;
-            validation.line += 1;
-            Ok(Reply::Report(rows))
-        }
+        Command::Edit(edit) => do_edit(alloc, script, edit, nested, steps),
+        Command::Report => Ok(said(script, Reply::Report)),
         Command::Count => {
-            let answer = count(alloc, validation, steps)?;
-            Ok(answered(validation, answer))
+            let answer = script.count();
+            Ok(said(script, Reply::Answers(answer)))
         }
-        Command::Nothing => {
-            validation.line += 1;
-            Ok(Reply::Nothing)
-        }
+        Command::Nothing => Ok(said(script, Reply::Nothing)),
     }
 }
 
-// Says what came of an edit, which made of the state's graph what is stored now.
-fn edit_reply(validation: &mut Validation, edited: Edited) -> Reply
-    requires { validation.old.line < 2 ^ 64 - 1 }
-    ensures stands { Stands validation.old → Stands validation.new }
-    ensures replies { (manner : Manner) (s : ScriptState) (h : Graph)
-        → IsValidation manner.limits manner.format (record s { graph = graph_after edited s.graph h })
-        validation.old → Replies manner (edit_step s h edited) result validation.new }
-    ensures names { validation.new.document ≡ validation.old.document }
-    ensures line { validation.new.line ≡ validation.old.line + 1 }
+// Makes an edit, and says what came of it.
+fn do_edit<L: Ledger, M: Ledger>(
+    alloc: Global,
+    script: &mut ScriptRun,
+    edit: &Edit,
+    nested: &mut Steps<M>,
+    steps: &mut Steps<L>,
+) -> Result<Reply, Memory>
+    requires few { script.old.line < 2 ^ 64 - 1 }
+    requires valid { IsValidEdit edit.now }
+    ensures replies { (manner : Manner) (s : ScriptState)
+        → IsScriptRun manner.limits manner.format s script.old
+        → IfOk result (λ reply. Replies manner
+        (edit_step s edit.now (outcome manner.limits.triples manner.limits.terms s.graph edit.now)) reply
+        script.new steps.old steps.new) }
+    ensures names { script.new.document ≡ script.old.document }
+    ensures line { OnOk result (script.new.line ≡ script.old.line + 1) }
+    ensures risen { OnOk result (steps.old ≤ steps.new) }
+    ensures nested { nested.new ≡ nested.old }
 {
-    match edited {
-        Edited::Changed => answered(validation, Answer::Changed),
-        Edited::Unchanged => answered(validation, Answer::Unchanged),
-        Edited::Refused { code } => refuse_line(validation, code, None),
+    // The graph may be stored in another order than the script's.
+    same_graphs_are_edited_alike();
+    let _ = script.engine.view();
+    match script.engine.apply(alloc, edit, nested, steps) {
+        Ok(change) => Ok(said(script, Reply::Answers(change_answer(change)))),
+        Err(EditFault::TooManyTriples) => Ok(refuse_line(script, GRAPH_TRIPLES, None)),
+        Err(EditFault::TooManyTerms) => Ok(refuse_line(script, GRAPH_TERMS, None)),
+        Err(EditFault::Memory) => Err(AllocError),
     }
 }
 
-// The line at hand was answered.
-fn answered(validation: &mut Validation, answer: Answer) -> Reply
-    requires { validation.old.line < 2 ^ 64 - 1 }
-    ensures reply { result ≡ Reply.Answers answer }
-    ensures validation { validation.new ≡ record validation.old { line = validation.old.line + 1 } }
+// What came of an edit, as it is told.
+fn change_answer(change: Change) -> Answer
+    ensures changed { change.changed ≡ true → result ≡ Answer.Changed change.evaluated }
+    ensures unchanged { change.changed ≡ false → result ≡ Answer.Unchanged }
 {
-    validation.line += 1;
-    Reply::Answers(answer)
+    if change.changed {
+        Answer::Changed {
+            evaluated: change.evaluated,
+        }
+    } else {
+        Answer::Unchanged
+    }
+}
+
+// The line at hand was answered so.
+fn said(script: &mut ScriptRun, reply: Reply) -> Reply
+    requires { script.old.line < 2 ^ 64 - 1 }
+    ensures reply { result ≡ reply }
+    ensures counted { script.new ≡ record script.old { line = script.old.line + 1 } }
+{
+    script.line += 1;
+    reply
 }
 
 /// Writes a reply.
 pub fn write_reply<O: Sink>(
     reply: &Reply,
-    validation: &Validation,
+    script: &ScriptRun,
     out: &mut O,
 ) -> Result<(), WriteFault>
     ensures { Writes (O.state out.old) (O.state out.new)
-        (reply_text validation.now.format validation.now.graph.pool.terms
-        (plan_of validation.now.plan).shapes reply.now) result }
+        (reply_text script.now.format script.now.engine.plan script.now.engine.graph reply.now) result }
 {
-    let pool = validation.graph.pool();
-    let format = validation.format;
+    let engine = &script.engine;
+    let pool = engine.view().pool();
     match reply {
-        Reply::Answers(answer) => write_answer(answer, pool, format, out),
-        Reply::Report(rows) => {
+        Reply::Answers(answer) => write_answer(answer, pool, script.format, out),
+        Reply::Report => {
             write_report(
-                rows.iter(),
-                rows.len() as u64,
-                &validation.plan,
+                engine.rows(),
+                engine.result_count(),
+                engine.plan(),
                 pool,
-                format,
+                script.format,
                 out,
             )
         }

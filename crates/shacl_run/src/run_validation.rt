@@ -1,21 +1,27 @@
 //! The report of a validation, and then its script.
-ghost use Rattle.std.specs.Prelude.{◌≡◌, ◌++◌, true, false, None, IfSome};
+ghost use Rattle.std.specs.Prelude.{◌≡◌, ◌≢◌, ◌+◌, ◌≤◌, ◌++◌, List, None, Some, length, map};
+ghost use Rattle.std.specs.Borrow.{Bor};
+ghost use Rattle.std.specs.Iterator.{Drains, IsFinite};
 ghost use Rattle.std.specs.Option.{option_map};
+ghost use Rattle.comp_core.specs.declared.row.ResultRow.{ResultRow as row_type};
 ghost use Rattle.shx_outside.specs.declared.role.Role.TheVariants.{Script};
-ghost use Rattle.shx_outside.specs.Told.{OthersStay};
+ghost use Rattle.shx_outside.specs.Outside.{PatternState};
+ghost use Rattle.shx_outside.specs.Told.{IsAtEnd, OthersStay};
 ghost use Rattle.shx_term.specs.declared.limits.Limits.{Limits as LimitsOf};
 ghost use Rattle.text_input.specs.TextRead.{TakesWithin};
 ghost use Rattle.shacl_run.specs.declared.status.Status.TheVariants.{InputFault};
 ghost use Rattle.shacl_run.specs.inner.Ends.{Ends};
 ghost use Rattle.report_write.specs.ReportTexts.{report_text};
 ghost use Rattle.shape_eval.specs.Planned.{plan_of};
+ghost use Rattle.text_output.specs.declared.format.Format.{Format as FormatOf};
 ghost use Rattle.text_output.specs.Writes.{Writes};
-ghost use Rattle.shacl_run.specs.Run.{notice_text, opening_fed, script_text, validation_output};
+ghost use Rattle.shacl_run.specs.Outside.{outside};
+ghost use Rattle.shacl_run.specs.Run.{first_text, notice_text, opening_fed, script_text, validation_output};
 ghost use Rattle.shacl_run.specs.Run.Opening.{opens};
-ghost use Rattle.shacl_run.specs.RunClauses.{ScriptAtEnd, StopsFed};
+ghost use Rattle.shacl_run.specs.RunClauses.{IsOpenedBy, ScriptIsOpened, StopsFed};
 ghost use Rattle.shacl_run.specs.ScriptState.{ScriptState};
 ghost use Rattle.shacl_run.specs.inner.Serving.{HaveReadings, LinesAreReadAt, PutsReport};
-ghost use Rattle.shacl_run.specs.inner.Validation.{IsNew, IsValidation, Stands};
+ghost use Rattle.shacl_run.specs.inner.Validation.{IsScriptRun, IsValidation, Stands};
 ghost use Rattle.shacl_run.specs.Status.{IsAnswered, IsReported};
 ghost use Rattle.shacl_run.specs.inner.Stops.{end_status};
 ghost use Rattle.shacl_run.specs.Admits.{AdmitsScript};
@@ -25,11 +31,13 @@ ghost use Rattle.ttl_meaning.specs.State.{State};
 
 use crate::ending::status_of_rows;
 use crate::evaluation::report_of;
+use crate::script_run::ScriptRun;
 use crate::serve::serve;
 use crate::status::Status;
 use crate::stop::Stop;
 use crate::validation::Validation;
 use comp_core::ResultRow;
+use edit_engine::same_graphs_answer_alike;
 use graph_view::GraphView;
 use report_write::{Answer, Format, add_answer, add_head, add_rows, add_tail};
 use shape_eval::Plan;
@@ -39,55 +47,107 @@ use std::alloc::Global;
 use std::sync::ledger::Ledger;
 use text_output::{WriteFault, Writer};
 
-/// Writes the report, and then answers the script where the words name one.
-pub fn run_validation<I: Inputs, O: Sink, L: Ledger>(
+/// Writes the report, and then answers the script where the words name one. Only for a script more is kept
+/// of an evaluation than its results.
+pub fn run_validation<I: Inputs, O: Sink, L: Ledger, M: Ledger>(
     alloc: Global,
-    validation: &mut Validation,
+    validation: Validation,
     script: Option<&str>,
     host: &mut I,
     out: &mut O,
     limits: &Limits,
+    nested: &mut Steps<M>,
     steps: &mut Steps<L>,
 ) -> Result<Status, Stop>
-    requires stands { Stands validation.old }
+    requires stands { Stands validation }
     requires admitted { AdmitsScript (I.admits host.old) (option_map (λ name. name.now) script) }
-    requires fresh { IsNew validation.old }
-    ensures ends { (manner : Manner) (s : ScriptState) → manner.limits ≡ limits.now
-        → IsValidation manner.limits manner.format s validation.old
+    ensures ends { (manner : Manner) (s : ScriptState) (patterns : PatternState) → manner.limits ≡ limits.now
+        → IsValidation manner.limits manner.format s validation
         → LinesAreReadAt manner s limits.now.script
         (script_text (I.state host.old).text (option_map (λ name. name.now) script.entry))
-        → Ends (option_map (validation_output manner validation.old.passed_over s)
+        → Ends (option_map (validation_output manner validation.passed_over s)
         (script_text (I.state host.old).text (option_map (λ name. name.now) script.entry)))
-        (end_status result) (I.state host.old).faults (I.state host.new).faults
-        (O.state out.old) (O.state out.new) }
-    ensures causes { (limits : LimitsOf) (s : ScriptState)
-        → IsValidation limits validation.old.format s validation.old
-        → Ends None (end_status result) (I.state host.old).faults (I.state host.new).faults
-        (O.state out.old) (O.state out.new) }
+        (end_status result)
+        (outside (I.state host.old) (O.state out.old) patterns nested.old steps.old)
+        (outside (I.state host.new) (O.state out.new) patterns nested.new steps.new) }
+    ensures causes { (limits : LimitsOf) (s : ScriptState) (patterns : PatternState)
+        → IsValidation limits validation.format s validation → Ends None (end_status result)
+        (outside (I.state host.old) (O.state out.old) patterns nested.old steps.old)
+        (outside (I.state host.new) (O.state out.new) patterns nested.new steps.new) }
     ensures fed { (manner : Manner) (s : ScriptState) → manner.limits ≡ limits.now
-        → IsValidation manner.limits manner.format s validation.old
+        → IsValidation manner.limits manner.format s validation
         → LinesAreReadAt manner s limits.now.script
         (script_text (I.state host.old).text (option_map (λ name. name.now) script.entry))
-        → end_status result ≡ InputFault → (I.state host.new).opened Script ≡ true
-        → StopsFed (opening_fed manner (opens validation.old.passed_over s))
+        → end_status result ≡ InputFault → IsOpenedBy (I.state host.old) (I.state host.new) Script
+        → StopsFed (opening_fed manner (opens validation.passed_over s))
         (script_text (I.state host.old).text (option_map (λ name. name.now) script.entry))
         ((I.state host.new).rest Script) (O.state out.old) (O.state out.new) }
-    ensures read { IsAnswered (end_status result) → (end : State) → HasNamesOf end validation.old.document
+    ensures read { IsAnswered (end_status result) → (end : State) → HasNamesOf end validation.document
         → HaveReadings limits.now end limits.now.script
         (script_text (I.state host.old).text (option_map (λ name. name.now) script.entry)) }
     ensures read_to_end { IsReported (end_status result)
-        → ScriptAtEnd (option_map (λ name. name.now) script.entry) ((I.state host.new).rest Script) }
-    ensures within { (I.state host.old).opened Script ≡ false → (I.state host.new).opened Script ≡ true
-        → IfSome (option_map (λ name. name.now) script.entry) (λ name.
-        TakesWithin ((I.state host.old).text name) ((I.state host.new).rest Script) limits.now.script) }
+        → IsOpenedBy (I.state host.old) (I.state host.new) Script → IsAtEnd ((I.state host.new).rest Script) }
+    ensures opened { IsReported (end_status result)
+        → ScriptIsOpened (option_map (λ name. name.now) script.entry) (I.state host.old) (I.state host.new) }
+    ensures within { IsOpenedBy (I.state host.old) (I.state host.new) Script
+        → TakesWithin ((I.state host.new).whole Script) ((I.state host.new).rest Script) limits.now.script }
+    ensures once { (I.state host.new).opens Script ≤ (I.state host.old).opens Script + 1 }
     ensures others { OthersStay Script (I.state host.old) (I.state host.new) }
+    ensures words { end_status result ≢ Status.BadWords }
 {
-    let status = put_report(alloc, validation, out, steps)?;
-    let Some(name) = script else {
-        return Ok(status);
-    };
+    match script {
+        Some(name) => run_script(alloc, validation, name, host, out, limits, nested, steps),
+        None => put_report(alloc, &validation, out, steps),
+    }
+}
+
+// Writes the report, and then answers the script of this name.
+fn run_script<I: Inputs, O: Sink, L: Ledger, M: Ledger>(
+    alloc: Global,
+    validation: Validation,
+    name: &str,
+    host: &mut I,
+    out: &mut O,
+    limits: &Limits,
+    nested: &mut Steps<M>,
+    steps: &mut Steps<L>,
+) -> Result<Status, Stop>
+    requires stands { Stands validation }
+    requires admitted { I.admits host.old Script name.now }
+    ensures ends { (manner : Manner) (s : ScriptState) (patterns : PatternState) → manner.limits ≡ limits.now
+        → IsValidation manner.limits manner.format s validation
+        → LinesAreReadAt manner s limits.now.script ((I.state host.old).text name.now)
+        → Ends (option_map (validation_output manner validation.passed_over s)
+        ((I.state host.old).text name.now)) (end_status result)
+        (outside (I.state host.old) (O.state out.old) patterns nested.old steps.old)
+        (outside (I.state host.new) (O.state out.new) patterns nested.new steps.new) }
+    ensures causes { (limits : LimitsOf) (s : ScriptState) (patterns : PatternState)
+        → IsValidation limits validation.format s validation → Ends None (end_status result)
+        (outside (I.state host.old) (O.state out.old) patterns nested.old steps.old)
+        (outside (I.state host.new) (O.state out.new) patterns nested.new steps.new) }
+    ensures fed { (manner : Manner) (s : ScriptState) → manner.limits ≡ limits.now
+        → IsValidation manner.limits manner.format s validation
+        → LinesAreReadAt manner s limits.now.script ((I.state host.old).text name.now)
+        → end_status result ≡ InputFault → IsOpenedBy (I.state host.old) (I.state host.new) Script
+        → StopsFed (opening_fed manner (opens validation.passed_over s)) ((I.state host.old).text name.now)
+        ((I.state host.new).rest Script) (O.state out.old) (O.state out.new) }
+    ensures read { IsAnswered (end_status result) → (end : State) → HasNamesOf end validation.document
+        → HaveReadings limits.now end limits.now.script ((I.state host.old).text name.now) }
+    ensures read_to_end { IsReported (end_status result)
+        → IsOpenedBy (I.state host.old) (I.state host.new) Script → IsAtEnd ((I.state host.new).rest Script) }
+    ensures opened { IsReported (end_status result)
+        → ScriptIsOpened (Some name.now) (I.state host.old) (I.state host.new) }
+    ensures within { IsOpenedBy (I.state host.old) (I.state host.new) Script
+        → TakesWithin ((I.state host.new).whole Script) ((I.state host.new).rest Script) limits.now.script }
+    ensures once { (I.state host.new).opens Script ≤ (I.state host.old).opens Script + 1 }
+    ensures others { OthersStay Script (I.state host.old) (I.state host.new) }
+    ensures words { end_status result ≢ Status.BadWords }
+{
+    let passed_over = validation.passed_over;
+    let mut script = ScriptRun::open(alloc, validation, nested, steps)?;
+    write_current(passed_over, &script, out)?;
     host.open(Role::Script, name)?;
-    serve(alloc, validation, host, out, limits, steps)
+    serve(alloc, &mut script, host, out, limits, nested, steps)
 }
 
 // Writes the report behind its notice, and answers how the run ends with it.
@@ -98,41 +158,76 @@ fn put_report<O: Sink, L: Ledger>(
     steps: &mut Steps<L>,
 ) -> Result<Status, Stop>
     requires { Stands validation.now }
-    ensures { (limits : LimitsOf) (s : ScriptState)
+    ensures puts { (limits : LimitsOf) (s : ScriptState)
         → IsValidation limits validation.now.format s validation.now
         → PutsReport validation.now.format validation.now.passed_over s (O.state out.old) (O.state out.new)
-        result }
+        steps.old steps.new result }
+    ensures words { end_status result ≢ Status.BadWords }
 {
     let rows = report_of(alloc, validation, steps)?;
-    write_first(&rows, validation, out)?;
+    let pool = validation.graph.pool();
+    write_first(
+        validation.passed_over,
+        rows.iter(),
+        rows.len() as u64,
+        &validation.plan,
+        pool,
+        validation.format,
+        out,
+    )?;
     Ok(status_of_rows(&rows))
 }
 
-// Puts the notice and the report.
-fn write_first<O: Sink>(
-    rows: &[ResultRow],
-    validation: &Validation,
+// The same of what is kept.
+fn write_current<O: Sink>(
+    passed_over: u64,
+    script: &ScriptRun,
     out: &mut O,
 ) -> Result<(), WriteFault>
-    ensures { Writes (O.state out.old) (O.state out.new)
-        (notice_text validation.now.format validation.now.passed_over ++ report_text validation.now.format
-        validation.now.graph.pool.terms (plan_of validation.now.plan).shapes rows.now) result }
+    ensures { (limits : LimitsOf) (format : FormatOf) (s : ScriptState)
+        → IsScriptRun limits format s script.now
+        → Writes (O.state out.old) (O.state out.new) (first_text format passed_over s) result }
 {
-    let pool = validation.graph.pool();
-    let format = validation.format;
-    let mut writer = Writer::new(out);
-    add_notice(validation.passed_over, pool, format, &mut writer);
-    add_report(rows, &validation.plan, pool, format, &mut writer);
-    writer.finish()
+    // The graph may be stored in another order than the script's.
+    same_graphs_answer_alike();
+    let engine = &script.engine;
+    let pool = engine.view().pool();
+    let count = engine.result_count();
+    write_first(
+        passed_over,
+        engine.rows(),
+        count,
+        engine.plan(),
+        pool,
+        script.format,
+        out,
+    )
 }
 
-fn add_report<W: Pieces>(rows: &[ResultRow], plan: &Plan, pool: &Pool, format: Format, out: &mut W)
-    ensures { W.added out.old out.new
-        (report_text format pool.now.terms (plan_of plan.now).shapes rows.now) }
+// Puts the notice, and the report of so many results.
+fn write_first<'a, I: Iterator<Item = &'a ResultRow>, O: Sink>(
+    passed_over: u64,
+    rows: I,
+    count: u64,
+    plan: &Plan,
+    pool: &Pool,
+    format: Format,
+    out: &mut O,
+) -> Result<(), WriteFault>
+    requires can { I.can_next rows }
+    requires ends { IsFinite (I.remaining rows) }
+    requires counted { (items : List (Bor row_type)) → Drains I.next_gives rows items
+        → length items ≡ count }
+    ensures { (items : List (Bor row_type)) × Drains I.next_gives rows items
+        × Writes (O.state out.old) (O.state out.new) (notice_text format passed_over
+        ++ report_text format pool.now.terms (plan_of plan.now).shapes (map (λ row. row.now) items)) result }
 {
-    add_head(rows.len() as u64, format, out);
-    add_rows(rows.iter(), plan, pool, format, out);
-    add_tail(format, out);
+    let mut writer = Writer::new(out);
+    add_notice(passed_over, pool, format, &mut writer);
+    add_head(count, format, &mut writer);
+    add_rows(rows, plan, pool, format, &mut writer);
+    add_tail(format, &mut writer);
+    writer.finish()
 }
 
 // Adds that so many triples were passed over, where there are any.

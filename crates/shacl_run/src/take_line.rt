@@ -1,4 +1,4 @@
-ghost use Rattle.std.specs.Prelude.{◌≡◌, ◌≢◌, ◌+◌, ◌<◌, ◌^◌, true, IfOk, IfErr};
+ghost use Rattle.std.specs.Prelude.{◌≡◌, ◌≢◌, ◌+◌, ◌<◌, ◌≤◌, ◌^◌, true, IfOk, IfErr, OnOk};
 ghost use Rattle.shx_outside.specs.declared.role.Role.TheVariants.{Script};
 ghost use Rattle.shx_outside.specs.Told.{IsAtEnd};
 ghost use Rattle.ttl_meaning.specs.State.{State};
@@ -8,12 +8,12 @@ ghost use Rattle.shacl_run.specs.ScriptState.{ScriptState};
 ghost use Rattle.shacl_run.specs.Manner.{Manner};
 ghost use Rattle.shacl_run.specs.Names.{HasNamesOf};
 ghost use Rattle.shacl_run.specs.inner.Serving.{GivesReadings, LinesAreReadAt, TakesLine, TakesBytes};
-ghost use Rattle.shacl_run.specs.inner.Validation.{IsValidation, Stands};
+ghost use Rattle.shacl_run.specs.inner.Validation.{IsScriptRun};
 
 use crate::read_once::lines_are_read_once;
 use crate::reply::{Reply, refuse_line, reply_to};
+use crate::script_run::ScriptRun;
 use crate::stop::Stop;
-use crate::validation::Validation;
 use shx_outside::Inputs;
 use shx_term::fault_codes::LINE_TOO_LONG;
 use shx_term::{Limits, Steps};
@@ -22,6 +22,7 @@ use std::sync::ledger::Ledger;
 use text_input::{Line, ReadFault, ScriptReader};
 
 /// What came of a line.
+#[derive(Clone, Copy, Debug)]
 pub enum Taken {
     Replied(Reply),
     End,
@@ -29,41 +30,30 @@ pub enum Taken {
     PastLimit,
 }
 
-impl Drop for Taken {
-    fn drop(self) {
-        match self {
-            Taken::Replied(_reply) => {}
-            Taken::End => {}
-            Taken::PastLimit => {}
-        }
-    }
-}
-
 /// Takes the next line of the script and does what it asks for.
-pub fn take_line<I: Inputs, L: Ledger>(
+pub fn take_line<I: Inputs, L: Ledger, M: Ledger>(
     alloc: Global,
     reader: &mut ScriptReader,
-    validation: &mut Validation,
+    script: &mut ScriptRun,
     host: &mut I,
     limits: &Limits,
+    nested: &mut Steps<M>,
     steps: &mut Steps<L>,
 ) -> Result<Taken, Stop>
-    requires stands { Stands validation.old }
     requires opened { (I.state host.old).opened Script ≡ true }
     requires met { MetEnd reader.old.ended ((I.state host.old).rest Script) }
-    requires few { validation.old.line + reader.old.budget < 2 ^ 64 }
-    ensures stands { IfOk result (λ taken. Stands validation.new) }
+    requires few { script.old.line + reader.old.budget < 2 ^ 64 }
     ensures taken { (manner : Manner) (s : ScriptState) → manner.limits ≡ limits.now
-        → IsValidation manner.limits manner.format s validation.old
+        → IsScriptRun manner.limits manner.format s script.old
         → LinesAreReadAt manner s reader.old.budget (left_of reader.old ((I.state host.old).rest Script))
-        → IfOk result (TakesLine manner s validation.new reader.old reader.new
-        ((I.state host.old).rest Script) ((I.state host.new).rest Script)) }
-    ensures read { (end : State) → HasNamesOf end validation.old.document
+        → IfOk result (TakesLine manner s script.new reader.old reader.new
+        ((I.state host.old).rest Script) ((I.state host.new).rest Script) steps.old steps.new) }
+    ensures read { (end : State) → HasNamesOf end script.old.document
         → IfOk result (GivesReadings limits.now end reader.old reader.new
         ((I.state host.old).rest Script) ((I.state host.new).rest Script)) }
-    ensures names { validation.new.document ≡ validation.old.document }
+    ensures names { script.new.document ≡ script.old.document }
     ensures bytes { IfOk result
-        (TakesBytes validation.old.line validation.new.line reader.old.budget reader.new.budget) }
+        (TakesBytes script.old.line script.new.line reader.old.budget reader.new.budget) }
     ensures end { IfOk result (λ taken. taken ≡ Taken.End → IsAtEnd ((I.state host.new).rest Script)) }
     ensures stopped { IfErr result (λ stop. stop ≡ Stop.Input
         → StopsInLine (left_of reader.old ((I.state host.old).rest Script)) reader.new
@@ -71,16 +61,18 @@ pub fn take_line<I: Inputs, L: Ledger>(
     ensures going { reader.old.ended ≡ true → IfErr result (λ stop. stop ≢ Stop.Input) }
     ensures goes_on { GoesOn reader.old (I.state host.old) reader.new (I.state host.new) }
     ensures cause { StopCause (I.state host.old).faults (I.state host.new).faults result }
+    ensures risen { OnOk result (steps.old ≤ steps.new) }
+    ensures nested { nested.new ≡ nested.old }
 {
     // So its reading is the one that was told.
     lines_are_read_once();
     let line = next_line(alloc, reader, host, limits)?;
     match &line {
         Line::Is(bytes) => {
-            let reply = reply_to(alloc, validation, bytes, limits, steps)?;
+            let reply = reply_to(alloc, script, bytes, limits, nested, steps)?;
             Ok(Taken::Replied(reply))
         }
-        Line::TooLong => Ok(Taken::Replied(refuse_line(validation, LINE_TOO_LONG, None))),
+        Line::TooLong => Ok(Taken::Replied(refuse_line(script, LINE_TOO_LONG, None))),
         Line::End => Ok(Taken::End),
         Line::PastLimit => Ok(Taken::PastLimit),
     }

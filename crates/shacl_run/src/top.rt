@@ -1,21 +1,20 @@
-ghost use Rattle.std.specs.Prelude.{◌≡◌, ◌≢◌, ℕ, [], None, Some, IfSome};
+ghost use Rattle.std.specs.Prelude.{◌≡◌, ◌≢◌, ◌⊎◌, [], None, Some, IfSome};
 ghost use Rattle.iri_resolve.specs.Resolution.{IsAbsolute};
-ghost use Rattle.shx_outside.specs.declared.role.Role.TheVariants.{Script};
 ghost use Rattle.shx_term.specs.Limits.{AreUsable};
 ghost use Rattle.report_write.specs.declared.answer.Answer.TheVariants.{Usage};
 ghost use Rattle.shx_term.specs.Vocabulary.{vocabulary};
-ghost use Rattle.shacl_run.specs.declared.status.Status.TheVariants.{BadWords, InputFault, Refused};
-ghost use Rattle.shacl_run.specs.Outside.{outside};
+ghost use Rattle.shacl_run.specs.declared.status.Status.TheVariants.{BadWords, InputFault};
+ghost use Rattle.shacl_run.specs.Outside.{Outside, outside};
 ghost use Rattle.shacl_run.specs.Readings.{Readings};
-ghost use Rattle.shacl_run.specs.Run.{answer_output};
-ghost use Rattle.shacl_run.specs.RunClauses.{IsRead, IsRun, PatternsAreAdmittedBy, ReadsToEnd};
+ghost use Rattle.shacl_run.specs.Run.{answer_output, words_format};
+ghost use Rattle.shacl_run.specs.RunClauses.{IsRead, IsRun, OpensInTurn, PatternsAreAdmittedBy, ReadsAll};
 ghost use Rattle.shacl_run.specs.RunClauses.{ShapesAreReadBy, StaysWithin};
-ghost use Rattle.shacl_run.specs.Status.{IsAnswered, IsReported};
+ghost use Rattle.shacl_run.specs.Status.{IsAnswered, IsCutShort, IsReported};
 ghost use Rattle.command_words.specs.Asked.{asked_of};
 ghost use Rattle.command_words.specs.Words.{command_words};
 ghost use Rattle.text_output.specs.declared.format.Format.TheVariants.{Lines};
 ghost use Rattle.shacl_run.specs.Admits.{AdmitsFiles};
-ghost use Rattle.shacl_run.specs.inner.Ends.{Ends};
+ghost use Rattle.shacl_run.specs.inner.Ends.{Ends, EndsByPattern};
 ghost use Rattle.shacl_run.specs.inner.Files.{FilesAreRead, RunsFiles, RunsWords};
 ghost use Rattle.shacl_run.specs.inner.Stops.{end_status};
 
@@ -33,8 +32,9 @@ use std::alloc::Global;
 use std::sync::ledger::Ledger;
 
 /// Runs the validator: reads the texts that the words name, writes the report of the data, or the usage, or
-/// the fault of a text, and then answers a script line by line. `steps` counts the evaluations of shapes at
-/// their target nodes; `nested` is not ticked so far.
+/// the fault of a text, and then answers a script line by line. The report is kept current: an edit evaluates
+/// the pairs that it touches and no others. `steps` counts the evaluations of shapes at their target nodes;
+/// `nested` is not ticked so far.
 ///
 /// A text is read in pieces, and past its limit one byte is taken and no more. A report is put in few large
 /// pieces. The answer to a line is put before the next line is waited for.
@@ -56,19 +56,20 @@ pub fn run<H: Inputs, O: Sink, P: PatternHost, L: Ledger, M: Ledger>(
         (outside (H.state host.old) (O.state out.old) (P.state patterns.old) nested.old steps.old)
         (outside (H.state host.new) (O.state out.new) (P.state patterns.new) nested.new steps.new) result }
 {
-    match run_words(alloc, words, host, out, patterns, limits, steps) {
+    match run_words(alloc, words, host, out, patterns, limits, nested, steps) {
         Ok(status) => status,
         Err(stop) => stop.status(),
     }
 }
 
-fn run_words<H: Inputs, O: Sink, P: PatternHost, L: Ledger>(
+fn run_words<H: Inputs, O: Sink, P: PatternHost, L: Ledger, M: Ledger>(
     alloc: Global,
     words: &[Text],
     host: &mut H,
     out: &mut O,
     patterns: &mut P,
     limits: &Limits,
+    nested: &mut Steps<M>,
     steps: &mut Steps<L>,
 ) -> Result<Status, Stop>
     requires limits { AreUsable limits.now }
@@ -77,39 +78,45 @@ fn run_words<H: Inputs, O: Sink, P: PatternHost, L: Ledger>(
         (P.admits patterns.old) }
     ensures runs { (readings : Readings)
         → ShapesAreReadBy limits.now readings (command_words words.now) (H.state host.old).text
-        → RunsWords limits.now readings words.now (P.state patterns.old).faults (P.state patterns.new).faults
-        (H.state host.old) (H.state host.new) (O.state out.old) (O.state out.new) (end_status result) }
-    ensures causes { Ends None (end_status result) (H.state host.old).faults (H.state host.new).faults
-        (O.state out.old) (O.state out.new) }
-    ensures quiet_patterns { IsAnswered (end_status result) → end_status result ≢ Refused
-        → (P.state patterns.new).faults ≡ (P.state patterns.old).faults }
+        → RunsWords limits.now readings words.now
+        (outside (H.state host.old) (O.state out.old) (P.state patterns.old) nested.old steps.old)
+        (outside (H.state host.new) (O.state out.new) (P.state patterns.new) nested.new steps.new)
+        (end_status result) }
+    ensures causes { Ends None (end_status result)
+        (outside (H.state host.old) (O.state out.old) (P.state patterns.old) nested.old steps.old)
+        (outside (H.state host.new) (O.state out.new) (P.state patterns.new) nested.new steps.new) }
+    ensures patterns { EndsByPattern (words_format (command_words words.now)) (end_status result)
+        (outside (H.state host.old) (O.state out.old) (P.state patterns.old) nested.old steps.old)
+        (outside (H.state host.new) (O.state out.new) (P.state patterns.new) nested.new steps.new)
+        ⊎ IsCutShort (end_status result) }
     ensures read { IsAnswered (end_status result) → IsRead limits.now words.now (H.state host.old).text }
-    ensures read_to_end { IsReported (end_status result)
-        → IfSome (command_words words.now) (λ asked. ReadsToEnd (H.state host.new) asked.files) }
-    ensures within { IfSome (command_words words.now)
-        (λ asked. StaysWithin limits.now (H.state host.old) (H.state host.new) asked.files) }
+    ensures read_to_end { IsReported (end_status result) → IfSome (command_words words.now)
+        (λ asked. ReadsAll asked.files (H.state host.old) (H.state host.new)) }
+    ensures opened { OpensInTurn (H.state host.old) (H.state host.new) (end_status result) }
+    ensures within { StaysWithin limits.now (H.state host.old) (H.state host.new) }
 {
     let pool = Pool::with_vocabulary(alloc, limits.terms)?;
     let texts = word_texts(alloc, words)?;
     match read_words(alloc, &texts)? {
-        Some(asked) => run_files(alloc, &asked, host, out, patterns, limits, pool, steps),
+        Some(asked) => run_files(
+            alloc, &asked, host, out, patterns, limits, pool, nested, steps,
+        ),
         None => refuse_words(&pool, out),
     }
 }
 
 // Writes the usage, with which the run ends.
 fn refuse_words<O: Sink>(pool: &Pool, out: &mut O) -> Result<Status, Stop>
-    ensures ends { (faults : ℕ) → Ends (Some (answer_output Lines [] Usage BadWords)) (end_status result)
-        faults faults (O.state out.old) (O.state out.new) }
+    ensures ends { (at : Outside) → Ends (Some (answer_output Lines [] Usage BadWords)) (end_status result)
+        (record at { sink = O.state out.old }) (record at { sink = O.state out.new }) }
     ensures unreported { IsReported (end_status result) → ⊥ }
-    ensures accepted { end_status result ≡ Refused → ⊥ }
-    ensures output { end_status result ≡ InputFault → ⊥ }
+    ensures output { end_status result ≢ InputFault }
 {
     write_answer(&Answer::Usage, pool, Format::Lines, out)?;
     Ok(Status::BadWords)
 }
 
-fn run_files<H: Inputs, O: Sink, P: PatternHost, L: Ledger>(
+fn run_files<H: Inputs, O: Sink, P: PatternHost, L: Ledger, M: Ledger>(
     alloc: Global,
     asked: &Asked<'_>,
     host: &mut H,
@@ -117,6 +124,7 @@ fn run_files<H: Inputs, O: Sink, P: PatternHost, L: Ledger>(
     patterns: &mut P,
     limits: &Limits,
     pool: Pool,
+    nested: &mut Steps<M>,
     steps: &mut Steps<L>,
 ) -> Result<Status, Stop>
     requires limits { AreUsable limits.now }
@@ -128,28 +136,34 @@ fn run_files<H: Inputs, O: Sink, P: PatternHost, L: Ledger>(
     requires limit { pool.limit ≡ limits.now.terms }
     ensures runs { (readings : Readings)
         → ShapesAreReadBy limits.now readings (Some (asked_of asked.now)) (H.state host.old).text
-        → RunsFiles limits.now readings (asked_of asked.now) (P.state patterns.old).faults
-        (P.state patterns.new).faults (H.state host.old) (H.state host.new) (O.state out.old)
-        (O.state out.new) (end_status result) }
-    ensures causes { Ends None (end_status result) (H.state host.old).faults (H.state host.new).faults
-        (O.state out.old) (O.state out.new) }
-    ensures quiet_patterns { IsAnswered (end_status result) → end_status result ≢ Refused
-        → (P.state patterns.new).faults ≡ (P.state patterns.old).faults }
+        → RunsFiles limits.now readings (asked_of asked.now)
+        (outside (H.state host.old) (O.state out.old) (P.state patterns.old) nested.old steps.old)
+        (outside (H.state host.new) (O.state out.new) (P.state patterns.new) nested.new steps.new)
+        (end_status result) }
+    ensures causes { Ends None (end_status result)
+        (outside (H.state host.old) (O.state out.old) (P.state patterns.old) nested.old steps.old)
+        (outside (H.state host.new) (O.state out.new) (P.state patterns.new) nested.new steps.new) }
+    ensures patterns { EndsByPattern asked.now.format (end_status result)
+        (outside (H.state host.old) (O.state out.old) (P.state patterns.old) nested.old steps.old)
+        (outside (H.state host.new) (O.state out.new) (P.state patterns.new) nested.new steps.new)
+        ⊎ IsCutShort (end_status result) }
     ensures read { IsAnswered (end_status result)
         → FilesAreRead limits.now (asked_of asked.now) (H.state host.old).text }
     ensures read_to_end { IsReported (end_status result)
-        → ReadsToEnd (H.state host.new) (asked_of asked.now).files }
-    ensures within { StaysWithin limits.now (H.state host.old) (H.state host.new) (asked_of asked.now).files }
+        → ReadsAll (asked_of asked.now).files (H.state host.old) (H.state host.new) }
+    ensures opened { OpensInTurn (H.state host.old) (H.state host.new) (end_status result) }
+    ensures within { StaysWithin limits.now (H.state host.old) (H.state host.new) }
 {
     match prepare(alloc, asked, host, patterns, limits, pool) {
-        Ok(mut validation) => {
+        Ok(validation) => {
             run_validation(
                 alloc,
-                &mut validation,
+                validation,
                 asked.script_file,
                 host,
                 out,
                 limits,
+                nested,
                 steps,
             )
         }

@@ -3,7 +3,7 @@ use shape_eval::Plan;
 use text_output::Format;
 use ttl_read::Document;
 
-/// The plan of the shapes, the data graph that it is asked of, and how far the script has come.
+/// The plan of the shapes, and the data graph that it is asked of.
 #[derive(Drop)]
 pub struct Validation {
     pub graph: StoredGraph,
@@ -14,8 +14,4 @@ pub struct Validation {
     pub format: Format,
     /// How many triples of the shapes text were passed over.
     pub passed_over: u64,
-    /// How many lines of the script were answered.
-    pub line: u64,
-    /// Whether one of them was refused.
-    pub refused: bool,
 }

@@ -4,7 +4,7 @@ use iri_resolve::is_absolute;
 use row_tools::{RowFault, cut};
 use script_lines::{Command, LineFault, read_line};
 use shx_term::vocabulary::VOCABULARY_LEN;
-use shx_term::{IriText, Limits, Memory, Pool, Scope, TermTriple, spell};
+use shx_term::{Edit, IriText, Limits, Memory, Pool, Scope, TermTriple, spell};
 use std::alloc::{AllocError, Global};
 use ttl_read::{Document, TtlFault, read_document};
 
@@ -49,8 +49,8 @@ fn shown(
     limits: &Limits,
 ) -> Result<String, Memory> {
     match &read_line(alloc, line, document, limits) {
-        Ok(Command::Insert(triple)) => shown_triple(alloc, "insert", triple),
-        Ok(Command::Remove(triple)) => shown_triple(alloc, "remove", triple),
+        Ok(Command::Edit(Edit::Insert(triple))) => shown_triple(alloc, "insert", triple),
+        Ok(Command::Edit(Edit::Remove(triple))) => shown_triple(alloc, "remove", triple),
         Ok(Command::Report) => String::from_str(alloc, "report"),
         Ok(Command::Count) => String::from_str(alloc, "count"),
         Ok(Command::Nothing) => String::from_str(alloc, "nothing"),

@@ -14,8 +14,8 @@ const LAST_LINE: u64 = 18446744073709551615;
 
 // A word for an answer, and its line between two marks, as in all tables of answers by words.
 const ANSWERS: &str = "\
-changed=ok changed=
-unchanged=ok unchanged=
+changed=ok changed evaluated 18446744073709551615=
+unchanged=ok unchanged evaluated 0=
 refused=refused line 18446744073709551615: 58 ScriptTooLong=
 unknown=refused line 18446744073709551615: 11 =
 fault=fault data: 10 TextTooLong at 0=
@@ -29,7 +29,9 @@ refused at=refused line 3: 52 LineSyntax at 17=
 
 fn answer_of(word: &str) -> Result<Answer, RowFault> {
     match word {
-        "changed" => Ok(Answer::Changed),
+        "changed" => Ok(Answer::Changed {
+            evaluated: u64::MAX,
+        }),
         "unchanged" => Ok(Answer::Unchanged),
         "refused" => Ok(refusal(SCRIPT_TOO_LONG)),
         "unknown" => Ok(refusal(11)),

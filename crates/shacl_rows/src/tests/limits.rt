@@ -11,12 +11,12 @@ report conforms=true results=0
 // A line of these texts has 20 bytes, and a line more of them one term more. A statement counts whole: a
 // fault stands at its start, whichever of its triples is one too many.
 const DATA: &str = "\
-== run a text of four spaces
+== run text_limit, four spaces
 == limits
 text 4
 == data
 \x20\x20\x20\x20$
-== run a text of five spaces
+== run text_limit, five spaces
 == limits
 text 4
 == data

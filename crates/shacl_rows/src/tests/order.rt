@@ -15,7 +15,7 @@ report
 == output
 report conforms=false results=1
 result HasValue Violation <e:S> <e:a> <e:p> -
-ok changed
+ok changed evaluated 1
 report conforms=true results=0
 == status 0
 ";
@@ -114,7 +114,7 @@ failing put 3
 == output
 report conforms=false results=1
 result HasValue Violation <e:S> <e:a> <e:p> -
-ok changed
+ok changed evaluated 1
 == status 5
 == run sink_fails_at_second_put
 == words
@@ -123,11 +123,17 @@ data
 == outside
 put bytes 64
 failing put 2
+== prefixes
+@prefix sh: <http://www.w3.org/ns/shacl#> .
+@prefix rdf: <http://www.w3.org/1999/02/22-rdf-syntax-ns#> .
+@prefix rdfs: <http://www.w3.org/2000/01/rdf-schema#> .
+@prefix xsd: <http://www.w3.org/2001/XMLSchema#> .
+@prefix e: <http://e/> .
 == shapes
 e:S sh:targetNode e:a ; sh:path e:p ; sh:minCount 1 .
 == front
 report conforms=false results=1
-result MinCount Violation <e:S> <e:a> <e:p> -
+result MinCount Violation <http://e/S> <http://e/a> <http://e/p> -
 == status 5
 == run the sink fails at the usage
 == words
@@ -211,18 +217,30 @@ fault shapes: 31 BadPattern shape <e:A>
 e:A sh:pattern "a" . e:S sh:pattern "(" .
 == output
 fault shapes: 32 PatternRefused shape <e:A>
-== run refused_pattern
+== run bad_and_refused_patterns, a refused one
+== prefixes
+@prefix sh: <http://www.w3.org/ns/shacl#> .
+@prefix rdf: <http://www.w3.org/1999/02/22-rdf-syntax-ns#> .
+@prefix rdfs: <http://www.w3.org/2000/01/rdf-schema#> .
+@prefix xsd: <http://www.w3.org/2001/XMLSchema#> .
+@prefix e: <http://e/> .
 == shapes
 e:S sh:targetNode e:a ; sh:pattern "a" .
 == output
-fault shapes: 32 PatternRefused shape <e:S>
-== run refused_pattern, where the host fails at the second
+fault shapes: 32 PatternRefused shape <http://e/S>
+== run bad_and_refused_patterns, the second is refused
 == outside
 failing pattern 2
+== prefixes
+@prefix sh: <http://www.w3.org/ns/shacl#> .
+@prefix rdf: <http://www.w3.org/1999/02/22-rdf-syntax-ns#> .
+@prefix rdfs: <http://www.w3.org/2000/01/rdf-schema#> .
+@prefix xsd: <http://www.w3.org/2001/XMLSchema#> .
+@prefix e: <http://e/> .
 == shapes
 e:S sh:targetNode e:a ; sh:pattern "a" . e:T sh:targetNode e:a ; sh:pattern "b" .
 == output
-fault shapes: 32 PatternRefused shape <e:T>
+fault shapes: 32 PatternRefused shape <http://e/T>
 "#;
 
 const PATTERNS: &str = r#"== prefixes

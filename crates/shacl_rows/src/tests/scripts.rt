@@ -61,7 +61,7 @@ remove <e:a> <e:p> <e:b> .\r
 count
 == output
 report conforms=true results=0
-ok changed
+ok changed evaluated 0
 refused line 2: 50 LineTooLong
 refused line 3: 50 LineTooLong
 count triples=1 pairs=0 results=0
@@ -73,7 +73,7 @@ line 26
 insert <e:a> <e:p> <e:b> .$
 == output
 report conforms=true results=0
-ok changed
+ok changed evaluated 0
 == status 0
 == run lines at their limit, in pieces of a byte
 == limits
@@ -180,7 +180,7 @@ insert <e:a> <e:p> <e:b> .
 count
 == output
 report conforms=true results=0
-ok changed
+ok changed evaluated 0
 fault script: 58 ScriptTooLong
 == status 3
 == run blank lines past the limit
@@ -238,8 +238,8 @@ insert <a:s> <a:p> <a:t> .
 == output
 report conforms=true results=0
 refused line 1: 40 TooManyTriples
-ok changed
-ok changed
+ok changed evaluated 0
+ok changed evaluated 0
 == status 7
 == run full_pool
 == limits
@@ -249,7 +249,7 @@ insert <a:s> <a:p> <a:o> .
 insert <a:s> <a:p> <a:q> .
 == output
 report conforms=true results=0
-ok changed
+ok changed evaluated 0
 refused line 2: 41 TooManyTerms
 == status 7
 == run triples before terms
@@ -266,13 +266,13 @@ insert <a:s> <a:p> <a:q> .
 insert <a:o> <a:p> <a:s> .
 == output
 report conforms=true results=0
-ok changed
+ok changed evaluated 0
 refused line 2: 40 TooManyTriples
-ok unchanged
-ok unchanged
-ok changed
+ok unchanged evaluated 0
+ok unchanged evaluated 0
+ok changed evaluated 0
 refused line 6: 41 TooManyTerms
-ok changed
+ok changed evaluated 0
 == status 7
 == run triples of the data and of lines, each once
 == limits
@@ -289,10 +289,10 @@ insert <e:a> <e:p> <e:d> .
 count
 == output
 report conforms=true results=0
-ok changed
-ok changed
+ok changed evaluated 0
+ok changed evaluated 0
 refused line 3: 40 TooManyTriples
-ok unchanged
+ok unchanged evaluated 0
 count triples=3 pairs=0 results=0
 == status 7
 == run terms stay where their triples are removed
@@ -305,10 +305,10 @@ insert <e:a> <e:p> <e:c> .
 insert <e:b> <e:p> <e:a> .
 == output
 report conforms=true results=0
-ok changed
-ok changed
+ok changed evaluated 0
+ok changed evaluated 0
 refused line 3: 41 TooManyTerms
-ok changed
+ok changed evaluated 0
 == status 7
 == run terms of a refused line are not held
 == limits
@@ -322,11 +322,11 @@ insert <e:b> <e:c> <e:a> .
 insert <e:c> <e:d> <e:a> .
 == output
 report conforms=true results=0
-ok changed
+ok changed evaluated 0
 refused line 2: 41 TooManyTerms
 refused line 3: 53 UnknownPrefix at 7
-ok unchanged
-ok changed
+ok unchanged evaluated 0
+ok changed evaluated 0
 refused line 6: 41 TooManyTerms
 == status 7
 == run three new terms of which two are equal
@@ -337,8 +337,8 @@ insert <e:a> <e:a> <e:b> .
 insert <e:a> <e:b> <e:b> .
 == output
 report conforms=true results=0
-ok changed
-ok changed
+ok changed evaluated 0
+ok changed evaluated 0
 == status 0
 == run three new terms of which all are equal
 == limits
@@ -349,7 +349,7 @@ insert <e:a> <e:a> <e:a> .
 == output
 report conforms=true results=0
 refused line 1: 41 TooManyTerms
-ok changed
+ok changed evaluated 0
 == status 7
 == run a refused insertion changes no report
 == limits

@@ -1,16 +1,17 @@
 -- A run over the files that the words name.
 use Rattle.std.specs.Prelude.{◌≡◌, ℕ, List, Option, IfSome, Some, ◌⊎◌}
 use Rattle.std.specs.Option.{option_and_then}
-use Rattle.shx_outside.specs.declared.role.Role.TheVariants.{Script}
-use Rattle.shx_outside.specs.Outside.{InputState, SinkState}
+use Rattle.shx_outside.specs.declared.role.Role.TheVariants.{Data, Script}
+use Rattle.shx_outside.specs.Outside.{InputState}
 use Rattle.shx_term.specs.declared.limits.Limits.{Limits}
 use Rattle.shacl_run.specs.declared.status.Status.{Status}
 use Rattle.shacl_run.specs.declared.status.Status.TheVariants.{InputFault}
-use Rattle.shacl_run.specs.Run.{Output, manner_of, opening_fed, opening_output, run_output, script_text}
-use Rattle.shacl_run.specs.Run.{texts_opening}
-use Rattle.shacl_run.specs.Readings.{Readings, AreJudged, DataIsRead, ShapesAreRead}
-use Rattle.shacl_run.specs.RunClauses.{ByVerdict, DataIsReadBy, IsOpenedBy, ScriptStops, StopsEarly, StopsFed}
-use Rattle.shacl_run.specs.RunClauses.{LinesAreReadBy, words_shapes}
+use Rattle.shacl_run.specs.Outside.{Outside}
+use Rattle.shacl_run.specs.Run.{Output, IsOpening, manner_of, opening_fed, opening_output, run_output}
+use Rattle.shacl_run.specs.Run.{script_text, texts_opening}
+use Rattle.shacl_run.specs.Readings.{Readings, AreJudged, DataIsRead, HavePlan, ShapesAreRead}
+use Rattle.shacl_run.specs.RunClauses.{ByVerdict, DataIsReadBy, IsOpenedBy, LinesAreReadBy, OpensOnly}
+use Rattle.shacl_run.specs.RunClauses.{ScriptStops, StopsEarly, StopsFed, words_shapes}
 use Rattle.shacl_run.specs.Verdict.{Verdict}
 use Rattle.command_words.specs.Asked.{Asked}
 use Rattle.command_words.specs.Words.{command_words}
@@ -23,31 +24,41 @@ files_output limits readings verdict asked texts =
     (texts_opening asked.format readings verdict (texts asked.files.shapes_file)
     (texts asked.files.data_file))
 
-abbrev pub FilesStop : Limits → Readings → Verdict → Asked → InputState → InputState → SinkState → SinkState
-    → Type 0
-FilesStop limits readings verdict asked inputs inputs' before after =
-    IfSome (texts_opening asked.format readings verdict (inputs.text asked.files.shapes_file)
-    (inputs.text asked.files.data_file))
+abbrev pub FilesStop : Limits → Readings → Verdict → Asked → Outside → Outside → Type 0
+FilesStop limits readings verdict asked before after =
+    IfSome (texts_opening asked.format readings verdict (before.inputs.text asked.files.shapes_file)
+    (before.inputs.text asked.files.data_file))
     (λ opening. StopsFed (opening_fed (manner_of limits readings asked.format) opening)
-    (script_text inputs.text asked.files.script_file) (inputs'.rest Script) before after)
+    (script_text before.inputs.text asked.files.script_file) (after.inputs.rest Script) before.sink
+    after.sink)
 
--- how the run ends, and where it stops if the script cannot be read on
-pub record Serves (due : Option Output) (Stops : Type 0) (status : Status) (inputs inputs' : InputState)
-    (before after : SinkState) : Type 0 where
-  pub run_ends : Ends due status inputs.faults inputs'.faults before after
-  pub script_stops : status ≡ InputFault → IsOpenedBy inputs inputs' Script → Stops
+-- nothing is opened behind a text that is refused
+pub record FilesOpenOnly (readings : Readings) (verdict : Verdict) (asked : Asked)
+    (before after : InputState) : Type 0 where
+  pub data_text : IsOpenedBy before after Data
+      → IfSome (before.text asked.files.shapes_file) (λ text. HavePlan readings.shapes verdict)
+  pub script : IsOpenedBy before after Script
+      → IfSome (texts_opening asked.format readings verdict (before.text asked.files.shapes_file)
+      (before.text asked.files.data_file)) IsOpening
+
+-- how the run ends, where it stops if the script cannot be read on, and what it opens
+pub record Serves (due : Option Output) (Stops Opens : Type 0) (status : Status) (before after : Outside)
+    : Type 0 where
+  pub run_ends : Ends due status before after
+  pub script_stops : status ≡ InputFault → IsOpenedBy before.inputs after.inputs Script → Stops
+  pub opened : Opens
 
 -- the same by the verdict that the shapes come to, where the data text is read as it is
-abbrev pub RunsFiles : Limits → Readings → Asked → ℕ → ℕ → InputState → InputState → SinkState → SinkState
-    → Status → Type 0
-RunsFiles limits readings asked refusals refusals' inputs inputs' before after status =
-    ByVerdict limits readings.shapes (inputs.text asked.files.shapes_file) refusals refusals' (λ verdict.
-    DataIsRead limits asked.base readings verdict (inputs.text asked.files.data_file)
-    → LinesAreReadBy limits readings verdict (Some asked) inputs.text
-    → Serves (files_output limits readings verdict asked inputs.text)
-    (FilesStop limits readings verdict asked inputs inputs' before after) status inputs inputs'
-    before after)
-    ⊎ StopsEarly inputs.opened inputs'.opened before after status
+abbrev pub RunsFiles : Limits → Readings → Asked → Outside → Outside → Status → Type 0
+RunsFiles limits readings asked before after status =
+    ByVerdict limits readings.shapes (before.inputs.text asked.files.shapes_file) before.patterns
+    after.patterns (λ verdict.
+    DataIsRead limits asked.base readings verdict (before.inputs.text asked.files.data_file)
+    → LinesAreReadBy limits readings verdict (Some asked) before.inputs.text
+    → Serves (files_output limits readings verdict asked before.inputs.text)
+    (FilesStop limits readings verdict asked before after)
+    (FilesOpenOnly readings verdict asked before.inputs after.inputs) status before after)
+    ⊎ StopsEarly before after status
 
 -- the texts of the files have a reading, and the shapes a verdict
 pub record FilesAreRead (limits : Limits) (asked : Asked) (texts : List ℕ → Option (List ℕ)) : Type 0 where
@@ -61,13 +72,13 @@ pub record FilesAreRead (limits : Limits) (asked : Asked) (texts : List ℕ → 
 -- ---- words
 
 -- the same of words, which name files or not
-abbrev pub RunsWords : Limits → Readings → List (List ℕ) → ℕ → ℕ → InputState → InputState → SinkState
-    → SinkState → Status → Type 0
-RunsWords limits readings words refusals refusals' inputs inputs' before after status =
-    ByVerdict limits readings.shapes (words_shapes inputs.text (command_words words)) refusals refusals'
-    (λ verdict. DataIsReadBy limits readings verdict (command_words words) inputs.text
-    → LinesAreReadBy limits readings verdict (command_words words) inputs.text
-    → Serves (run_output limits readings verdict words inputs.text)
-    (ScriptStops limits readings verdict words inputs inputs' before after) status inputs inputs' before
-    after)
-    ⊎ StopsEarly inputs.opened inputs'.opened before after status
+abbrev pub RunsWords : Limits → Readings → List (List ℕ) → Outside → Outside → Status → Type 0
+RunsWords limits readings words before after status =
+    ByVerdict limits readings.shapes (words_shapes before.inputs.text (command_words words)) before.patterns
+    after.patterns
+    (λ verdict. DataIsReadBy limits readings verdict (command_words words) before.inputs.text
+    → LinesAreReadBy limits readings verdict (command_words words) before.inputs.text
+    → Serves (run_output limits readings verdict words before.inputs.text)
+    (ScriptStops limits readings verdict words before after)
+    (OpensOnly readings verdict words before.inputs after.inputs) status before after)
+    ⊎ StopsEarly before after status

@@ -1,6 +1,7 @@
 -- What the shapes text and the data text are made into, in terms of what they are read as.
 use Rattle.std.specs.Prelude.{◌≡◌, ℕ, List}
 use Rattle.shx_outside.specs.declared.role.Role.TheVariants.{Shapes as of_shapes, Data as of_data}
+use Rattle.shx_outside.specs.Outside.{PatternState}
 use Rattle.shx_term.specs.declared.limits.Limits.{Limits}
 use Rattle.text_output.specs.declared.format.Format.{Format}
 use Rattle.shx_term.specs.declared.term.Scope.TheVariants.{Shapes, Data}
@@ -20,54 +21,57 @@ use Rattle.shacl_run.specs.declared.validation.Validation.{Validation}
 use Rattle.shacl_run.specs.Readings.{TextReading, States, Faulty, Long, IsReadAs, stated_graph}
 use Rattle.shacl_run.specs.Run.{passed_over}
 use Rattle.shacl_run.specs.RunClauses.{RoseWhere}
-use Rattle.shacl_run.specs.Verdict.{IsVerdict, Obstacle, obstacle_answer, plans, refuses_pattern, stops}
+use Rattle.shacl_run.specs.Verdict.{IsRefusedAt, IsVerdict, Obstacle, obstacle_answer, plans, refuses_pattern}
+use Rattle.shacl_run.specs.Verdict.{stops}
 use Rattle.shacl_run.specs.inner.Refusal.{IsRefusalOf, RefusesAs}
 use Rattle.shacl_run.specs.inner.Validation.{OpensFor}
 
 -- ---- the shapes of a graph
 
 -- the graph's shapes come to this plan, or to what is answered in its place; want of memory says nothing
-pub record PlansAs (limits : Limits) (g : Graph) (refusals refusals' : ℕ) (plan : Planned) : Type 0 where
+pub record PlansAs (limits : Limits) (g : Graph) (before after : PatternState) (plan : Planned) : Type 0 where
   pub judged : IsVerdict limits g (plans plan)
   pub fits : IsPlan g.terms plan.shapes
-  pub patterns : refusals' ≡ refusals
+  pub patterns : after.faults ≡ before.faults
 
-pub record StopsAs (limits : Limits) (g : Graph) (refusals refusals' : ℕ) (answer : Answer) : Type 0 where
-  pub obstacle : Obstacle
-  pub judged : IsVerdict limits g (stops obstacle)
-  pub told : answer ≡ obstacle_answer obstacle
-  pub patterns : RoseWhere (refuses_pattern (stops obstacle)) refusals refusals'
+pub record StopsAs (limits : Limits) (g : Graph) (before after : PatternState) (answer : Answer) : Type 0
+  where
+    pub obstacle : Obstacle
+    pub judged : IsVerdict limits g (stops obstacle)
+    pub told : answer ≡ obstacle_answer obstacle
+    pub patterns : RoseWhere (refuses_pattern (stops obstacle)) before.faults after.faults
+    pub refused : IsRefusedAt limits g obstacle after.refused
 
-abbrev pub IsUnplanned : Limits → Graph → ℕ → ℕ → Refusal → Type 0
-IsUnplanned limits g refusals refusals' (Text answer) = StopsAs limits g refusals refusals' answer
-IsUnplanned limits g refusals refusals' (Cut stop) = Unit {0}
+abbrev pub IsUnplanned : Limits → Graph → PatternState → PatternState → Refusal → Type 0
+IsUnplanned limits g before after (Text answer) = StopsAs limits g before after answer
+IsUnplanned limits g before after (Cut stop) = Unit {0}
 
 -- ---- the shapes text
 
 -- the text states a document whose shapes come to this plan
-pub record Accepts (limits : Limits) (base text : List ℕ) (refusals refusals' : ℕ) (accepted : Accepted)
+pub record Accepts (limits : Limits) (base text : List ℕ) (before after : PatternState) (accepted : Accepted)
     : Type 0 where
   pub document : Graph
   pub end : State
   pub read : IsReadAs limits base Shapes vocabulary text (States document end)
-  pub plan : PlansAs limits (stated_graph document) refusals refusals' (plan_of accepted.plan)
+  pub plan : PlansAs limits (stated_graph document) before after (plan_of accepted.plan)
   pub terms : document.terms ≡ accepted.pool.terms
   pub passed : accepted.passed_over ≡ passed_over (stated_graph document)
 
 -- the text has a fault of Turtle or is too long, or its shapes come to no plan
-abbrev pub IsShapesRefusal : Limits → TextReading → ℕ → ℕ → List Term → Answer → Type 0
-IsShapesRefusal limits (States document end) refusals refusals' terms answer =
-    (terms ≡ document.terms) × StopsAs limits (stated_graph document) refusals refusals' answer
-IsShapesRefusal limits (Faulty code at) refusals refusals' terms answer =
-    IsRefusalOf of_shapes (Faulty code at) answer × (refusals' ≡ refusals)
-IsShapesRefusal limits Long refusals refusals' terms answer =
-    IsRefusalOf of_shapes Long answer × (refusals' ≡ refusals)
+abbrev pub IsShapesRefusal : Limits → TextReading → PatternState → PatternState → List Term → Answer → Type 0
+IsShapesRefusal limits (States document end) before after terms answer =
+    (terms ≡ document.terms) × StopsAs limits (stated_graph document) before after answer
+IsShapesRefusal limits (Faulty code at) before after terms answer =
+    IsRefusalOf of_shapes (Faulty code at) answer × (after.faults ≡ before.faults)
+IsShapesRefusal limits Long before after terms answer =
+    IsRefusalOf of_shapes Long answer × (after.faults ≡ before.faults)
 
-abbrev pub RefusesShapes : Limits → List ℕ → List ℕ → ℕ → ℕ → Unopened → Type 0
-RefusesShapes limits base text refusals refusals' (unopened.Told answer pool) =
+abbrev pub RefusesShapes : Limits → List ℕ → List ℕ → PatternState → PatternState → Unopened → Type 0
+RefusesShapes limits base text before after (unopened.Told answer pool) =
     (reading : TextReading) × IsReadAs limits base Shapes vocabulary text reading
-    × IsShapesRefusal limits reading refusals refusals' pool.terms answer
-RefusesShapes limits base text refusals refusals' (unopened.Cut stop) = Unit {0}
+    × IsShapesRefusal limits reading before after pool.terms answer
+RefusesShapes limits base text before after (unopened.Cut stop) = Unit {0}
 
 -- ---- the data text
 

@@ -1,9 +1,13 @@
 -- What preparing a run gives, whatever its script is.
-use Rattle.std.specs.Prelude.{◌≡◌, ℕ, List, Option, IfSome, Result, Ok, Err}
-use Rattle.shx_outside.specs.declared.role.Role.TheVariants.{Shapes, Data}
-use Rattle.shx_outside.specs.Outside.{InputState}
+use Rattle.std.specs.Prelude.{◌≡◌, ℕ, ◌+◌, ◌≤◌, ◌⊎◌, List, Option, IfSome, Result, Ok, Err}
+use Rattle.shx_outside.specs.declared.role.Role.{Role}
+use Rattle.shx_outside.specs.declared.role.Role.TheVariants.{Shapes, Data, Script}
+use Rattle.shx_outside.specs.Outside.{InputState, PatternState}
 use Rattle.shx_outside.specs.Told.{IsAtEnd}
+use Rattle.shx_term.specs.declared.fault_codes.TheConstants.{PATTERN_REFUSED}
 use Rattle.shx_term.specs.declared.limits.Limits.{Limits}
+use Rattle.text_input.specs.TextRead.{TakesWithin}
+use Rattle.report_write.specs.declared.answer.Answer.TheVariants.{OfShape}
 use Rattle.text_output.specs.declared.format.Format.{Format}
 use Rattle.shacl_run.specs.declared.unopened.Unopened.{Unopened}
 use Rattle.shacl_run.specs.declared.unopened.Unopened.TheVariants.{Told, Cut}
@@ -14,8 +18,9 @@ use Rattle.shape_eval.specs.Plan.{Planned}
 use Rattle.shacl_run.specs.Names.{HasNamesOf}
 use Rattle.shacl_run.specs.Run.{texts_opening, refused}
 use Rattle.shacl_run.specs.Run.Opening.{ends, opens}
-use Rattle.shacl_run.specs.Readings.{Readings, TextReading, States, AreJudged, DataIsRead, ShapesAreRead}
-use Rattle.shacl_run.specs.RunClauses.{ByVerdict}
+use Rattle.shacl_run.specs.Readings.{Readings, TextReading, States, AreJudged, DataIsRead, HavePlan}
+use Rattle.shacl_run.specs.Readings.{ShapesAreRead}
+use Rattle.shacl_run.specs.RunClauses.{ByVerdict, IsOpened, IsOpenedBy}
 use Rattle.shacl_run.specs.ScriptState.{ScriptState}
 use Rattle.shacl_run.specs.Verdict.{Verdict, plans}
 use Rattle.shacl_run.specs.inner.Validation.{IsValidation}
@@ -69,15 +74,43 @@ pub record AreRead (limits : Limits) (base : List ℕ) (shapes data_text : Optio
   pub data_read : DataIsRead limits base readings verdict data_text
   pub names_read : HasNamesRead readings.data_text verdict prepared
 
+-- what the two texts come to by a verdict was prepared, and the data text was opened only for a plan
+pub record PreparesBy (limits : Limits) (format : Format) (base : List ℕ) (readings : Readings)
+    (shapes data_text : Option (List ℕ)) (DataIsOpened : Type 0) (prepared : Result Validation Unopened)
+    (verdict : Verdict) : Type 0 where
+  pub due : DataIsRead limits base readings verdict data_text
+      → Prepares limits format readings verdict shapes data_text prepared
+  pub planned : DataIsOpened → IfSome shapes (λ text. HavePlan readings.shapes verdict)
+
 -- unless it was cut short, the run opens what the two texts come to, or refuses them as they are to be
 pub record IsPrepared (limits : Limits) (format : Format) (base : List ℕ) (shapes data_text : Option (List ℕ))
-    (refusals refusals' : ℕ) (prepared : Result Validation Unopened) : Type 0 where
+    (before after : PatternState) (DataIsOpened : Type 0) (prepared : Result Validation Unopened)
+    : Type 0 where
   pub due : (IsCut prepared → ⊥) → (readings : Readings) → ShapesAreRead limits base readings.shapes shapes
-      → ByVerdict limits readings.shapes shapes refusals refusals' (λ verdict.
-      DataIsRead limits base readings verdict data_text
-      → Prepares limits format readings verdict shapes data_text prepared)
+      → ByVerdict limits readings.shapes shapes before after
+      (PreparesBy limits format base readings shapes data_text DataIsOpened prepared)
   pub read : (IsCut prepared → ⊥) → AreRead limits base shapes data_text prepared
 
--- both texts were read to their ends
-abbrev pub IsReadToEnd : InputState → Validation → Type 0
-IsReadToEnd inputs validation = IsAtEnd (inputs.rest Shapes) × IsAtEnd (inputs.rest Data)
+-- the count of refused patterns stays, or it is told that one was refused
+abbrev pub HostStays : ℕ → ℕ → Result Validation Unopened → Type 0
+HostStays before now (Ok validation) = now ≡ before
+HostStays before now (Err (Told answer pool)) =
+    (now ≡ before) ⊎ ((shape : ℕ) × (answer ≡ OfShape PATTERN_REFUSED shape))
+HostStays before now (Err (Cut stop)) = Unit
+
+-- both texts were opened, and read to their ends
+pub record AreReadToEnd (before after : InputState) : Type 0 where
+  pub shapes_opened : IsOpened before after Shapes
+  pub data_opened : IsOpened before after Data
+  pub shapes_end : IsAtEnd (after.rest Shapes)
+  pub data_end : IsAtEnd (after.rest Data)
+
+-- each text is opened at most once, the data text behind the shapes text, and no script; and no more is taken
+-- of either than one byte past its limit
+pub record PreparesWithin (limit : ℕ) (before after : InputState) : Type 0 where
+  pub once : (role : Role) → after.opens role ≤ before.opens role + 1
+  pub in_turn : IsOpenedBy before after Data → IsOpened before after Shapes
+  pub no_script : after.opens Script ≡ before.opens Script
+  pub shapes_within : IsOpenedBy before after Shapes
+      → TakesWithin (after.whole Shapes) (after.rest Shapes) limit
+  pub data_within : IsOpenedBy before after Data → TakesWithin (after.whole Data) (after.rest Data) limit

@@ -11,7 +11,7 @@ use Rattle.shacl_run.specs.Readings.{IsReadBehind}
 use Rattle.text_input.specs.Lines.{HasNoFeed, script_lines}
 use Rattle.text_input.specs.ScriptReader.{ReaderState, left_of}
 use Rattle.text_output.specs.Writes.{Put, FellShort}
-use Rattle.shacl_run.specs.declared.validation.Validation.{Validation}
+use Rattle.shacl_run.specs.declared.script_run.ScriptRun.{ScriptRun}
 use Rattle.shacl_run.specs.declared.status.Status.{Status}
 use Rattle.shacl_run.specs.declared.stop.Stop.{Stop}
 use Rattle.shacl_run.specs.declared.stop.Stop.TheVariants.{Input, Write, Memory}
@@ -19,11 +19,11 @@ use Rattle.shacl_run.specs.declared.take_line.Taken.{Taken}
 use Rattle.shacl_run.specs.declared.take_line.Taken.TheVariants.{Replied, End, PastLimit}
 use Rattle.shape_eval.specs.Report.{report}
 use Rattle.shacl_run.specs.inner.Reply.{Replies}
-use Rattle.shacl_run.specs.Run.{Output, behind, ending, first_text, output_from, status_of_rows}
-use Rattle.shacl_run.specs.Run.{status_of_state}
+use Rattle.shacl_run.specs.Run.{Output, behind, ending, first_text, first_work, output_from, status_of_rows}
 use Rattle.shacl_run.specs.Script.{Step, step_text, script_step}
 use Rattle.shacl_run.specs.ScriptState.{ScriptState}
-use Rattle.shacl_run.specs.inner.Validation.{IsValidation}
+use Rattle.shacl_run.specs.inner.Validation.{IsScriptRun}
+use Rattle.shacl_run.specs.Work.{Work}
 
 -- the output that is due from a state on, where the rest of the script is told
 abbrev pub due_at : Manner → ScriptState → ℕ → Option (List ℕ) → Option Output
@@ -41,11 +41,11 @@ HaveReadings limits end budget left =
     IfSome left (λ bytes. (lines : LineReadings)
     × All (λ line. IsReadBehind limits end line (lines line)) (script_lines budget bytes))
 
--- the output is this text, and then the later output
-pub record Prefixed (front : List ℕ) (later : Option Output) (output : Output) : Type 0 where
+-- the output is this text with this work, and then the later output
+pub record Prefixed (front : List ℕ) (work : Work) (later : Option Output) (output : Output) : Type 0 where
   pub rest : Output
   pub is : later ≡ Some rest
-  pub whole : output ≡ behind front rest
+  pub whole : output ≡ behind front work rest
 
 -- where the reader can go on, the line of the step stood before its line feed in what was left
 pub record Feeds (manner : Manner) (s : ScriptState) (step : Step) (reader : ReaderState)
@@ -64,7 +64,7 @@ pub record ReadsOn (manner : Manner) (s : ScriptState) (budget : ℕ) (left left
 pub record TakesStep (manner : Manner) (s : ScriptState) (step : Step) (reader reader' : ReaderState)
     (left left' : Option (List ℕ)) : Type 0 where
   pub due : IfSome (due_at manner s reader.budget left)
-      (Prefixed (step_text manner.format step) (due_at manner step.state reader'.budget left'))
+      (Prefixed (step_text manner.format step) step.work (due_at manner step.state reader'.budget left'))
   pub feeds : Feeds manner s step reader' left left'
   pub reads_on : ReadsOn manner step.state reader'.budget left left'
   pub ended_stays : reader.ended ≡ true → reader'.ended ≡ true
@@ -74,17 +74,18 @@ pub record TakesEnd (manner : Manner) (s : ScriptState) (reader : ReaderState) (
     (output : Output) : Type 0 where
   pub due : IfSome (due_at manner s reader.budget left) (λ due. due ≡ output)
 
-abbrev pub TakesLine : Manner → ScriptState → Validation → ReaderState → ReaderState → Option (List ℕ)
-    → Option (List ℕ) → Taken → Type 0
-TakesLine manner s validation reader reader' rest rest' (Replied reply) =
-    (step : Step) × Replies manner step reply validation
+-- what came of a line, with where the counter of evaluations stood before and stands after
+abbrev pub TakesLine : Manner → ScriptState → ScriptRun → ReaderState → ReaderState → Option (List ℕ)
+    → Option (List ℕ) → ℕ → ℕ → Taken → Type 0
+TakesLine manner s script reader reader' rest rest' steps steps' (Replied reply) =
+    (step : Step) × Replies manner step reply script steps steps'
     × TakesStep manner s step reader reader' (left_of reader rest) (left_of reader' rest')
-TakesLine manner s validation reader reader' rest rest' End =
-    IsValidation manner.limits manner.format s validation
-    × TakesEnd manner s reader (left_of reader rest) (ending manner.format false s)
-TakesLine manner s validation reader reader' rest rest' PastLimit =
-    IsValidation manner.limits manner.format s validation
-    × TakesEnd manner s reader (left_of reader rest) (ending manner.format true s)
+TakesLine manner s script reader reader' rest rest' steps steps' End =
+    IsScriptRun manner.limits manner.format s script
+    × TakesEnd manner s reader (left_of reader rest) (ending manner.format false s) × (steps' ≡ steps)
+TakesLine manner s script reader reader' rest rest' steps steps' PastLimit =
+    IsScriptRun manner.limits manner.format s script
+    × TakesEnd manner s reader (left_of reader rest) (ending manner.format true s) × (steps' ≡ steps)
 
 -- where the lines behind a line that was taken have readings, it and these have
 abbrev pub GivesReadings : Limits → State → ReaderState → ReaderState → Option (List ℕ) → Option (List ℕ)
@@ -105,17 +106,12 @@ TakesBytes line line' budget budget' PastLimit = Unit {0}
 
 -- a report was put whole behind a notice, and the run may end with this status; or it was cut short, or
 -- memory was wanted before it
-abbrev pub PutsReport : Format → ℕ → ScriptState → SinkState → SinkState → Result Status Stop → Type 0
-PutsReport format notices s before after (Ok status) =
+abbrev pub PutsReport : Format → ℕ → ScriptState → SinkState → SinkState → ℕ → ℕ → Result Status Stop → Type 0
+PutsReport format notices s before after steps steps' (Ok status) =
     Put before after (first_text format notices s)
     × (status ≡ status_of_rows (report s.plan s.graph))
-PutsReport format notices s before after (Err Input) = ⊥
-PutsReport format notices s before after (Err Write) =
+    × (steps' ≡ steps + (first_work s).evaluated)
+PutsReport format notices s before after steps steps' (Err Input) = ⊥
+PutsReport format notices s before after steps steps' (Err Write) =
     FellShort before after (first_text format notices s)
-PutsReport format notices s before after (Err Memory) = after ≡ before
-
-abbrev pub LastStatus : ScriptState → Result Status Stop → Type 0
-LastStatus s (Ok status) = status ≡ status_of_state s
-LastStatus s (Err Input) = ⊥
-LastStatus s (Err Write) = ⊥
-LastStatus s (Err Memory) = Unit {0}
+PutsReport format notices s before after steps steps' (Err Memory) = after ≡ before

@@ -1,5 +1,7 @@
--- A validation: shapes and the data graph as they are stored, and how far the script has come.
-use Rattle.std.specs.Prelude.{◌≡◌, ◌<◌, ◌^◌, false, List, All, length}
+-- A validation, and a run of its script: shapes and the data graph as they are stored, and how far the script
+-- has come.
+use Rattle.std.specs.Prelude.{◌≡◌, ◌<◌, nat_eq, false, List, All, length}
+use Rattle.std.specs.List.{IsDistinct}
 use Rattle.shx_term.specs.declared.limits.Limits.{Limits}
 use Rattle.shx_term.specs.declared.term.Term.{Term}
 use Rattle.shx_term.specs.ValidTriples.{IsNotWide}
@@ -7,43 +9,52 @@ use Rattle.graph_view.specs.Graph.{Graph}
 use Rattle.graph_view.specs.ListGraph.{plain_graph}
 use Rattle.graph_view.specs.SameGraph.{SameGraph}
 use Rattle.ttl_meaning.specs.State.{State}
-use Rattle.shape_eval.specs.Plan.{IsKnownPlan, Planned, RefersLower}
+use Rattle.shape_eval.specs.Plan.{Planned}
 use Rattle.shape_eval.specs.Planned.{plan_of}
-use Rattle.graph_view.specs.Valid.{IsValidView}
+use Rattle.edit_engine.specs.MayBeAsked.{MayBeAsked}
+use Rattle.shacl_run.specs.declared.script_run.ScriptRun.{ScriptRun}
 use Rattle.shacl_run.specs.declared.validation.Validation.{Validation}
 use Rattle.text_output.specs.declared.format.Format.{Format}
 use Rattle.shacl_run.specs.Names.{HasNamesOf}
 use Rattle.shacl_run.specs.Readings.{TextReading, States, stated_graph}
 use Rattle.shacl_run.specs.ScriptState.{ScriptState, start_state}
 
+-- no literal is wide
+abbrev pub HasNoWide : List Term → Type 0
+HasNoWide terms = All IsNotWide terms
+
+-- ---- before the script
+
 -- the limits of the graph are those of the run
 pub record HasLimits (limits : Limits) (validation : Validation) : Type 0 where
   pub triples : validation.graph.limit ≡ limits.triples
   pub terms : validation.graph.pool.limit ≡ limits.terms
 
--- the validation stores the state, with the limits and the format of the run
+-- no line was answered
+pub record IsStart (s : ScriptState) : Type 0 where
+  pub line : s.line ≡ 0
+  pub refused : s.refused ≡ false
+
+-- the validation stores the state before the first line, with the limits and the format of the run
 pub record IsValidation (limits : Limits) (format : Format) (s : ScriptState) (validation : Validation)
     : Type 0 where
   pub stores : SameGraph s.graph (plain_graph validation.graph)
   pub names_are : HasNamesOf s.data_end validation.document
   pub plan_is : plan_of validation.plan ≡ s.plan
-  pub line_is : validation.line ≡ s.line
-  pub refused_is : validation.refused ≡ s.refused
+  pub start : IsStart s
   pub limits_are : HasLimits limits validation
   pub format_is : validation.format ≡ format
 
--- no literal is wide
-abbrev pub HasNoWide : List Term → Type 0
-HasNoWide terms = All IsNotWide terms
+-- a plan targets shapes of its own, each once
+pub record TargetsItsOwn (plan : Planned) : Type 0 where
+  pub within : All (λ n. n < length plan.shapes) plan.targeted
+  pub once : IsDistinct nat_eq plan.targeted
 
--- its plan may be asked of its graph, and targets few shapes
-pub record Stands (validation : Validation) : Type 0 where
-  pub valid : IsValidView (plain_graph validation.graph)
-  pub known : IsKnownPlan validation.graph.pool.terms (plan_of validation.plan).shapes
-  pub refers : RefersLower (plan_of validation.plan).shapes
-  pub few : length (plan_of validation.plan).targeted < 2 ^ 32
+-- its plan may be asked of its graph
+abbrev pub Stands : Validation → Type 0
+Stands validation = MayBeAsked (plan_of validation.plan) (plain_graph validation.graph)
 
--- the text is read as a document, and the validation stores its graph, before the first line
+-- the text is read as a document, and the validation stores its graph
 pub record OpensFor (limits : Limits) (format : Format) (plan : Planned) (reading : TextReading)
     (validation : Validation) : Type 0 where
   pub document : Graph
@@ -51,6 +62,16 @@ pub record OpensFor (limits : Limits) (format : Format) (plan : Planned) (readin
   pub is : reading ≡ States document end
   pub stored : IsValidation limits format (start_state (stated_graph document) end plan) validation
 
--- no line was answered yet
-abbrev pub IsNew : Validation → Type 0
-IsNew validation = (validation.line ≡ 0) × (validation.refused ≡ false)
+-- ---- within the script
+
+-- the run of the script keeps the state, with the limits and the format of the run
+pub record IsScriptRun (limits : Limits) (format : Format) (s : ScriptState) (script : ScriptRun) : Type 0
+  where
+    pub stores : SameGraph s.graph script.engine.graph
+    pub names_are : HasNamesOf s.data_end script.document
+    pub plan_is : script.engine.plan ≡ s.plan
+    pub line_is : script.line ≡ s.line
+    pub refused_is : script.refused ≡ s.refused
+    pub triples : script.engine.triple_limit ≡ limits.triples
+    pub terms : script.engine.term_limit ≡ limits.terms
+    pub format_is : script.format ≡ format

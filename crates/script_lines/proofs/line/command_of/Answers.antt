@@ -7,37 +7,37 @@ pub read_triple-requires : goal.read_triple-requires
 read_triple-requires c =
     insert_terms c.args.line.now c.args.form.now c.in-Insert.terms c.in-Insert.is c.requires
 
-pub returns-in_err-read_triple-in-Insert-clause-refused :
-    goal.returns-in_err-read_triple-in-Insert-clause-refused
-returns-in_err-read_triple-in-Insert-clause-refused c =
+pub returns-in_err-triple-in-Insert-clause-refused :
+    goal.returns-in_err-triple-in-Insert-clause-refused
+returns-in_err-triple-in-Insert-clause-refused c =
     let exit = err_from_is_err_and c.from_residual.result c.from_residual.ensures.1 in
     rw (exit.1, exit.2)
     (λ other. insert_refused c.args.line.now c.args.document.now c.args.form.now c.in-Insert.terms
-    c.in-Insert.is c.in_err-read_triple-in-Insert.field-0.0
-    (c.in_err-read_triple-in-Insert.ensures.refused other))
+    c.in-Insert.is c.in_err-triple-in-Insert.field-0.0
+    (c.in_err-triple-in-Insert.ensures.refused other))
 
 pub read_triple-requires-in-Remove : goal.read_triple-requires-in-Remove
 read_triple-requires-in-Remove c =
     remove_terms c.args.line.now c.args.form.now c.in-Remove.terms c.in-Remove.is c.requires
 
-pub returns-in_err-read_triple-in-Remove-clause-refused :
-    goal.returns-in_err-read_triple-in-Remove-clause-refused
-returns-in_err-read_triple-in-Remove-clause-refused c =
-    let exit = err_from_is_err_and c.from_residual-in_err-read_triple-in-Remove.result
-    c.from_residual-in_err-read_triple-in-Remove.ensures.1 in
+pub returns-in_err-triple-in-Remove-clause-refused :
+    goal.returns-in_err-triple-in-Remove-clause-refused
+returns-in_err-triple-in-Remove-clause-refused c =
+    let exit = err_from_is_err_and c.from_residual-in_err-triple-in-Remove.result
+    c.from_residual-in_err-triple-in-Remove.ensures.1 in
     rw (exit.1, exit.2)
     (λ other. remove_refused c.args.line.now c.args.document.now c.args.form.now c.in-Remove.terms
-    c.in-Remove.is c.in_err-read_triple-in-Remove.field-0.0
-    (c.in_err-read_triple-in-Remove.ensures.refused other))
+    c.in-Remove.is c.in_err-triple-in-Remove.field-0.0
+    (c.in_err-triple-in-Remove.ensures.refused other))
 
-pub returns-in_ok-read_triple-in-Insert-clause-command :
-    goal.returns-in_ok-read_triple-in-Insert-clause-command
-returns-in_ok-read_triple-in-Insert-clause-command c =
+pub returns-in_ok-triple-in-Insert-clause-command :
+    goal.returns-in_ok-triple-in-Insert-clause-command
+returns-in_ok-triple-in-Insert-clause-command c =
     insert_asked c.args.line.now c.args.document.now c.args.form.now c.in-Insert.terms c.in-Insert.is
-    c.in_ok-read_triple-in-Insert.field-0 c.in_ok-read_triple-in-Insert.ensures.triple
+    c.in_ok-triple-in-Insert.triple c.in_ok-triple-in-Insert.ensures.triple
 
-pub returns-in_ok-read_triple-in-Remove-clause-command :
-    goal.returns-in_ok-read_triple-in-Remove-clause-command
-returns-in_ok-read_triple-in-Remove-clause-command c =
+pub returns-in_ok-triple-in-Remove-clause-command :
+    goal.returns-in_ok-triple-in-Remove-clause-command
+returns-in_ok-triple-in-Remove-clause-command c =
     remove_asked c.args.line.now c.args.document.now c.args.form.now c.in-Remove.terms c.in-Remove.is
-    c.in_ok-read_triple-in-Remove.field-0 c.in_ok-read_triple-in-Remove.ensures.triple
+    c.in_ok-triple-in-Remove.triple c.in_ok-triple-in-Remove.ensures.triple

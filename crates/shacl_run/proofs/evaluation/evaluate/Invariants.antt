@@ -1,4 +1,4 @@
-use Rattle.std.proofs.Common.{◌≡◌, map, take}
+use Rattle.std.proofs.Common.{◌≡◌, ◌+◌, length, map, take}
 use Rattle.std.specs.Prelude.{flat_map}
 use Rattle.shape_eval.specs.Planned.{plan_of}
 use Rattle.shape_eval.specs.Report.{at_shape}
@@ -10,6 +10,9 @@ abbrev pub invariant-loop-shape : goal.invariant-loop-shape
 invariant-loop-shape g l =
     let graph = g.V.GraphView.graph l.view in
     let shapes = (plan_of l.plan).shapes in
-    l.rows.items
-    ≡ flat_map (results shapes graph)
-    (flat_map (λ n. map (at_shape n) (target_nodes shapes graph n)) (take l.shape-index l.shape-items))
+    let seen =
+    flat_map (λ n. map (at_shape n) (target_nodes shapes graph n)) (take l.shape-index l.shape-items) in
+    record {
+      rows : l.rows.items ≡ flat_map (results shapes graph) seen;
+      steps : l.steps ≡ l.fn.steps + length seen;
+    }

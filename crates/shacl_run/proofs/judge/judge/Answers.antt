@@ -39,8 +39,8 @@ returns-in-Ok-plan_shapes-clause-accepts g c =
       end = end;
       read = rw c.requires.fresh at read;
       plan = PlansAs-same c.args.limits.now (stated_graph document) stored same
-          (g.P.PatternHost.state c.args.patterns.now).faults
-          (g.P.PatternHost.state c.plan_shapes.new.patterns).faults
+          (g.P.PatternHost.state c.args.patterns.now)
+          (g.P.PatternHost.state c.plan_shapes.new.patterns)
           (plan_of c.in-Ok-plan_shapes.plan) c.in-Ok-plan_shapes.ensures.plan;
       terms = ap (λ (pool : Pooled). pool.terms) (sym (c.into_pool.ensures ∙ c.in_ok-graph.ensures.pool));
       passed = c.in_ok-passed_over.ensures
@@ -66,6 +66,6 @@ returns-clause-refused g c =
     (c.into_pool-in-Err-plan_shapes.ensures ∙ c.in_ok-graph.ensures.pool) in
     rw c.of-in-Err-plan_shapes.ensures
     (shapes_unplanned c.args.limits.now c.args.base.now c.args.text.now pool
-    (g.P.PatternHost.state c.args.patterns.now).faults
-    (g.P.PatternHost.state c.plan_shapes.new.patterns).faults c.in-Err-plan_shapes.refusal document stored end
+    (g.P.PatternHost.state c.args.patterns.now)
+    (g.P.PatternHost.state c.plan_shapes.new.patterns) c.in-Err-plan_shapes.refusal document stored end
     (rw c.requires.fresh at read) terms same c.in-Err-plan_shapes.ensures.refused)

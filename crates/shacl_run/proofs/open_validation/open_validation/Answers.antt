@@ -1,11 +1,13 @@
-use Rattle.std.proofs.Common.{refl, sym, ◌∙◌, subst}
+use Rattle.std.proofs.Common.{◌≤◌, List, length, refl, sym, ap, ◌∙◌, subst, arith, length-append}
+use Rattle.shx_term.specs.declared.term.Term.{Term}
+use Rattle.shx_term.specs.Pool.{with_terms}
 use Rattle.shx_term.specs.TripleTerms.{terms_of}
+use Rattle.shx_term.proofs.HeldLemmas.{with_terms_grow}
 use Rattle.graph_view.specs.Graph.{Graph}
 use Rattle.shape_eval.specs.Plan.{IsKnownPlan}
 use Rattle.shape_eval.specs.Planned.{plan_of}
 use Rattle.shacl_run.specs.Readings.{States}
 use Rattle.shacl_run.proofs.ReadingLemmas.{graph}
-use Rattle.shacl_run.proofs.StandsLemmas.{plan_known_entered}
 use Rattle.shacl_run.proofs.open_validation.open_validation.Goals as goal
 
 pub returns-clause-opened : goal.returns-clause-opened
@@ -23,8 +25,7 @@ returns-clause-opened c =
           stores = made.stores;
           names_are = made.names end names;
           plan_is = made.plan;
-          line_is = made.line;
-          refused_is = made.refused;
+          start = record { line = refl; refused = refl };
           limits_are = record {
             triples = made.triple_limit;
             terms = made.term_limit ∙ c.read_turtle.ensures.limit ∙ c.requires.limit;
@@ -39,5 +40,8 @@ validation_over-requires-clause-plan c =
     let (end, is, names) = c.in-Ok.ensures.states in
     let held = c.args.accepted.pool.terms in
     let shapes = (plan_of c.args.accepted.plan).shapes in
+    let grown = with_terms_grow held (terms_of end.triples) in
+    let longer : length held ≤ length (with_terms held (terms_of end.triples)) =
+    omega (arith, ap (λ (ts : List Term). length ts) grown.1, length-append held grown.0) in
     subst (λ (g : Graph). IsKnownPlan g.terms shapes) (sym is.2)
-    (plan_known_entered held (terms_of end.triples) shapes c.requires.known)
+    (c.plans_stay_known.ensures held (with_terms held (terms_of end.triples)) shapes longer c.requires.known)

@@ -14,5 +14,6 @@ returns-clause-stands c = record {
   known = subst (λ (pool : Pooled). IsKnownPlan pool.terms (plan_of c.args.accepted.plan).shapes)
       (sym c.in_ok-graph.ensures.pool) c.requires.plan;
   refers = c.requires.refers;
-  few = c.requires.few;
+  within = c.requires.within_plan.within;
+  once = c.requires.within_plan.once;
 }

@@ -1,22 +1,54 @@
-use Rattle.std.proofs.Common.{◌≡◌, refl, sym, ◌∙◌, subst, Some, List, ℕ}
+use Rattle.std.proofs.Common.{◌≡◌, refl, sym, ◌∙◌, subst, Some, Err, List, ℕ}
 use Rattle.shx_outside.specs.declared.role.Role.TheVariants.{Shapes, Data}
 use Rattle.shape_eval.specs.Planned.{plan_of}
+use Rattle.shacl_run.specs.inner.Validation.{TargetsItsOwn}
 use Rattle.shacl_run.specs.Readings.{PatternsAreAdmitted}
-use Rattle.shacl_run.proofs.CountLemmas.{plan_few}
+use Rattle.shacl_run.specs.RunClauses.{IsOpenedBy}
 use Rattle.shacl_run.proofs.EndLemmas.{passed_on}
-use Rattle.shacl_run.proofs.PrepareLemmas.{admitted_bytes, prepared_long, prepared_unplanned}
-use Rattle.shacl_run.proofs.PrepareLemmas.{prepared_data_long, prepared_opened}
+use Rattle.shacl_run.proofs.OpenedLemmas.{PreparesWithin-both, PreparesWithin-shapes}
+use Rattle.shacl_run.proofs.OpenedLemmas.{PreparesWithin-still, ReadsOne, no_data}
+use Rattle.shacl_run.proofs.PrepareLemmas.{HostStays-unplanned, HostStays-same, admitted_bytes, prepared_long}
+use Rattle.shacl_run.proofs.PrepareLemmas.{prepared_unplanned, prepared_data_long, prepared_opened}
 use Rattle.shacl_run.proofs.prepare.prepare.Goals as goal
+
+pub returns-in_err-from_str-clause-within : goal.returns-in_err-from_str-clause-within
+returns-in_err-from_str-clause-within g c =
+    PreparesWithin-still c.args.limits.now.text (g.I.Inputs.state c.args.host.now)
+
+-- ---- the shapes text is too long, or was not read
 
 pub returns-in-Err-clause-prepared : goal.returns-in-Err-clause-prepared
 returns-in-Err-clause-prepared g c =
-    let texts = (g.I.Inputs.state c.args.host.now).text in
+    let limits = c.args.limits.now in
+    let before = g.I.Inputs.state c.args.host.now in
+    let mid = g.I.Inputs.state c.read_within.new.host in
     let asked = c.args.asked.now in
-    let faults = (g.P.PatternHost.state c.args.patterns.now).faults in
+    let patterns = g.P.PatternHost.state c.args.patterns.now in
+    let first : ReadsOne limits.text Shapes before mid = record {
+      once = c.read_within.ensures.once;
+      within = c.read_within.ensures.within;
+      others = c.read_within.ensures.others;
+    } in
     rw c.of.ensures
-    (prepared_long c.args.limits.now asked.format asked.base.now (texts asked.shapes_file.now)
-    (texts asked.data_file.now)
-    faults faults refl c.args.pool c.in-Err.refusal c.in-Err.ensures.too_long)
+    (prepared_long limits asked.format asked.base.now (before.text asked.shapes_file.now)
+    (before.text asked.data_file.now) patterns patterns (IsOpenedBy before mid Data) refl
+    (no_data limits.text before mid first) c.args.pool c.in-Err.refusal c.in-Err.ensures.too_long)
+
+pub returns-in-Err-clause-patterns : goal.returns-in-Err-clause-patterns
+returns-in-Err-clause-patterns g c =
+    let faults = (g.P.PatternHost.state c.args.patterns.now).faults in
+    HostStays-same faults faults refl (Err c.of.result)
+
+pub returns-in-Err-clause-within : goal.returns-in-Err-clause-within
+returns-in-Err-clause-within g c =
+    PreparesWithin-shapes c.args.limits.now.text (g.I.Inputs.state c.args.host.now)
+    (g.I.Inputs.state c.read_within.new.host) (record {
+      once = c.read_within.ensures.once;
+      within = c.read_within.ensures.within;
+      others = c.read_within.ensures.others;
+    })
+
+-- ---- its shapes make no plan
 
 pub judge-requires-clause-admitted : goal.judge-requires-clause-admitted
 judge-requires-clause-admitted g c =
@@ -34,51 +66,131 @@ judge-requires-clause-admitted g c =
 
 pub returns-in_err-accepted-clause-prepared : goal.returns-in_err-accepted-clause-prepared
 returns-in_err-accepted-clause-prepared g c =
-    let texts = (g.I.Inputs.state c.args.host.now).text in
+    let limits = c.args.limits.now in
+    let before = g.I.Inputs.state c.args.host.now in
+    let mid = g.I.Inputs.state c.read_within.new.host in
     let asked = c.args.asked.now in
     let base : c.new-base.result ≡ asked.base.now = c.new-base.ensures ∙ c.in_ok-from_str.ensures.ok in
     let why = c.in_err-accepted.field-0.0 in
     let exit = c.from_residual-in_err-accepted in
+    let first : ReadsOne limits.text Shapes before mid = record {
+      once = c.read_within.ensures.once;
+      within = c.read_within.ensures.within;
+      others = c.read_within.ensures.others;
+    } in
     rw (passed_on exit.result why exit.ensures.1)
-    (prepared_unplanned c.args.limits.now asked.format asked.base.now (texts asked.shapes_file.now)
-    (texts asked.data_file.now) (g.P.PatternHost.state c.args.patterns.now).faults
-    (g.P.PatternHost.state c.judge.new.patterns).faults
-    ((g.I.Inputs.state c.read_within.new.host).rest Shapes) c.in-Ok.text.items c.in-Ok.ensures.read why
-    (rw (c.deref.ensures.value, base) at c.in_err-accepted.ensures.refused))
+    (prepared_unplanned limits asked.format asked.base.now (before.text asked.shapes_file.now)
+    (before.text asked.data_file.now) (g.P.PatternHost.state c.args.patterns.now)
+    (g.P.PatternHost.state c.judge.new.patterns) (IsOpenedBy before mid Data) (mid.rest Shapes)
+    c.in-Ok.text.items c.in-Ok.ensures.read why
+    (rw (c.deref.ensures.value, base) at c.in_err-accepted.ensures.refused)
+    (no_data limits.text before mid first))
+
+pub returns-in_err-accepted-clause-patterns : goal.returns-in_err-accepted-clause-patterns
+returns-in_err-accepted-clause-patterns g c =
+    let why = c.in_err-accepted.field-0.0 in
+    let exit = c.from_residual-in_err-accepted in
+    rw (passed_on exit.result why exit.ensures.1)
+    (HostStays-unplanned c.args.limits.now c.new-base.result c.deref.result.now
+    (g.P.PatternHost.state c.args.patterns.now) (g.P.PatternHost.state c.judge.new.patterns) why
+    c.in_err-accepted.ensures.refused)
+
+pub returns-in_err-accepted-clause-within : goal.returns-in_err-accepted-clause-within
+returns-in_err-accepted-clause-within g c =
+    PreparesWithin-shapes c.args.limits.now.text (g.I.Inputs.state c.args.host.now)
+    (g.I.Inputs.state c.read_within.new.host) (record {
+      once = c.read_within.ensures.once;
+      within = c.read_within.ensures.within;
+      others = c.read_within.ensures.others;
+    })
+
+-- ---- the data text was read
+
+pub open_validation-requires-clause-within_plan : goal.open_validation-requires-clause-within_plan
+open_validation-requires-clause-within_plan g c =
+    let plan = plan_of c.in_ok-accepted.accepted.plan in
+    let is = c.in_ok-accepted.ensures.accepts.plan in
+    let terms = (c.in_ok-accepted.ensures.accepts).document.terms in
+    subst TargetsItsOwn (sym is.judged.1.targeted) (record {
+      within = c.plans_target_shapes_once.ensures.within terms plan.shapes is.fits;
+      once = c.plans_target_shapes_once.ensures.once terms plan.shapes is.fits;
+    })
 
 pub returns-in-Ok-read_within-clause-prepared : goal.returns-in-Ok-read_within-clause-prepared
 returns-in-Ok-read_within-clause-prepared g c =
-    let texts = (g.I.Inputs.state c.args.host.now).text in
+    let before = g.I.Inputs.state c.args.host.now in
+    let mid = g.I.Inputs.state c.read_within.new.host in
+    let after = g.I.Inputs.state c.read_within-2.new.host in
     let asked = c.args.asked.now in
     let base : c.new-base.result ≡ asked.base.now = c.new-base.ensures ∙ c.in_ok-from_str.ensures.ok in
     let same = c.read_within.ensures.texts.each asked.data_file.now in
-    prepared_opened c.args.limits.now asked.format asked.base.now (texts asked.shapes_file.now)
-    (texts asked.data_file.now)
-    (g.P.PatternHost.state c.args.patterns.now).faults (g.P.PatternHost.state c.judge.new.patterns).faults
-    ((g.I.Inputs.state c.read_within.new.host).rest Shapes) c.in-Ok.text.items c.in-Ok.ensures.read
-    c.in_ok-accepted.accepted (rw (c.deref.ensures.value, base) at c.in_ok-accepted.ensures.accepts)
-    ((g.I.Inputs.state c.read_within-2.new.host).rest Data) c.in-Ok-read_within.text.items
-    c.open_validation.result (rw same at c.in-Ok-read_within.ensures.read)
+    prepared_opened c.args.limits.now asked.format asked.base.now (before.text asked.shapes_file.now)
+    (before.text asked.data_file.now) (g.P.PatternHost.state c.args.patterns.now)
+    (g.P.PatternHost.state c.judge.new.patterns) (IsOpenedBy before after Data) (mid.rest Shapes)
+    c.in-Ok.text.items c.in-Ok.ensures.read c.in_ok-accepted.accepted
+    (rw (c.deref.ensures.value, base) at c.in_ok-accepted.ensures.accepts) (after.rest Data)
+    c.in-Ok-read_within.text.items c.open_validation.result (rw same at c.in-Ok-read_within.ensures.read)
     (rw (c.deref-in-Ok-read_within.ensures.value, base) at c.open_validation.ensures.opened)
     c.open_validation.ensures.passed
     (rw (c.deref-in-Ok-read_within.ensures.value, base) at c.open_validation.ensures.refused)
 
+pub returns-in-Ok-read_within-clause-patterns : goal.returns-in-Ok-read_within-clause-patterns
+returns-in-Ok-read_within-clause-patterns g c =
+    HostStays-same (g.P.PatternHost.state c.args.patterns.now).faults
+    (g.P.PatternHost.state c.judge.new.patterns).faults c.in_ok-accepted.ensures.accepts.plan.patterns
+    c.open_validation.result
+
+pub returns-in-Ok-read_within-clause-within : goal.returns-in-Ok-read_within-clause-within
+returns-in-Ok-read_within-clause-within g c =
+    let before = g.I.Inputs.state c.args.host.now in
+    let mid = g.I.Inputs.state c.read_within.new.host in
+    let after = g.I.Inputs.state c.read_within-2.new.host in
+    PreparesWithin-both c.args.limits.now.text before mid (record {
+      once = c.read_within.ensures.once;
+      within = c.read_within.ensures.within;
+      others = c.read_within.ensures.others;
+    }) after (record {
+      once = c.read_within-2.ensures.once;
+      within = c.read_within-2.ensures.within;
+      others = c.read_within-2.ensures.others;
+    }) c.in-Ok.ensures.opened
+
+-- ---- it is too long, or was not read
+
 pub returns-clause-prepared : goal.returns-clause-prepared
 returns-clause-prepared g c =
-    let texts = (g.I.Inputs.state c.args.host.now).text in
+    let before = g.I.Inputs.state c.args.host.now in
+    let mid = g.I.Inputs.state c.read_within.new.host in
+    let after = g.I.Inputs.state c.read_within-2.new.host in
     let asked = c.args.asked.now in
     let base : c.new-base.result ≡ asked.base.now = c.new-base.ensures ∙ c.in_ok-from_str.ensures.ok in
     let same = c.read_within.ensures.texts.each asked.data_file.now in
     let accepted = c.in_ok-accepted.accepted in
     rw c.of-in-Err-read_within.ensures
-    (prepared_data_long c.args.limits.now asked.format asked.base.now (texts asked.shapes_file.now)
-    (texts asked.data_file.now) (g.P.PatternHost.state c.args.patterns.now).faults
-    (g.P.PatternHost.state c.judge.new.patterns).faults
-    ((g.I.Inputs.state c.read_within.new.host).rest Shapes) c.in-Ok.text.items c.in-Ok.ensures.read
-    accepted (rw (c.deref.ensures.value, base) at c.in_ok-accepted.ensures.accepts) accepted.pool
+    (prepared_data_long c.args.limits.now asked.format asked.base.now (before.text asked.shapes_file.now)
+    (before.text asked.data_file.now) (g.P.PatternHost.state c.args.patterns.now)
+    (g.P.PatternHost.state c.judge.new.patterns) (IsOpenedBy before after Data) (mid.rest Shapes)
+    c.in-Ok.text.items c.in-Ok.ensures.read accepted
+    (rw (c.deref.ensures.value, base) at c.in_ok-accepted.ensures.accepts) accepted.pool
     c.in-Err-read_within.refusal (rw same at c.in-Err-read_within.ensures.too_long))
 
-pub open_validation-requires-clause-few : goal.open_validation-requires-clause-few
-open_validation-requires-clause-few g c =
-    let plan = c.in_ok-accepted.ensures.accepts.plan in
-    plan_few c.args.limits.now _ _ (plan_of c.in_ok-accepted.accepted.plan) plan.judged.1 plan.fits
+pub returns-clause-patterns : goal.returns-clause-patterns
+returns-clause-patterns g c =
+    HostStays-same (g.P.PatternHost.state c.args.patterns.now).faults
+    (g.P.PatternHost.state c.judge.new.patterns).faults c.in_ok-accepted.ensures.accepts.plan.patterns
+    (Err c.of-in-Err-read_within.result)
+
+pub returns-clause-within : goal.returns-clause-within
+returns-clause-within g c =
+    let before = g.I.Inputs.state c.args.host.now in
+    let mid = g.I.Inputs.state c.read_within.new.host in
+    let after = g.I.Inputs.state c.read_within-2.new.host in
+    PreparesWithin-both c.args.limits.now.text before mid (record {
+      once = c.read_within.ensures.once;
+      within = c.read_within.ensures.within;
+      others = c.read_within.ensures.others;
+    }) after (record {
+      once = c.read_within-2.ensures.once;
+      within = c.read_within-2.ensures.within;
+      others = c.read_within-2.ensures.others;
+    }) c.in-Ok.ensures.opened

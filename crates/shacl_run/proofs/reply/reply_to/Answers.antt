@@ -13,7 +13,7 @@ pub returns-in-Ok-clause-replies : goal.returns-in-Ok-clause-replies
 returns-in-Ok-clause-replies g c = λ manner s same is told.
     let limits = c.args.limits.now in
     let line = c.args.line.now in
-    let document = c.args.validation.now.document in
+    let document = c.args.script.now.document in
     let command = c.in-Ok.command in
     let behind : IsReadBehind limits s.data_end line (Ok command) =
     record { document = document; names = is.names_are; read = c.in-Ok.ensures.command } in
@@ -21,12 +21,13 @@ returns-in-Ok-clause-replies g c = λ manner s same is told.
     c.lines_are_read_once.ensures limits s.data_end line (manner.lines line) (Ok command)
     told behind in
     subst (λ (reading : Result Command LineFault). IfOk c.do_command.result (λ reply.
-    Replies manner (reading_step manner.limits s reading) reply c.do_command.new.validation)) (sym one)
+    Replies manner (reading_step manner.limits s reading) reply c.do_command.new.script c.args.steps.now
+    c.do_command.new.steps)) (sym one)
     (c.do_command.ensures.replies manner s is)
 
 pub returns-in-Ok-clause-read : goal.returns-in-Ok-clause-read
 returns-in-Ok-clause-read g c = λ end names.
-    let document = c.args.validation.now.document in
+    let document = c.args.script.now.document in
     let has : HasReading c.args.limits.now end c.args.line.now =
     (Ok c.in-Ok.command, record { document = document; names = names; read = c.in-Ok.ensures.command }) in
     IfOk-weaker c.do_command.result _ _ (λ reply counted. has) c.do_command.ensures.line
@@ -35,7 +36,7 @@ pub returns-in-Err-Line-clause-replies : goal.returns-in-Err-Line-clause-replies
 returns-in-Err-Line-clause-replies g c = λ manner s same is told.
     let limits = c.args.limits.now in
     let line = c.args.line.now in
-    let document = c.args.validation.now.document in
+    let document = c.args.script.now.document in
     let fault = Line c.in-Err-Line.code c.in-Err-Line.at in
     let refused = rw c.in-Err-Line.field-0-is at c.in-Err-Line.ensures.refused in
     let behind : IsReadBehind limits s.data_end line (Err fault) =
@@ -44,13 +45,15 @@ returns-in-Err-Line-clause-replies g c = λ manner s same is told.
     c.lines_are_read_once.ensures limits s.data_end line (manner.lines line) (Err fault)
     told behind in
     subst (λ (reading : Result Command LineFault).
-    Replies manner (reading_step manner.limits s reading) c.refuse_line.result c.refuse_line.new.validation)
+    Replies manner (reading_step manner.limits s reading) c.refuse_line.result c.refuse_line.new.script
+    c.args.steps.now c.args.steps.now)
     (sym one)
-    (rw (c.in-Err-Line.code-is, c.in-Err-Line.at-is) at (c.refuse_line.ensures.replies manner s is))
+    (rw (c.in-Err-Line.code-is, c.in-Err-Line.at-is)
+    at (c.refuse_line.ensures.replies manner s c.args.steps.now is))
 
 pub returns-in-Err-Line-clause-read : goal.returns-in-Err-Line-clause-read
 returns-in-Err-Line-clause-read g c = λ end names.
-    let document = c.args.validation.now.document in
+    let document = c.args.script.now.document in
     let refused = rw c.in-Err-Line.field-0-is at c.in-Err-Line.ensures.refused in (
       Err (Line c.in-Err-Line.code c.in-Err-Line.at),
       record {

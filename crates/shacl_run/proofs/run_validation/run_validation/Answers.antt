@@ -1,171 +1,79 @@
-use Rattle.std.proofs.Common.{None, Some, Ok, Err, [], refl, sym, ap, ◌∙◌}
-use Rattle.std.specs.Option.{option_map}
+use Rattle.std.proofs.Common.{None, Some, [], refl}
 use Rattle.shx_outside.specs.declared.role.Role.TheVariants.{Script}
-use Rattle.shacl_run.specs.declared.status.Status.TheVariants.{InputFault}
-use Rattle.shacl_run.specs.declared.stop.Stop.TheVariants.{Input}
-use Rattle.shacl_run.specs.Run.{first_text, validation_output, script_text}
-use Rattle.shacl_run.specs.inner.Serving.{due_at}
-use Rattle.shacl_run.specs.inner.Stops.{end_status}
-use Rattle.shacl_run.proofs.EndLemmas.{Ends-after, Ends-input, passed_on, input_stop}
-use Rattle.shacl_run.proofs.ServingLemmas.{cut_unanswered}
-use Rattle.shacl_run.proofs.ValidationRunLemmas.{validation_prefixed, Ends-unreported, Ends-unscripted}
-use Rattle.shacl_run.proofs.ValidationRunLemmas.{StopsFed-reported, unreported_quiet, reported_quiet}
-use Rattle.shacl_run.proofs.ValidationRunLemmas.{puts_in, readings_empty, validation_alone}
+use Rattle.shx_outside.proofs.ToldLemmas.{OthersStay-same}
+use Rattle.shacl_run.specs.Outside.{outside}
+use Rattle.shacl_run.specs.Run.{validation_output}
+use Rattle.shacl_run.proofs.OpenedLemmas.{not_opened}
+use Rattle.shacl_run.proofs.ValidationRunLemmas.{Ends-unscripted, puts_in, readings_empty}
+use Rattle.shacl_run.proofs.ValidationRunLemmas.{validation_alone}
 use Rattle.shacl_run.proofs.run_validation.run_validation.Goals as goal
-
--- ---- the report was not put whole
-
-pub returns-in_err-status-clause-ends : goal.returns-in_err-status-clause-ends
-returns-in_err-status-clause-ends g c = λ manner s same is lines.
-    let notices = c.args.validation.now.passed_over in
-    let inputs = g.I.Inputs.state c.args.host.now in
-    let script = script_text inputs.text (option_map (λ name. name.now) c.args.script) in
-    let stop = c.in_err-status.field-0.0 in
-    let puts = puts_in manner s c.args.validation.now (g.O.Sink.state c.args.out.now)
-    (g.O.Sink.state c.put_report.new.out) (Err stop) is c.in_err-status.ensures in
-    rw (passed_on c.from_residual.result stop c.from_residual.ensures.1)
-    (Ends-unreported manner.format notices s (option_map (validation_output manner notices s) script)
-    (due_at manner s manner.limits.script script) (validation_prefixed manner notices s script) stop
-    inputs.faults (g.O.Sink.state c.args.out.now) (g.O.Sink.state c.put_report.new.out) puts)
-
-pub returns-in_err-status-clause-causes : goal.returns-in_err-status-clause-causes
-returns-in_err-status-clause-causes g c = λ limits s is.
-    let validation = c.args.validation.now in
-    let inputs = g.I.Inputs.state c.args.host.now in
-    let stop = c.in_err-status.field-0.0 in
-    rw (passed_on c.from_residual.result stop c.from_residual.ensures.1)
-    (Ends-unreported validation.format validation.passed_over s None None tt stop inputs.faults
-    (g.O.Sink.state c.args.out.now) (g.O.Sink.state c.put_report.new.out)
-    (c.in_err-status.ensures limits s is))
-
-pub returns-in_err-status-clause-fed : goal.returns-in_err-status-clause-fed
-returns-in_err-status-clause-fed g c = λ manner s same is lines failed opened.
-    let stop = c.in_err-status.field-0.0 in
-    let exit = passed_on c.from_residual.result stop c.from_residual.ensures.1 in
-    let puts = puts_in manner s c.args.validation.now (g.O.Sink.state c.args.out.now)
-    (g.O.Sink.state c.put_report.new.out) (Err stop) is c.in_err-status.ensures in
-    absurd (unreported_quiet manner.format c.args.validation.now.passed_over s stop
-    (g.O.Sink.state c.args.out.now) (g.O.Sink.state c.put_report.new.out) puts
-    (input_stop stop (sym (ap end_status exit) ∙ failed)))
-
-pub returns-in_err-status-clause-read : goal.returns-in_err-status-clause-read
-returns-in_err-status-clause-read g c = λ answered.
-    let stop = c.in_err-status.field-0.0 in
-    absurd (cut_unanswered c.from_residual.result stop
-    (passed_on c.from_residual.result stop c.from_residual.ensures.1) answered)
 
 -- ---- no script is named
 
-pub returns-in_default-clause-ends : goal.returns-in_default-clause-ends
-returns-in_default-clause-ends g c = λ manner s same is lines.
-    let notices = c.args.validation.now.passed_over in
+pub returns-in-None-clause-ends : goal.returns-in-None-clause-ends
+returns-in-None-clause-ends g c = λ manner s patterns same is lines.
+    let validation = c.args.validation in
     let inputs = g.I.Inputs.state c.args.host.now in
-    let puts = puts_in manner s c.args.validation.now (g.O.Sink.state c.args.out.now)
-    (g.O.Sink.state c.put_report.new.out) (Ok c.in_ok-status.status) is c.in_ok-status.ensures in
-    rw c.in_default.is
-    (Ends-unscripted manner.format notices s (Some (validation_output manner notices s []))
-    (validation_alone manner notices s (sym is.refused_is ∙ c.requires.fresh.1)) c.in_ok-status.status
-    inputs.faults (g.O.Sink.state c.args.out.now) (g.O.Sink.state c.put_report.new.out) puts)
+    let before = outside inputs (g.O.Sink.state c.args.out.now) patterns c.args.nested.now c.args.steps.now in
+    let after = outside inputs (g.O.Sink.state c.put_report.new.out) patterns c.args.nested.now
+    c.put_report.new.steps in
+    let puts = puts_in manner s validation before.sink after.sink before.steps after.steps
+    c.put_report.result is c.put_report.ensures.puts in
+    rw c.in-None.is
+    (Ends-unscripted manner.format validation.passed_over s
+    (Some (validation_output manner validation.passed_over s []))
+    (validation_alone manner validation.passed_over s is.start.refused) c.put_report.result before after puts
+    refl refl)
 
-pub returns-in_default-clause-causes : goal.returns-in_default-clause-causes
-returns-in_default-clause-causes g c = λ limits s is.
-    let validation = c.args.validation.now in
+pub returns-in-None-clause-causes : goal.returns-in-None-clause-causes
+returns-in-None-clause-causes g c = λ limits s patterns is.
+    let validation = c.args.validation in
     let inputs = g.I.Inputs.state c.args.host.now in
-    Ends-unscripted validation.format validation.passed_over s None tt c.in_ok-status.status inputs.faults
-    (g.O.Sink.state c.args.out.now) (g.O.Sink.state c.put_report.new.out)
-    (c.in_ok-status.ensures limits s is)
+    let before = outside inputs (g.O.Sink.state c.args.out.now) patterns c.args.nested.now c.args.steps.now in
+    let after = outside inputs (g.O.Sink.state c.put_report.new.out) patterns c.args.nested.now
+    c.put_report.new.steps in
+    Ends-unscripted validation.format validation.passed_over s None tt c.put_report.result before after
+    (c.put_report.ensures.puts limits s is) refl refl
 
-pub returns-in_default-clause-fed : goal.returns-in_default-clause-fed
-returns-in_default-clause-fed g c = λ manner s same is lines failed opened.
-    let puts = puts_in manner s c.args.validation.now (g.O.Sink.state c.args.out.now)
-    (g.O.Sink.state c.put_report.new.out) (Ok c.in_ok-status.status) is c.in_ok-status.ensures in
-    absurd (reported_quiet s c.in_ok-status.status puts.1 failed)
+pub returns-in-None-clause-fed : goal.returns-in-None-clause-fed
+returns-in-None-clause-fed g c = λ manner s same is lines failed opened.
+    absurd (not_opened _ opened)
 
-pub returns-in_default-clause-read : goal.returns-in_default-clause-read
-returns-in_default-clause-read g c = λ answered end names.
-    rw c.in_default.is (readings_empty c.args.limits.now end c.args.limits.now.script)
+pub returns-in-None-clause-read : goal.returns-in-None-clause-read
+returns-in-None-clause-read g c = λ answered end names.
+    rw c.in-None.is (readings_empty c.args.limits.now end c.args.limits.now.script)
 
--- ---- the script could not be opened
+pub returns-in-None-clause-read_to_end : goal.returns-in-None-clause-read_to_end
+returns-in-None-clause-read_to_end g c = λ reported opened. absurd (not_opened _ opened)
 
-pub returns-in_err-open-clause-ends : goal.returns-in_err-open-clause-ends
-returns-in_err-open-clause-ends g c = λ manner s same is lines.
-    let notices = c.args.validation.now.passed_over in
-    let inputs = g.I.Inputs.state c.args.host.now in
-    let failed = g.I.Inputs.state c.open.new.self in
-    let sink = g.O.Sink.state c.put_report.new.out in
-    let script = inputs.text c.in-Some.name.now in
-    let later = due_at manner s manner.limits.script script in
-    let puts = puts_in manner s c.args.validation.now (g.O.Sink.state c.args.out.now)
-    (g.O.Sink.state c.put_report.new.out) (Ok c.in_ok-status.status) is c.in_ok-status.ensures in
-    let exit = c.from_residual-in_err-open in
-    rw (passed_on exit.result Input exit.ensures.1, c.in-Some.is)
-    (Ends-after (option_map (validation_output manner notices s) script) later
-    (first_text manner.format notices s) InputFault inputs.faults inputs.faults failed.faults
-    (g.O.Sink.state c.args.out.now) sink sink (validation_prefixed manner notices s script) refl puts.0
-    (Ends-input later inputs.faults failed.faults sink c.in_err-open.ensures.cause.failed))
+pub returns-in-None-clause-opened : goal.returns-in-None-clause-opened
+returns-in-None-clause-opened g c = λ reported. rw c.in-None.is tt
 
-pub returns-in_err-open-clause-causes : goal.returns-in_err-open-clause-causes
-returns-in_err-open-clause-causes g c = λ limits s is.
-    let validation = c.args.validation.now in
-    let inputs = g.I.Inputs.state c.args.host.now in
-    let failed = g.I.Inputs.state c.open.new.self in
-    let sink = g.O.Sink.state c.put_report.new.out in
-    let exit = c.from_residual-in_err-open in
-    rw (passed_on exit.result Input exit.ensures.1)
-    (Ends-after None None (first_text validation.format validation.passed_over s) InputFault inputs.faults
-    inputs.faults failed.faults (g.O.Sink.state c.args.out.now) sink sink tt refl
-    (c.in_ok-status.ensures limits s is).0
-    (Ends-input None inputs.faults failed.faults sink c.in_err-open.ensures.cause.failed))
+pub returns-in-None-clause-within : goal.returns-in-None-clause-within
+returns-in-None-clause-within g c = λ opened. absurd (not_opened _ opened)
 
-pub returns-in_err-open-clause-read : goal.returns-in_err-open-clause-read
-returns-in_err-open-clause-read g c = λ answered.
-    let exit = c.from_residual-in_err-open in
-    absurd (cut_unanswered exit.result Input (passed_on exit.result Input exit.ensures.1) answered)
+pub returns-in-None-clause-others : goal.returns-in-None-clause-others
+returns-in-None-clause-others g c = OthersStay-same Script (g.I.Inputs.state c.args.host.now)
 
--- ---- the script was opened
+-- ---- a script is named
 
-pub returns-clause-ends : goal.returns-clause-ends
-returns-clause-ends g c = λ manner s same is lines.
-    let notices = c.args.validation.now.passed_over in
-    let inputs = g.I.Inputs.state c.args.host.now in
-    let opened = g.I.Inputs.state c.open.new.self in
-    let served = g.I.Inputs.state c.serve.new.host in
-    let script = inputs.text c.in-Some.name.now in
-    let puts = puts_in manner s c.args.validation.now (g.O.Sink.state c.args.out.now)
-    (g.O.Sink.state c.put_report.new.out) (Ok c.in_ok-status.status) is c.in_ok-status.ensures in
-    rw c.in-Some.is
-    (Ends-after (option_map (validation_output manner notices s) script)
-    (due_at manner s manner.limits.script script) (first_text manner.format notices s)
-    (end_status c.serve.result) inputs.faults opened.faults served.faults
-    (g.O.Sink.state c.args.out.now) (g.O.Sink.state c.put_report.new.out) (g.O.Sink.state c.serve.new.out)
-    (validation_prefixed manner notices s script) c.in_ok-open.ensures.cause.quiet puts.0
-    (rw (← same) at ((rw c.in_ok-open.ensures.rest at c.serve.ensures.ends) manner s same is
-    (rw c.in-Some.is at lines))))
+pub returns-in-Some-clause-ends : goal.returns-in-Some-clause-ends
+returns-in-Some-clause-ends g c = rw c.in-Some.is c.run_script.ensures.ends
 
-pub returns-clause-causes : goal.returns-clause-causes
-returns-clause-causes g c = λ limits s is.
-    let validation = c.args.validation.now in
-    let inputs = g.I.Inputs.state c.args.host.now in
-    let opened = g.I.Inputs.state c.open.new.self in
-    let served = g.I.Inputs.state c.serve.new.host in
-    Ends-after None None (first_text validation.format validation.passed_over s) (end_status c.serve.result)
-    inputs.faults opened.faults served.faults (g.O.Sink.state c.args.out.now)
-    (g.O.Sink.state c.put_report.new.out) (g.O.Sink.state c.serve.new.out) tt
-    c.in_ok-open.ensures.cause.quiet (c.in_ok-status.ensures limits s is).0 c.serve.ensures.causes
+pub returns-in-Some-clause-causes : goal.returns-in-Some-clause-causes
+returns-in-Some-clause-causes g c = c.run_script.ensures.causes
 
-pub returns-clause-fed : goal.returns-clause-fed
-returns-clause-fed g c = λ manner s same is lines failed opened.
-    let notices = c.args.validation.now.passed_over in
-    let inputs = g.I.Inputs.state c.args.host.now in
-    let served = g.I.Inputs.state c.serve.new.host in
-    let puts = puts_in manner s c.args.validation.now (g.O.Sink.state c.args.out.now)
-    (g.O.Sink.state c.put_report.new.out) (Ok c.in_ok-status.status) is c.in_ok-status.ensures in
-    rw c.in-Some.is
-    (StopsFed-reported manner notices s (inputs.text c.in-Some.name.now) (served.rest Script)
-    (g.O.Sink.state c.args.out.now) (g.O.Sink.state c.put_report.new.out) (g.O.Sink.state c.serve.new.out)
-    puts.0 ((rw c.in_ok-open.ensures.rest at c.serve.ensures.fed) manner s same is
-    (rw c.in-Some.is at lines) failed))
+pub returns-in-Some-clause-fed : goal.returns-in-Some-clause-fed
+returns-in-Some-clause-fed g c = rw c.in-Some.is c.run_script.ensures.fed
 
-pub returns-clause-read : goal.returns-clause-read
-returns-clause-read g c = λ answered end names.
-    rw c.in-Some.is ((rw c.in_ok-open.ensures.rest at c.serve.ensures.read) answered end names)
+pub returns-in-Some-clause-read : goal.returns-in-Some-clause-read
+returns-in-Some-clause-read g c = rw c.in-Some.is c.run_script.ensures.read
+
+pub returns-in-Some-clause-read_to_end : goal.returns-in-Some-clause-read_to_end
+returns-in-Some-clause-read_to_end g c = c.run_script.ensures.read_to_end
+
+pub returns-in-Some-clause-opened : goal.returns-in-Some-clause-opened
+returns-in-Some-clause-opened g c = rw c.in-Some.is c.run_script.ensures.opened
+
+pub returns-in-Some-clause-within : goal.returns-in-Some-clause-within
+returns-in-Some-clause-within g c = c.run_script.ensures.within

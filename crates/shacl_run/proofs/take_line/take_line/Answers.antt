@@ -9,8 +9,8 @@ use Rattle.shacl_run.proofs.LineReadingLemmas.{reads_too_long, readings_none, re
 use Rattle.shacl_run.proofs.ServingLemmas.{TakesStep-line, end_met, step_once, step_too_long}
 use Rattle.shacl_run.proofs.take_line.take_line.Goals as goal
 
-pub reply_to-requires-clause-few : goal.reply_to-requires-clause-few
-reply_to-requires-clause-few g c =
+pub reply_to-requires : goal.reply_to-requires
+reply_to-requires g c =
     let read = rw c.in-Is.is at c.in_ok-line.ensures.line in
     omega (arith, c.requires.few, read.2)
 
@@ -30,7 +30,7 @@ returns-in-Is-clause-taken g c = λ manner s same is lines.
     let replies = (rw c.deref.ensures.value at c.in_ok-reply-in-Is.ensures.replies) only s same is told in
     let step = reading_step manner.limits s reading in (
       step,
-      record { text = replies.text; stored = replies.stored },
+      record { text = replies.text; stored = replies.stored; work = replies.work },
       TakesStep-line manner s c.args.reader.now c.next_line.new.reader
           (left_of c.args.reader.now ((g.I.Inputs.state c.args.host.now).rest Script))
           (left_of c.next_line.new.reader ((g.I.Inputs.state c.next_line.new.host).rest Script))
@@ -57,7 +57,7 @@ returns-in-TooLong-clause-taken g c = λ manner s same is lines.
     let limits = c.args.limits.now in
     let read = rw c.in-TooLong.is at c.in_ok-line.ensures.line in (
       refusal s LINE_TOO_LONG None,
-      c.refuse_line.ensures.replies manner s is,
+      c.refuse_line.ensures.replies manner s c.args.steps.now is,
       TakesStep-line manner s c.args.reader.now c.next_line.new.reader
           (left_of c.args.reader.now ((g.I.Inputs.state c.args.host.now).rest Script))
           (left_of c.next_line.new.reader ((g.I.Inputs.state c.next_line.new.host).rest Script))
@@ -74,7 +74,7 @@ returns-in-TooLong-clause-read g c = λ end names.
     (left_of c.args.reader.now ((g.I.Inputs.state c.args.host.now).rest Script))
     (left_of c.next_line.new.reader ((g.I.Inputs.state c.next_line.new.host).rest Script))
     (λ first. limits.line < length first)
-    (reads_too_long limits end c.args.validation.now.document names) read.0
+    (reads_too_long limits end c.args.script.now.document names) read.0
 
 pub returns-in-End-clause-read : goal.returns-in-End-clause-read
 returns-in-End-clause-read g c = λ end names.

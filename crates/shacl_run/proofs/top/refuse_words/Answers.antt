@@ -1,0 +1,23 @@
+use Rattle.std.proofs.Common.{[], refl}
+use Rattle.report_write.specs.declared.answer.Answer.TheVariants.{Usage}
+use Rattle.text_output.specs.declared.format.Format.TheVariants.{Lines}
+use Rattle.shacl_run.specs.declared.status.Status.TheVariants.{BadWords}
+use Rattle.shacl_run.specs.declared.stop.Stop.TheVariants.{Write}
+use Rattle.shacl_run.specs.Run.{answer_output}
+use Rattle.shacl_run.proofs.EndLemmas.{Ends-answer, Ends-answer_short, passed_on}
+use Rattle.shacl_run.proofs.top.refuse_words.Goals as goal
+
+pub returns-in_err-write_answer-clause-ends : goal.returns-in_err-write_answer-clause-ends
+returns-in_err-write_answer-clause-ends g c = λ at.
+    let exit = c.from_residual in
+    rw (passed_on exit.result Write exit.ensures.1)
+    (Ends-answer_short (answer_output Lines [] Usage BadWords)
+    (record at { sink = g.O.Sink.state c.args.out.now })
+    (record at { sink = g.O.Sink.state c.write_answer.new.out }) refl refl
+    c.in_err-write_answer.ensures.err)
+
+pub returns-clause-ends : goal.returns-clause-ends
+returns-clause-ends g c = λ at.
+    Ends-answer (answer_output Lines [] Usage BadWords) (record at { sink = g.O.Sink.state c.args.out.now })
+    (record at { sink = g.O.Sink.state c.write_answer.new.out }) tt (λ no. no) refl refl
+    c.in_ok-write_answer.ensures.ok

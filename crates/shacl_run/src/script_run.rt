@@ -1,0 +1,105 @@
+ghost use Rattle.std.specs.Prelude.{◌≡◌, ◌+◌, IfOk, OnOk};
+ghost use Rattle.shx_term.specs.declared.limits.Limits.{Limits as LimitsOf};
+ghost use Rattle.text_output.specs.declared.format.Format.{Format as FormatOf};
+ghost use Rattle.shacl_run.specs.Manner.{Manner};
+ghost use Rattle.shacl_run.specs.Run.{first_work, status_of_state};
+ghost use Rattle.shacl_run.specs.Script.{count_answer};
+ghost use Rattle.shacl_run.specs.ScriptState.{ScriptState};
+ghost use Rattle.shacl_run.specs.Status.{IsReported};
+ghost use Rattle.shacl_run.specs.inner.Validation.{IsScriptRun, IsValidation, Stands};
+
+use crate::status::Status;
+use crate::stored_graph::StoredGraph;
+use crate::validation::Validation;
+use edit_engine::{Engine, same_graphs_answer_alike};
+use graph_view::GraphView;
+use report_write::Answer;
+use shx_term::{Memory, Steps};
+use std::alloc::Global;
+use std::sync::ledger::Ledger;
+use text_output::Format;
+use ttl_read::Document;
+
+/// A script that is being answered: the report is kept current by an engine, and it is known how far the
+/// script has come.
+#[derive(Drop)]
+pub struct ScriptRun {
+    pub engine: Engine<StoredGraph>,
+    /// The data text without its triples: the base, the prefixes and the blank nodes at its end.
+    pub document: Document,
+    /// How answers are written.
+    pub format: Format,
+    /// How many lines of the script were answered.
+    pub line: u64,
+    /// Whether one of them was refused.
+    pub refused: bool,
+}
+
+impl ScriptRun {
+    /// Before the first line: each pair of the validation is evaluated, and what it comes to is kept.
+    pub fn open<L: Ledger, M: Ledger>(
+        alloc: Global,
+        validation: Validation,
+        nested: &mut Steps<M>,
+        steps: &mut Steps<L>,
+    ) -> Result<ScriptRun, Memory>
+        requires { Stands validation }
+        ensures opened { (limits : LimitsOf) (format : FormatOf) (s : ScriptState)
+            → IsValidation limits format s validation → IfOk result (IsScriptRun limits format s) }
+        ensures names { IfOk result (λ script. script.document ≡ validation.document) }
+        ensures format { IfOk result (λ script. script.format ≡ validation.format) }
+        ensures line { IfOk result (λ script. script.line ≡ 0) }
+        ensures work { (limits : LimitsOf) (format : FormatOf) (s : ScriptState)
+            → IsValidation limits format s validation
+            → OnOk result (steps.new ≡ steps.old + (first_work s).evaluated) }
+        ensures nested { nested.new ≡ nested.old }
+    {
+        // The order in which the graph is stored makes no difference.
+        same_graphs_answer_alike();
+        let Validation {
+            graph,
+            document,
+            plan,
+            format,
+            ..
+        } = validation;
+        let engine = Engine::open(alloc, plan, graph, nested, steps)?;
+        Ok(ScriptRun {
+            engine,
+            document,
+            format,
+            line: 0,
+            refused: false,
+        })
+    }
+
+    /// The counts of the graph as it is now. They are kept, so this takes constant time and no memory.
+    pub fn count(&self) -> Answer
+        ensures { (manner : Manner) (s : ScriptState) → IsScriptRun manner.limits manner.format s self.now
+            → result ≡ count_answer s }
+    {
+        same_graphs_answer_alike();
+        Answer::Count {
+            triples: self.engine.view().len(),
+            pairs: self.engine.pair_count(),
+            results: self.engine.result_count(),
+        }
+    }
+
+    /// How the run ends where this was the last line.
+    pub fn status(&self) -> Status
+        ensures is { (manner : Manner) (s : ScriptState) → IsScriptRun manner.limits manner.format s self.now
+            → result ≡ status_of_state s }
+        ensures reported { IsReported result }
+    {
+        same_graphs_answer_alike();
+        let _ = self.engine.view();
+        if self.refused {
+            Status::LinesRefused
+        } else if self.engine.conforms() {
+            Status::Conforms
+        } else {
+            Status::Violates
+        }
+    }
+}

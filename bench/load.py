@@ -133,4 +133,5 @@ def main():
             loads(folder, empty, out, counts or [10000, 100000, 1000000, 4000000])
 
 
-main()
+if __name__ == "__main__":
+    main()

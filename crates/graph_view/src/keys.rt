@@ -12,8 +12,11 @@ use indexmap::IndexSet;
 use shx_term::{Memory, Triple};
 use std::alloc::Global;
 
-/// How many keys lie side by side at most.
+/// How many keys lie side by side at most while a set grows.
 const FEW: usize = 16;
+
+/// How many may be packed side by side: what is kept is asked seldom, and a hash takes thrice the memory.
+const PACKED: usize = 64;
 
 /// Most sets have a few keys: these take one allocation, of 12 bytes a key.
 pub(crate) enum Keys {
@@ -89,6 +92,16 @@ impl Keys {
                 Ok(())
             }
         }
+    }
+
+    /// Lays the keys side by side in no more memory than they need, where they are not too many.
+    pub(crate) fn pack(&mut self, alloc: Global) -> Result<(), Memory>
+        ensures { held_keys self.new ≡ held_keys self.old }
+    {
+        if self.as_slice().len() <= PACKED {
+            *self = Keys::Few(Vec::from_slice(alloc, self.as_slice())?);
+        }
+        Ok(())
     }
 
     /// Takes all keys out, and keeps the memory.

@@ -13,7 +13,8 @@ use std::marker::Model;
 
 /// The keys that were read, each once. Contracts see them as a list, and speak of its members alone.
 ///
-/// Up to 16 keys take 12 bytes each in one allocation, and are searched; more are found by hash.
+/// Up to 16 keys take 12 bytes each in one allocation, and are searched; more are found by hash. Once they are
+/// packed, up to 64 are searched.
 #[derive(Drop)]
 pub struct Reads {
     keys: Keys,
@@ -101,6 +102,14 @@ impl Reads {
         ensures { slice_get self.now at ≡ Some result.now }
     {
         &self.keys()[at]
+    }
+
+    /// Gives back the memory that is not needed, where there are up to 64 keys: then they take 12 bytes each.
+    /// It takes linear time.
+    pub fn pack(&mut self, alloc: Global) -> Result<(), Memory>
+        ensures { self.new ≡ self.old }
+    {
+        self.keys.pack(alloc)
     }
 
     /// Takes all keys out, and keeps the memory.

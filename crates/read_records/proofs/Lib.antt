@@ -1,4 +1,6 @@
+pub mod GatheredLemmas
 pub mod RangeLemmas
+pub mod ReachedLemmas
 pub mod ReadingLemmas
-pub mod RecordLemmas
+pub mod StoreLemmas
 pub mod TouchedLemmas

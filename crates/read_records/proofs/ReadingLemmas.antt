@@ -1,12 +1,12 @@
 -- Readings: their order tells them apart; one more of them, one less, and what stays.
-use Rattle.std.specs.Prelude.{◌≡◌, ℕ, ◌+◌, ◌<◌, Bool, true, false, List, [], ◌∷◌, length, take}
+use Rattle.std.specs.Prelude.{◌≡◌, ℕ, ◌+◌, ◌<◌, Bool, true, false, List, [], ◌∷◌, ◌++◌, length, take}
 use Rattle.std.specs.Prelude.{if◌then◌else◌, Contains, ◌↔◌, ◌⊎◌}
 use Rattle.std.specs.Cmp.{IsEquivalence, IsTotalOrder, eq_by_cmp_equiv, on_total, then_total}
 use Rattle.std.specs.List.{list_any}
 use Rattle.std.specs.Ordering.{eq_by_cmp, is_eq, ordering_then}
 use Rattle.std.specs.declared.cmp.Ordering.{Ordering}
 use Rattle.std.specs.declared.cmp.Ordering.TheVariants.{Less, Equal, Greater}
-use Rattle.std.proofs.Common.{refl, ap, ◌∙◌, inl, inr, get_or}
+use Rattle.std.proofs.Common.{refl, sym, ap, ◌∙◌, subst, inl, inr, get_or}
 use Rattle.std.proofs.lemmas.List.{take_more}
 use Rattle.std.proofs.lemmas.List.Elements.{Contains-append_left, Contains-append_right}
 use Rattle.std.proofs.lemmas.List.Elements.{Contains-append_cases}
@@ -55,10 +55,10 @@ reading_cmp_exact x y e =
 abbrev pub same_reading : Reading → Reading → Bool
 same_reading x y = eq_by_cmp reading_cmp x y
 
-same_reading_equiv : IsEquivalence same_reading
+pub same_reading_equiv : IsEquivalence same_reading
 same_reading_equiv = eq_by_cmp_equiv reading_cmp_total
 
-same_reading_exact : (x y : Reading) → same_reading x y ≡ true → x ≡ y
+pub same_reading_exact : (x y : Reading) → same_reading x y ≡ true → x ≡ y
 same_reading_exact = tells_apart reading_cmp_exact
 
 -- ---- one more, and one less
@@ -75,6 +75,17 @@ Adds-reading old new x entered = record {
       );
 }
 
+pub Adds-pushed : (xs : List Reading) (x : Reading) → Adds xs (xs ++ x ∷ []) (x ∷ [])
+Adds-pushed xs x = record {
+  each = λ y. (
+    λ c. Contains-append_cases xs (x ∷ []) y c,
+    λ h. elim h [
+      | inl c ↦ Contains-append_left xs (x ∷ []) y c
+      | inr c ↦ Contains-append_right xs (x ∷ []) y c
+    ],
+  );
+}
+
 pub IsLeft-reading : (old new : List Reading) (x : Reading)
     → ((y : Reading) → list_any (same_reading y) new
     ≡ (if same_reading x y then false else list_any (same_reading y) old))
@@ -84,6 +95,9 @@ IsLeft-reading old new x removed = record {
 }
 
 -- ---- what stays
+
+pub StaysIn-itself : {xs : List Reading} → StaysIn xs xs
+StaysIn-itself = record { each = λ x c. c }
 
 pub StaysIn-then : {old mid new : List Reading} → StaysIn old mid → StaysIn mid new → StaysIn old new
 StaysIn-then first next = record { each = λ x c. next.each x (first.each x c) }
@@ -106,7 +120,19 @@ Contains-taken xs i d inside x = rw (take_more xs i d inside) (
   ],
 )
 
--- under one key more
+-- under one key more, under which it stood
+pub StandsUnderEach-take_held : (keys : List Key) (i : ℕ) (d : Key) (reader : Reader) → i < length keys
+    → {readings : List Reading} → StandsUnderEach readings (take i keys) reader
+    → Contains readings (reading (get_or keys i d) reader)
+    → StandsUnderEach readings (take (i + 1) keys) reader
+StandsUnderEach-take_held keys i d reader inside {readings} before held = record {
+  each = λ key c. elim ((Contains-taken keys i d inside key).0 c) [
+    | inl e ↦ before.each key e
+    | inr same ↦ subst (λ k. Contains readings (reading k reader)) (sym same) held
+  ];
+}
+
+-- under one key more, under which it was entered
 pub StandsUnderEach-take_one : (keys : List Key) (i : ℕ) (d : Key) (reader : Reader) → i < length keys
     → {old new : List Reading} → StandsUnderEach old (take i keys) reader
     → Adds old new (reading (get_or keys i d) reader ∷ []) → StandsUnderEach new (take (i + 1) keys) reader

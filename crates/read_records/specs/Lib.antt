@@ -1,3 +1,4 @@
 pub mod Reader
 pub mod Records
+pub mod Store
 pub mod inner

@@ -5,17 +5,25 @@
 //! |---|---|
 //! | `records.rt` | `Records`: what each reader has read; changes are staged, and made at once |
 //! | `reader.rt` | `Reader`: the target of a shape, or a pair |
+//! | `store.rt` | `Store`: for each reader a value beside its keys; `Records` is one with no value |
+//! | `noted.rt` | `Noted`: a value, and the keys that were read for it |
+//! | `notes.rt` | what is noted for each reader, and under which keys it stands for that |
 //! | `readings.rt` | under each key its readers |
-//! | `entries.rt` | what stands for each reader, and under which keys it stands for that |
+//! | `touched.rt` | the keys that triples touch |
+//! | `gathered.rt` | readings that are gathered, and then put in order at once |
 //!
 //! It stands on `comp_core` for pairs and on `graph_view` for keys. Start with `records.rt`;
 //! `specs/Records.antt` says what is recorded, and whom a triple touches.
 #![tactic(auto)]
 
-mod entries;
+mod gathered;
+mod noted;
+mod notes;
 mod reader;
 mod readings;
 mod records;
+mod store;
+mod touched;
 
 pub use reader::Reader;
 pub use records::Records;

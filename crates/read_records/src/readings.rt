@@ -1,8 +1,9 @@
-ghost use Rattle.std.specs.Prelude.{◌≡◌, ◌↔◌, [], ◌∷◌, Contains, IfOk, OnOk, OnErr};
+ghost use Rattle.std.specs.Prelude.{◌≡◌, ◌↔◌, [], ◌∷◌, All, Contains, IfOk, OnOk, OnErr};
 ghost use Rattle.shx_term.specs.Members.{Adds};
 ghost use Rattle.graph_view.specs.declared.key.Key.{Key};
 ghost use Rattle.read_records.specs.declared.reader.Reader.{Reader};
-ghost use Rattle.read_records.specs.inner.Readings.{HasNumbers, IsLeft, reading, StaysIn, StandsUnderEach};
+ghost use Rattle.read_records.specs.declared.readings.Reading.{Reading};
+ghost use Rattle.read_records.specs.inner.Readings.{HasNumbers, IsLeft, reading};
 
 use crate::Reader;
 use comp_core::Pair;
@@ -56,23 +57,22 @@ impl Readings {
         }
     }
 
+    /// These readings, each once. It sorts them, which takes time `O(n log n)` in their number, and memory
+    /// for them once more.
+    pub(crate) fn of_all(alloc: Global, all: Vec<Reading>) -> Result<Readings, Memory>
+        requires { All HasNumbers all.items }
+        ensures { IfOk result (λ made. (x : Reading) → Contains made x ↔ Contains all.items x) }
+    {
+        let all = all.into_iter().collect(alloc)?;
+        Ok(Readings { all })
+    }
+
     /// Enters a reader under a key. It takes logarithmic time, as `remove` does.
     pub(crate) fn insert(&mut self, key: Key, reader: Reader) -> Result<(), Memory>
         ensures added { OnOk result (Adds self.old self.new (reading key reader ∷ [])) }
         ensures refused { OnErr result (self.new ≡ self.old) }
     {
         self.all.insert(Reading::new(key, reader))?;
-        Ok(())
-    }
-
-    /// Enters a reader under each of these keys. Where memory is refused, it stands under some of them.
-    pub(crate) fn insert_all(&mut self, keys: &[Key], reader: Reader) -> Result<(), Memory>
-        ensures stay { StaysIn self.old self.new }
-        ensures added { OnOk result (StandsUnderEach self.new keys.now reader) }
-    {
-        for key in keys {
-            self.insert(*key, reader)?;
-        }
         Ok(())
     }
 

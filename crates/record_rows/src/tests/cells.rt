@@ -36,6 +36,16 @@ pub(super) fn triple(word: &str) -> Result<Triple, RowFault> {
     })
 }
 
+pub(super) fn triples(alloc: Global, words: &str) -> Result<Vec<Triple>, RowFault> {
+    let mut all = Vec::new(alloc);
+    for word in words.split(' ') {
+        if !word.is_empty() {
+            all.push(triple(word)?)?;
+        }
+    }
+    Ok(all)
+}
+
 /// The key of a triple in which a line stands for what the key leaves open.
 fn key(word: &str) -> Result<Key, RowFault> {
     match in_three(word, ".")? {

@@ -39,6 +39,13 @@ stage 2/1 1.2._; stage 1/9 _.2.3; stage 3 _.2._; stage 1/4 1._._; stage 0 1.2._;
 stage 1/0 _.2._; stage 1 _.2._; stage 0/4294967295 _.2._; stage 4294967295 _.2._; commit; touched 1.2.3 → 1 4294967295 0/4294967295 1/0
 stage 4294967295/4294967295 1._._; commit; touched 1.2.3 → 4294967295/4294967295
 
+== by several triples, added before the bar and removed behind it
+load 1/7 1.2._; changed | →
+load 1/7 1.2._, 1/8 _.2.4, 2 6._._, 3 _.9._; changed 1.2.3 | 6.5.4 → 2 1/7
+load 1/7 1.2._, 1/8 _.2.4, 2 6._._, 3 _.9._; changed | 6.2.4 1.2.3 6.9.4 → 2 3 1/7 1/8
+load 1/7 1.2._ _.2._, 1/8 _.2.4 1._._; changed 1.2.3 1.2.4 1.2.5 | 1.2.6 → 1/7 1/8
+load 1/7 1.2._; stage 1/8 1.2._; changed 1.2.3 | 1.2.4 → 1/7
+
 == what is staged shows at the commit alone
 stage 1/7 1.2._; reads 1/7 → nothing
 stage 1/7 1.2._; touched 1.2.3 →
@@ -54,6 +61,18 @@ stage 1/7 1.2._; commit; stage 1/7 5._._; commit; touched 1.2.3 →
 stage 1/7 1.2._; commit; stage 1/7 5._._; commit; touched 5.2.3 → 1/7
 stage 1/7 1.2._ 5._._; commit; stage 1/7 5._._ _.6._; commit; touched 5.6.3 → 1/7
 stage 1/7 1.2._; stage 1/8 1.2._; commit; stage 1/7 5._._; commit; touched 1.2.3 → 1/8
+
+== loaded at once
+load 1/7 1.2._; reads 1/7 → 1.2._
+load 1/7 1.2._; reads 1 → nothing
+load 1/7, 1 _.2.3; reads 1/7 →
+load 1/7, 1 _.2.3; touched 1.2.3 → 1
+load 2/1 1.2._ 5._._, 1/9 _.2.3, 3 _.2._, 1/4 1._._, 0 1.2._; touched 1.2.3 → 0 3 1/4 1/9 2/1
+load 2/1 1.2._ 5._._, 1/9 _.2.3, 3 _.2._, 1/4 1._._, 0 1.2._; touched 5.6.7 → 2/1
+load 1/7 1.2._, 1/8 1.2._; stage 1/7 5._._; touched 1.2.3 → 1/7 1/8
+load 1/7 1.2._, 1/8 1.2._; stage 1/7 5._._; commit; touched 1.2.3 → 1/8
+load 1/7 1.2._; remove 1/7; commit; touched 1.2.3 →
+load 1/7 1.2._; commit; drop; reads 1/7 → 1.2._
 
 == a removal
 stage 1/7 1.2._; commit; remove 1/7; commit; reads 1/7 → nothing

@@ -1,0 +1,123 @@
+-- What is gathered from notes: whoever has read a key stands under it; and a tree that is made of a list.
+use Rattle.std.specs.Prelude.{◌≡◌, List, [], ◌∷◌, Option, Some, None, All, Contains, map, ◌↔◌, ◌⊎◌}
+use Rattle.std.specs.BTreeMap as tree
+use Rattle.std.specs.BTreeMap.{BTreeMap}
+use Rattle.std.specs.BTreeSet.{BTreeSet, IsFromIterResult}
+use Rattle.std.specs.Cmp.{eq_by_cmp_equiv}
+use Rattle.std.specs.List.{IsDistinct}
+use Rattle.std.specs.Map.{keys_of, lookup}
+use Rattle.std.specs.Option.{option_map}
+use Rattle.std.specs.Ordering.{eq_by_cmp}
+use Rattle.std.proofs.Common.{refl, sym, ap, ◌∙◌, subst, inl, inr}
+use Rattle.std.proofs.lemmas.Map.Made.{keys_of-map_values, lookup-map_values, update_all_none}
+use Rattle.std.proofs.lemmas.Map.Views.{Contains-from_lookup, tells_apart}
+use Rattle.shx_term.proofs.MemberLemmas.{All_of_each, Contains-cases, Contains-test, each_of_All}
+use Rattle.shx_term.proofs.MemberLemmas.{none_in_empty}
+use Rattle.graph_view.specs.declared.key.Key.{Key}
+use Rattle.read_records.proofs.ReadingLemmas.{reader_cmp_exact, same_reading_equiv, same_reading_exact}
+use Rattle.read_records.proofs.ReadingLemmas.{same_reading}
+use Rattle.read_records.proofs.StoreLemmas.{is_at, kept_recorded}
+use Rattle.read_records.specs.declared.noted.Noted.{Noted}
+use Rattle.read_records.specs.declared.reader.Reader.{Reader}
+use Rattle.read_records.specs.declared.readings.Reading.{Reading}
+use Rattle.read_records.specs.Reader.{reader_cmp, same_reader}
+use Rattle.read_records.specs.Records.{reads_of}
+use Rattle.read_records.specs.Store.{Notes, if_noted}
+use Rattle.read_records.specs.inner.Notes.{AreUnder, as_recorded, reads_noted}
+use Rattle.read_records.specs.inner.ReaderLaws.{reader_cmp_ties, reader_cmp_total}
+use Rattle.read_records.specs.inner.Readings.{HasNumbers, StandsUnderEach, StaysIn, reading, reading_cmp}
+
+-- ---- a tree that is made of a list
+
+pub Contains-collected : (xs : List Reading) (set : BTreeSet Reading) → IsFromIterResult reading_cmp xs set
+    → (x : Reading) → Contains set.keys x ↔ Contains xs x
+Contains-collected xs set made x =
+    let held = Contains-test same_reading same_reading_equiv same_reading_exact set.keys x in
+    let given = Contains-test same_reading same_reading_equiv same_reading_exact xs x in (
+      λ c. given.0 (sym (made.0 x) ∙ held.1 c),
+      λ c. held.0 (made.0 x ∙ given.1 c),
+    )
+
+pub HasNumbers-collected : (xs : List Reading) (set : BTreeSet Reading) → IsFromIterResult reading_cmp xs set
+    → All HasNumbers xs → All HasNumbers set.keys
+HasNumbers-collected xs set made numbers =
+    All_of_each HasNumbers set.keys
+    (λ x c. each_of_All HasNumbers xs numbers x ((Contains-collected xs set made x).0 c))
+
+-- ---- the readings of notes
+
+module _ {T : Type 0} where
+  -- of the entries that are not left, the readings were gathered
+  pub record AreGathered (all left : Notes (Noted T)) (readings : List Reading) : Type 0 where
+    pub each : (reader : Reader) (noted : Noted T) → Contains all (reader, Some noted)
+        → Contains left (reader, Some noted) ⊎ StandsUnderEach readings noted.reads reader
+
+  pub AreGathered-none : (all : Notes (Noted T)) (readings : List Reading) → AreGathered all all readings
+  AreGathered-none all readings = record { each = λ reader noted c. inl c }
+
+  -- one entry less is left
+  pub AreGathered-next : {all left next : Notes (Noted T)} {old new : List Reading} (reader : Reader)
+      (entry : Option (Noted T)) → left ≡ (reader, entry) ∷ next → StaysIn old new
+      → ((noted : Noted T) → entry ≡ Some noted → StandsUnderEach new noted.reads reader)
+      → AreGathered all left old → AreGathered all next new
+  AreGathered-next {next = next} {new = new} reader entry is stays stands before = record {
+    each = λ other noted c. elim (before.each other noted c) [
+      | inl there ↦
+          elim (Contains-cases (reader, entry) (other, Some noted) next
+          (subst (λ es. Contains es (other, Some noted)) is there)) [
+            | inl same ↦ inr (subst (StandsUnderEach new noted.reads) (sym (ap (λ e. e.0) same))
+                (stands noted (sym (ap (λ e. e.1) same))))
+            | inr later ↦ inl later
+          ]
+      | inr under ↦ inr (record { each = λ key c. stays.each (reading key other) (under.each key c) })
+    ];
+  }
+
+  pub same_noted : {a b : Noted T} → Some a ≡ Some b → a.reads ≡ b.reads
+  same_noted is = cc
+
+  -- once none is left, whoever has read a key stands under it
+  pub AreUnder-gathered : {all left : Notes (Noted T)} {readings : List Reading}
+      → AreGathered all left readings → left ≡ [] → AreUnder all readings
+  AreUnder-gathered {all} {left} {readings} gathered none = record {
+    each = λ reader key has. elim (gathered.each reader has.noted
+        (Contains-from_lookup (tells_apart reader_cmp_exact) reader (Some has.noted) all has.stands)) [
+          | inl there ↦
+              absurd (none_in_empty _ (subst (λ es. Contains es (reader, Some has.noted)) none there))
+          | inr under ↦ under.each key has.read
+        ];
+  }
+
+-- ---- what is recorded of a list of readers and their reads
+
+abbrev pub without_value : Option (List Key) → Option (Noted (Unit {0}))
+without_value reads = option_map (λ keys. record { value = tt; reads = keys }) reads
+
+abbrev pub as_note : Reader × List Key → Reader × Option (Noted (Unit {0}))
+as_note e = (e.0, without_value (Some e.1))
+
+distinct_at : (readers : List Reader) → IsDistinct same_reader readers
+    → IsDistinct (eq_by_cmp reader_cmp) readers
+distinct_at readers once = subst (λ eq. IsDistinct eq readers) (λ i a b. reader_cmp_ties a b i) once
+
+-- exactly these are recorded
+pub recorded_of_all : (all : List (Reader × List Key)) (kept : BTreeMap Reader (Option (Noted (Unit {0}))))
+    → tree.IsFromIterResult reader_cmp (map as_note all) kept → IsDistinct same_reader (keys_of all)
+    → (reader : Reader)
+    → reads_of (as_recorded (record { kept = kept.entries; staged = [] })) reader
+    ≡ lookup (eq_by_cmp reader_cmp reader) all
+recorded_of_all all kept made once reader =
+    kept_recorded (record { kept = kept.entries; staged = [] }) reader
+    ∙ ap (λ entry. reads_noted (if_noted entry))
+    (made.0 reader
+    ∙ update_all_none (eq_by_cmp_equiv reader_cmp_total) (eq_by_cmp reader_cmp) (λ x y. refl)
+    (map as_note all) reader
+    (subst (IsDistinct (eq_by_cmp reader_cmp)) (sym (keys_of-map_values (λ r. without_value (Some r)) all))
+    (distinct_at (keys_of all) once))
+    ∙ lookup-map_values (λ r. without_value (Some r)) (is_at reader) all)
+    ∙ back (lookup (is_at reader) all)
+  where
+    back : (found : Option (List Key))
+        → reads_noted (if_noted (option_map (λ r. without_value (Some r)) found)) ≡ found
+    back None = refl
+    back (Some reads) = refl

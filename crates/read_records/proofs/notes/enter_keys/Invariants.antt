@@ -1,0 +1,7 @@
+use Rattle.std.specs.Prelude.{take}
+use Rattle.read_records.specs.inner.Readings.{StaysIn, StandsUnderEach}
+use Rattle.read_records.proofs.notes.enter_keys.Given as goal
+
+abbrev pub invariant-loop-key : goal.invariant-loop-key
+invariant-loop-key g l =
+    StaysIn l.fn.readings l.readings × StandsUnderEach l.readings (take l.key-index l.keys) l.reader

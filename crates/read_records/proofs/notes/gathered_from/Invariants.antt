@@ -1,0 +1,5 @@
+use Rattle.read_records.proofs.GatheredLemmas.{AreGathered}
+use Rattle.read_records.proofs.notes.gathered_from.Given as goal
+
+abbrev pub invariant-loop-reader : goal.invariant-loop-reader
+invariant-loop-reader g l = AreGathered l.fn.notes.entries l.reader-iterator l.gathered

@@ -1,7 +1,0 @@
-use Rattle.std.specs.Prelude.{take}
-use Rattle.read_records.specs.inner.Readings.{StaysIn, StandsUnderEach}
-use Rattle.read_records.proofs.readings.Readings.insert_all.Given as goal
-
-abbrev pub invariant-loop-key : goal.invariant-loop-key
-invariant-loop-key l =
-    StaysIn l.fn.self l.self × StandsUnderEach l.self (take l.key-index l.keys) l.reader

@@ -1,0 +1,54 @@
+-- Notes of readers: a value and the keys that were read for it; and whether whoever has read a key stands
+-- under it.
+use Rattle.std.specs.Prelude.{◌≡◌, List, Option, Some, None, Contains, IsSome, map}
+use Rattle.std.specs.Option.{option_map}
+use Rattle.graph_view.specs.declared.key.Key.{Key}
+use Rattle.read_records.specs.declared.noted.Noted.{Noted}
+use Rattle.read_records.specs.declared.reader.Reader.{Reader}
+use Rattle.read_records.specs.declared.readings.Reading.{Reading}
+use Rattle.read_records.specs.Records.{Recorded}
+use Rattle.read_records.specs.Store.{Notes, Stored, coming_for, if_noted, note_at}
+use Rattle.read_records.specs.inner.Readings.{StandsUnderEach, reading}
+
+module _ {T : Type 0} where
+  -- the keys that were read, without what is noted beside them
+  abbrev pub reads_noted : Option (Noted T) → Option (List Key)
+  reads_noted noted = option_map (λ n. n.reads) noted
+
+  abbrev pub all_reads : Notes (Noted T) → Notes (List Key)
+  all_reads notes = map (λ e. (e.0, reads_noted e.1)) notes
+
+  abbrev pub as_recorded : Stored (Noted T) → Recorded
+  as_recorded state = record { kept = all_reads state.kept; staged = all_reads state.staged }
+
+  -- under each key that stands for it somewhere, if any does
+  abbrev pub StandsFor : List Reading → Option (Noted T) → Reader → Type 0
+  StandsFor readings None reader = Unit
+  StandsFor readings (Some noted) reader = StandsUnderEach readings noted.reads reader
+
+  -- a key is among those of an entry
+  pub record HasKey (entry : Option (Option (Noted T))) (key : Key) : Type 0 where
+    pub noted : Noted T
+    pub stands : entry ≡ Some (Some noted)
+    pub read : Contains noted.reads key
+
+  -- a key is among those that stand for a reader
+  abbrev pub HasNoted : Notes (Noted T) → Reader → Key → Type 0
+  HasNoted notes reader key = HasKey (note_at notes reader) key
+
+  -- whoever has read a key stands under it
+  pub record AreUnder (notes : Notes (Noted T)) (readings : List Reading) : Type 0 where
+    pub each : (reader : Reader) (key : Key) → HasNoted notes reader key
+        → Contains readings (reading key reader)
+
+  -- whoever has an entry among the first has one among the second
+  pub record HavePlaces (first second : Notes (Noted T)) : Type 0 where
+    pub each : (reader : Reader) → IsSome (note_at first reader) → IsSome (note_at second reader)
+
+  -- the same stands for each
+  pub record SameNoted (old new : Notes (Noted T)) : Type 0 where
+    pub each : (reader : Reader) → if_noted (note_at new reader) ≡ if_noted (note_at old reader)
+
+  -- what is staged, made, comes to the same
+  pub record ComesToSame (old new : Stored (Noted T)) : Type 0 where
+    pub each : (reader : Reader) → coming_for new reader ≡ coming_for old reader

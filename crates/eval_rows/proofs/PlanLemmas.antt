@@ -8,7 +8,7 @@ use Rattle.std.specs.declared.cmp.Ordering.{Ordering}
 use Rattle.std.proofs.Common.{refl, sym, ap, ◌∙◌, subst, arith, inl, inr, append-nil}
 use Rattle.std.proofs.lemmas.Grind.{flat_map-append}
 use Rattle.std.proofs.lemmas.List.{length_push, map-append}
-use Rattle.std.proofs.lemmas.List.Elements.{All-append, All-map, All-nil, All-push}
+use Rattle.std.proofs.lemmas.List.Elements.{All-append, All-cons, All-map, All-nil, All-push}
 use Rattle.std.proofs.lemmas.Map.Keys.{IsDistinct-cons}
 use Rattle.std.proofs.lemmas.Map.Views.{exact_unsigned_eq}
 use Rattle.std.proofs.lemmas.Option.{get_or_from_slice_get, slice_get_within}
@@ -20,7 +20,7 @@ use Rattle.shape_order.specs.Levels.{HasSteps}
 use Rattle.shape_order.specs.Refs.{Refers}
 use Rattle.shape_eval.specs.declared.constraint.Constraint.{Constraint}
 use Rattle.shape_eval.specs.declared.shape.PlanShape.{PlanShape}
-use Rattle.shape_eval.specs.Constraint.{constraint_numbers, shapes_named}
+use Rattle.shape_eval.specs.Constraint.{members_of, numbers_stated, parameter_of, shapes_named}
 use Rattle.shape_eval.specs.Plan.{AreInOrder, HasTermsOf, IsKnownPlan, IsOrderly, IsPlan, RefersLower}
 use Rattle.shape_eval.specs.Plan.{StandsBefore, names_of, nodes_of, references, target_number}
 use Rattle.eval_rows.specs.Fits.{Fits, FitsBelow, FitsMaybe, FitTogether}
@@ -73,7 +73,8 @@ pub together_more : (terms : List Term) (n : ℕ) (cs : List Constraint) (c : Co
     → FitTogether terms n cs → FitsBelow (length terms) n c → All (λ b. StandsBefore terms b c) cs
     → FitTogether terms n (cs ++ c ∷ [])
 together_more terms n cs c before fits last = record {
-  known = all_more (λ id. id < length terms) constraint_numbers cs c before.known fits.known;
+  known = all_more (λ id. id < length terms) numbers_stated cs c before.known
+      (All-cons (λ id. id < length terms) (parameter_of c) (members_of c) fits.parameter fits.members);
   lower = all_more (λ i. i < n) shapes_named cs c before.lower fits.lower;
   order = order_more terms cs c before.order last;
 }

@@ -5,7 +5,7 @@ use Rattle.path_eval.specs.declared.path.Path.{Path}
 use Rattle.path_eval.specs.Route.{nesting, predicates_in, route_of}
 use Rattle.shape_eval.specs.declared.constraint.Constraint.{Constraint}
 use Rattle.shape_eval.specs.declared.shape.PlanShape.{PlanShape}
-use Rattle.shape_eval.specs.Constraint.{constraint_numbers, shapes_named}
+use Rattle.shape_eval.specs.Constraint.{members_of, numbers_stated, parameter_of, shapes_named}
 use Rattle.shape_eval.specs.Plan.{AreInOrder, HasTermsOf, IsOrderly, path_nesting}
 use Rattle.shape_eval.specs.Plan.{path_numbers}
 
@@ -21,12 +21,13 @@ pub record FitsMaybe (count : ℕ) (path : Option Path) : Type 0 where
 
 -- a constraint over so many terms, of the shape of this number
 pub record FitsBelow (count n : ℕ) (c : Constraint) : Type 0 where
-  pub known : All (λ id. id < count) (constraint_numbers c)
+  pub parameter : parameter_of c < count
+  pub members : All (λ id. id < count) (members_of c)
   pub lower : All (λ i. i < n) (shapes_named c)
 
 -- constraints of the shape of this number
 pub record FitTogether (terms : List Term) (n : ℕ) (cs : List Constraint) : Type 0 where
-  pub known : All (λ id. id < length terms) (flat_map constraint_numbers cs)
+  pub known : All (λ id. id < length terms) (flat_map numbers_stated cs)
   pub lower : All (λ i. i < n) (flat_map shapes_named cs)
   pub order : AreInOrder terms cs
 

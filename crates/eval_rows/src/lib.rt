@@ -13,6 +13,7 @@
 //! | `tests/results.rt` | results as the tables write them |
 //! | `tests/pairs.rt` | going over the tables of pairs |
 //! | `tests/targets.rt` | going over the tables of targets |
+//! | `tests/numbers.rt` | the numbers of shapes, by their nodes |
 //! | `tests/orders.rt` | orders of shapes by what they refer to, which `shape_order` finds |
 //!
 //! It stands on `shape_eval`, `shape_order` and the four crates of components, on `path_eval`,

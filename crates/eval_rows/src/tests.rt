@@ -1,6 +1,7 @@
 mod cells;
 mod constraints;
 mod graphs;
+mod numbers;
 mod order;
 mod orders;
 mod pairs;

@@ -1,15 +1,16 @@
 -- What a constraint says tells its numbers, and which shapes it names.
-use Rattle.std.specs.Prelude.{◌≡◌, ℕ, List, [], ◌∷◌, Option, Contains, ◌⊎◌, map, slice_get}
-use Rattle.std.proofs.Common.{inl, inr}
-use Rattle.shx_term.proofs.MemberLemmas.{Contains-map, Contains-one, none_in_empty}
-use Rattle.shape_eval.specs.Constraint.{constraint_numbers, parameter_of, shapes_named}
+use Rattle.std.specs.Prelude.{◌≡◌, ℕ, List, [], ◌∷◌, ◌++◌, Option, Contains, map, slice_get}
+use Rattle.std.proofs.Common.{refl}
+use Rattle.shx_term.proofs.MemberLemmas.{Contains-map, none_in_empty}
+use Rattle.shape_eval.specs.Constraint.{members_of, shapes_named}
 use Rattle.shape_eval.specs.declared.constraint.Constraint.{Constraint}
 use Rattle.shape_eval.specs.declared.constraint.Constraint.TheVariants as any
-use Rattle.shape_compile.specs.Constraints.{Content, Members, Names, content_of}
+use Rattle.shape_compile.specs.Constraints.{Content, Members, Names, Permits, content_of}
 
--- the members of a list that it says
+-- the members of a list that it says, or what it permits and ignores
 abbrev pub members_in : Content → List ℕ
 members_in (Members members) = members
+members_in (Permits permitted ignored) = permitted ++ ignored
 members_in content = []
 
 -- the nodes of the shapes that it names
@@ -18,27 +19,12 @@ names_in (Names names) = names
 names_in content = []
 
 module _ (nodes : List ℕ) where
-  -- a number whose term matters is the parameter, or a member of the list
-  abbrev IsSaid : Constraint → ℕ → Type 0
-  IsSaid c n = (n ≡ parameter_of c) ⊎ Contains (members_in (content_of nodes c)) n
-
-  the_value : (value n : ℕ) {P : Type 0} → Contains (value ∷ []) n → (n ≡ value) ⊎ P
-  the_value value n c = inl ((Contains-one value n).0 c)
-
-  pub number_said : (c : Constraint) (n : ℕ) → Contains (constraint_numbers c) n → IsSaid c n
-  number_said (any.Datatype c) n i = the_value c.value n i
-  number_said (any.MinCount c) n i = the_value c.value n i
-  number_said (any.MaxCount c) n i = the_value c.value n i
-  number_said (any.MinExclusive c) n i = the_value c.value n i
-  number_said (any.MinInclusive c) n i = the_value c.value n i
-  number_said (any.MaxExclusive c) n i = the_value c.value n i
-  number_said (any.MaxInclusive c) n i = the_value c.value n i
-  number_said (any.MinLength c) n i = the_value c.value n i
-  number_said (any.MaxLength c) n i = the_value c.value n i
-  number_said (any.LanguageIn c) n i = inr i
-  number_said (any.QualifiedMinCount c) n i = the_value c.value n i
-  number_said (any.QualifiedMaxCount c) n i = the_value c.value n i
-  number_said c n i = absurd (none_in_empty n i)
+  -- all but its parameter that has a term
+  pub members_said : (c : Constraint) → members_in (content_of nodes c) ≡ members_of c
+  members_said (any.LanguageIn c) = refl
+  members_said (any.Closed c) = refl
+  members_said (any.In c) = refl
+  members_said c = refl
 
   -- a shape is named by its node
   abbrev IsNamed : Constraint → ℕ → Type 0

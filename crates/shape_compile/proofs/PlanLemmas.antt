@@ -5,7 +5,7 @@ use Rattle.std.specs.Prelude.{None, All, Contains, ◌++◌, ◌&&◌}
 use Rattle.std.specs.List.{AllPairs}
 use Rattle.std.specs.List.Sorted.{IsStrictlySortedBy}
 use Rattle.std.specs.Option.{option_map, unwrap_or}
-use Rattle.std.proofs.Common.{refl, sym, ap, ◌∙◌, subst, arith, get_or, inl, inr}
+use Rattle.std.proofs.Common.{refl, sym, ap, ◌∙◌, subst, arith, get_or}
 use Rattle.std.proofs.lemmas.Bool.{eq-eqb}
 use Rattle.std.proofs.lemmas.List.{length-map}
 use Rattle.std.proofs.lemmas.List.Elements.{All-append, All-cons, All-map, All-nil}
@@ -29,7 +29,7 @@ use Rattle.shape_order.specs.Refs.{Refers}
 use Rattle.shape_refs.specs.Order.{IsShapeOrder}
 use Rattle.shape_refs.specs.Outcome.{AreInReach}
 use Rattle.shape_refs.specs.References.{declared_at, references_of, refers_to}
-use Rattle.shape_eval.specs.Constraint.{constraint_numbers, shapes_named}
+use Rattle.shape_eval.specs.Constraint.{members_of, numbers_stated, parameter_of, shapes_named}
 use Rattle.shape_eval.specs.Plan.{HasTermsOf, IsOrderly, IsPlan, RefersLower, StandsBefore}
 use Rattle.shape_eval.specs.Plan.{Planned, planned}
 use Rattle.shape_eval.specs.Plan.{names_of, nodes_of, path_nesting, path_numbers, references, target_number}
@@ -42,7 +42,7 @@ use Rattle.shape_compile.specs.Constraints.{said_by}
 use Rattle.shape_compile.specs.Meaning.{PlanMeans, ShapeMeans, own_class, targets_stated}
 use Rattle.shape_compile.specs.Patterns.{AreRead}
 use Rattle.shape_compile.specs.inner.Ready.{AreKnown, AreReady, IsReady}
-use Rattle.shape_compile.proofs.ContentLemmas.{number_said, shape_said}
+use Rattle.shape_compile.proofs.ContentLemmas.{members_said, shape_said}
 use Rattle.shape_compile.proofs.OrderedLemmas.{AllPairs-from_map, Precedes}
 use Rattle.shape_compile.proofs.PlaceLemmas.{Contains-place, place_before}
 use Rattle.shape_compile.proofs.StatedLemmas.{IsSound, all_said}
@@ -57,15 +57,18 @@ fewer_steps to (suc k) (suc m) i h steps =
 -- ---- one shape
 
 module _ (limits : Limits) (terms : List Term) (ds : List Declaration) (nodes : List ℕ) (d : Declaration)
-    (ready : IsReady limits terms d) (sh : PlanShape) (node : sh.node ≡ d.node)
-    (means : ShapeMeans terms ds nodes d sh) where
+    (all_ready : (e : Declaration) → Contains ds e → IsReady limits terms e) (is_declared : Contains ds d)
+    (sh : PlanShape) (node : sh.node ≡ d.node) (means : ShapeMeans terms ds nodes d sh) where
+  ready : IsReady limits terms d
+  ready = all_ready d is_declared
+
   abbrev cs : List Constraint
   cs = sh.constraints.items
 
   said_here : (c : Constraint) → Contains cs c
       → IsSound terms (references_of terms ds d) (said_by nodes c)
   said_here c i =
-      (all_said limits terms ds d ready).each (said_by nodes c)
+      (all_said limits terms ds d all_ready is_declared).each (said_by nodes c)
       (subst (λ ss. Contains ss (said_by nodes c)) means.constraints (Contains-map (said_by nodes) cs c i))
 
   -- ---- its numbers
@@ -101,15 +104,15 @@ module _ (limits : Limits) (terms : List Term) (ds : List Declaration) (nodes : 
       (All-map IsKnownTarget target.ObjectsOf objects
       (ready.values SH_TARGET_OBJECTS_OF (omega arith)).known)))
 
-  numbers_known : AreKnown terms (flat_map constraint_numbers cs)
+  numbers_known : AreKnown terms (flat_map numbers_stated cs)
   numbers_known =
-      All_of_each (λ id. id < length terms) (flat_map constraint_numbers cs) (λ id i.
-      let at = Contains-from_flat_map constraint_numbers cs id i in
-      let sound = said_here at.0 at.1 in
-      elim (number_said nodes at.0 id at.2) [
-        | inl e ↦ subst (λ n. n < length terms) (sym e) sound.parameter
-        | inr member ↦ each_of_All (λ n. n < length terms) _ sound.members id member
-      ])
+      All_of_each (λ id. id < length terms) (flat_map numbers_stated cs) (λ id i.
+      let at = Contains-from_flat_map numbers_stated cs id i in
+      let c = at.0 in
+      let sound = said_here c at.1 in
+      each_of_All (λ n. n < length terms) (numbers_stated c)
+      (All-cons (λ n. n < length terms) (parameter_of c) (members_of c) sound.parameter
+      (subst (AreKnown terms) (members_said nodes c) sound.members)) id at.2)
 
   path_within : (path : Option Path) → option_map (λ p. Read (route_of p)) path ≡ d.path
       → AreKnown terms (path_numbers path) × (path_nesting path ≤ limits.path_depth)
@@ -136,7 +139,8 @@ module _ (limits : Limits) (terms : List Term) (ds : List Declaration) (nodes : 
   in_turn : AllPairs (StandsBefore terms) cs
   in_turn =
       AllPairs-from_map (Precedes terms) (said_by nodes) cs
-      (subst (AllPairs (Precedes terms)) (sym means.constraints) (all_said limits terms ds d ready).turn)
+      (subst (AllPairs (Precedes terms)) (sym means.constraints)
+      (all_said limits terms ds d all_ready is_declared).turn)
 
   pub orderly : limits.path_depth ≤ 64 → IsOrderly terms sh
   orderly depth = record {
@@ -186,7 +190,7 @@ module _ (limits : Limits) (terms : List Term) (ds : List Declaration) (ready : 
           let d = from.0 in
           let at = Contains-from_flat_map shapes_named sh.constraints.items j c in
           let sound =
-          said_here limits terms ds numbered d (ready.each d from.1) sh from.2 (means d sh from.1 here from.2)
+          said_here limits terms ds numbered d ready.each from.1 sh from.2 (means d sh from.1 here from.2)
           at.0 at.1 in
           let found = sound.names (slice_get numbered j) (shape_said numbered at.0 j at.2) in
           record {
@@ -252,14 +256,14 @@ module _ (limits : Limits) (terms : List Term) (ds : List Declaration) (ready : 
               let d = (declared sh c).0 in
               let in_ds = (declared sh c).1 in
               let same = (declared sh c).2 in
-              terms_of limits terms ds numbered d (ready.each d in_ds) sh same (means d sh in_ds c same)
+              terms_of limits terms ds numbered d ready.each in_ds sh same (means d sh in_ds c same)
               ready.violation);
         };
         orderly = All_of_each (IsOrderly terms) shapes (λ sh c.
             let d = (declared sh c).0 in
             let in_ds = (declared sh c).1 in
             let same = (declared sh c).2 in
-            orderly limits terms ds numbered d (ready.each d in_ds) sh same (means d sh in_ds c same)
+            orderly limits terms ds numbered d ready.each in_ds sh same (means d sh in_ds c same)
             path_depth);
       }
 

@@ -1,11 +1,12 @@
 -- What a ready declaration states is said in order, and of what has terms and is referred to.
-use Rattle.std.specs.Prelude.{◌≡◌, ℕ, ◌<◌, ◌≤◌, suc, List, [], ◌∷◌, length, map, flat_map, filter}
+use Rattle.std.specs.Prelude.{◌≡◌, ℕ, ◌==◌, ◌<◌, ◌≤◌, suc, List, [], ◌∷◌, length, map, flat_map, filter}
 use Rattle.std.specs.Prelude.{Option, Some, Contains}
 use Rattle.std.specs.List.{AllPairs}
 use Rattle.std.specs.declared.cmp.Ordering.TheVariants.{Less}
 use Rattle.std.proofs.Common.{refl, sym, ap, subst, arith, inl, inr}
 use Rattle.std.proofs.lemmas.List.{append-nil, length-map}
-use Rattle.std.proofs.lemmas.List.Elements.{All-nil, Contains-append_left, Contains-append_right}
+use Rattle.std.proofs.lemmas.List.Elements.{All-append, All-nil, Contains-append_left}
+use Rattle.std.proofs.lemmas.List.Elements.{Contains-append_right}
 use Rattle.std.proofs.lemmas.List.Kept.{AllPairs-filter}
 use Rattle.shx_term.specs.IdOrder.{id_cmp}
 use Rattle.shx_term.specs.declared.limits.Limits.{Limits}
@@ -20,9 +21,9 @@ use Rattle.shx_term.specs.declared.vocabulary.TheConstants.{SH_EQUALS, SH_DISJOI
 use Rattle.shx_term.specs.declared.vocabulary.TheConstants.{SH_LESS_THAN_OR_EQUALS, SH_NOT, SH_AND, SH_OR}
 use Rattle.shx_term.specs.declared.vocabulary.TheConstants.{SH_XONE, SH_QUALIFIED_VALUE_SHAPE}
 use Rattle.shx_term.specs.declared.vocabulary.TheConstants.{SH_QUALIFIED_MIN_COUNT, SH_QUALIFIED_MAX_COUNT}
-use Rattle.shx_term.specs.declared.vocabulary.TheConstants.{SH_HAS_VALUE, SH_IN}
+use Rattle.shx_term.specs.declared.vocabulary.TheConstants.{SH_HAS_VALUE, SH_IGNORED_PROPERTIES, SH_IN}
 use Rattle.shx_term.proofs.MemberLemmas.{Contains-cases, Contains-flat_map, Contains-from_filter}
-use Rattle.shx_term.proofs.MemberLemmas.{Contains-map}
+use Rattle.shx_term.proofs.MemberLemmas.{All_of_each, Contains-map}
 use Rattle.shx_term.proofs.MemberLemmas.{Contains-from_flat_map, Contains-from_map, Contains-one, each_of_All}
 use Rattle.shx_term.proofs.MemberLemmas.{none_in_empty}
 use Rattle.comp_core.specs.declared.kinds.TheConstants.{IN, PATTERN, PROPERTY, OR, CLASS, DATATYPE}
@@ -33,18 +34,22 @@ use Rattle.comp_core.specs.declared.kinds.TheConstants.{UNIQUE_LANG, EQUALS, DIS
 use Rattle.comp_core.specs.declared.kinds.TheConstants.{LESS_THAN_OR_EQUALS, NOT, AND, XONE}
 use Rattle.comp_core.specs.declared.kinds.TheConstants.{QUALIFIED_MIN_COUNT, QUALIFIED_MAX_COUNT, CLOSED}
 use Rattle.comp_core.specs.declared.kinds.TheConstants.{HAS_VALUE}
+use Rattle.path_eval.specs.Route.{Route, along}
 use Rattle.shape_decl.specs.Declarations.{Declaration, ListReading, lists_under, values_under}
+use Rattle.shape_decl.specs.PathReadings.{Read, RouteReading}
 use Rattle.shape_decl.specs.Shapes.{members_or_none}
 use Rattle.shape_decl.specs.Tables.{list_predicates, shape_list_predicates, shape_predicates}
-use Rattle.shape_refs.specs.References.{members_under, named_by, references_of, siblings_of}
+use Rattle.shape_refs.specs.References.{declared_at, members_under, named_by, references_of}
+use Rattle.shape_refs.specs.References.{siblings_of}
 use Rattle.shape_refs.specs.Truth.{is_true}
 use Rattle.shape_compile.specs.Constraints.{Content, Nothing, Matches, Members, Names, Saying, says}
+use Rattle.shape_compile.specs.Constraints.{predicate_of, permitted_by}
 use Rattle.shape_compile.specs.Constraints.{closes, constraints_stated, each_count, each_list, each_pattern}
 use Rattle.shape_compile.specs.Constraints.{each_shape, each_shape_list, each_true, each_value}
 use Rattle.shape_compile.specs.Constraints.{count_constraints, other_constraints, pair_constraints}
 use Rattle.shape_compile.specs.Constraints.{shape_constraints, text_constraints, value_constraints}
 use Rattle.shape_compile.specs.Patterns.{flags_of, text_at}
-use Rattle.shape_compile.specs.inner.Ready.{AreKnown, IsReady}
+use Rattle.shape_compile.specs.inner.Ready.{AreKnown, IsPathWithin, IsReady}
 use Rattle.shape_compile.proofs.ContentLemmas.{members_in, names_in}
 use Rattle.shape_compile.proofs.OrderedLemmas.{AllPairs-from_map, AllPairs-short, AreSaid, AreSaid-append}
 use Rattle.shape_compile.proofs.OrderedLemmas.{AreSaid-mapped, AreSaid-one, Precedes, each_Less}
@@ -56,7 +61,11 @@ pub record IsSound (terms : List Term) (refs : List ℕ) (s : Saying) : Type 0 w
   pub names : (o : Option ℕ) → Contains (names_in s.content) o → (n : ℕ) × (o ≡ Some n) × Contains refs n
 
 module _ (limits : Limits) (terms : List Term) (ds : List Declaration) (d : Declaration)
-    (ready : IsReady limits terms d) where
+    (all_ready : (e : Declaration) → Contains ds e → IsReady limits terms e)
+    (is_declared : Contains ds d) where
+  ready : IsReady limits terms d
+  ready = all_ready d is_declared
+
   abbrev refs : List ℕ
   refs = references_of terms ds d
 
@@ -74,12 +83,15 @@ module _ (limits : Limits) (terms : List Term) (ds : List Declaration) (d : Decl
       → AllPairs (λ a b. id_cmp terms a b ≡ Less) (values_under d p)
   values_rise p in_range = each_Less terms (values_under d p) (ready.values p in_range).sorted
 
-  -- what is neither a list nor names a shape
-  plain : (kind v : ℕ) (content : Content) → members_in content ≡ [] → names_in content ≡ []
+  none_known : AreKnown terms []
+  none_known = All-nil (λ id. id < length terms)
+
+  -- what names no shape
+  plain : (kind v : ℕ) (content : Content) → AreKnown terms (members_in content) → names_in content ≡ []
       → v < length terms → IsHere (says kind content v)
-  plain kind v content no_members no_names known = record {
+  plain kind v content members no_names known = record {
     parameter = known;
-    members = subst (AreKnown terms) (sym no_members) (All-nil (λ id. id < length terms));
+    members = members;
     names = λ o c. absurd (none_in_empty o (subst (λ os. Contains os o) no_names c));
   }
 
@@ -88,15 +100,16 @@ module _ (limits : Limits) (terms : List Term) (ds : List Declaration) (d : Decl
   stated : (kind p : ℕ) → p < VOCABULARY_LEN → AreHere kind (suc kind) (each_value kind (values_under d p))
   stated kind p in_range =
       AreSaid-mapped terms (says kind Nothing) kind (values_under d p) (λ v. refl) (values_rise p in_range)
-      (λ v c. plain kind v Nothing refl refl (value_known p in_range v c))
+      (λ v c. plain kind v Nothing none_known refl (value_known p in_range v c))
 
-  stated_true : (kind p : ℕ) (content : Content) → members_in content ≡ [] → names_in content ≡ []
-      → p < VOCABULARY_LEN → AreHere kind (suc kind) (each_true terms kind content (values_under d p))
-  stated_true kind p content no_members no_names in_range =
+  stated_true : (kind p : ℕ) (content : Content) → AreKnown terms (members_in content)
+      → names_in content ≡ [] → p < VOCABULARY_LEN
+      → AreHere kind (suc kind) (each_true terms kind content (values_under d p))
+  stated_true kind p content members no_names in_range =
       AreSaid-mapped terms (says kind content) kind (filter (is_true terms) (values_under d p)) (λ v. refl)
       (AllPairs-filter (λ a b. id_cmp terms a b ≡ Less) (is_true terms) (values_under d p)
       (values_rise p in_range))
-      (λ v c. plain kind v content no_members no_names
+      (λ v c. plain kind v content members no_names
       (value_known p in_range v (Contains-from_filter (is_true terms) (values_under d p) v c).0))
 
   stated_pattern : AreHere PATTERN (suc PATTERN)
@@ -104,7 +117,7 @@ module _ (limits : Limits) (terms : List Term) (ds : List Declaration) (d : Decl
   stated_pattern =
       AreSaid-mapped terms (λ v. says PATTERN (Matches (text_at terms v) (flags_of terms d)) v) PATTERN
       (values_under d SH_PATTERN) (λ v. refl) (values_rise SH_PATTERN (omega arith))
-      (λ v c. plain PATTERN v (Matches (text_at terms v) (flags_of terms d)) refl refl
+      (λ v c. plain PATTERN v (Matches (text_at terms v) (flags_of terms d)) none_known refl
       (value_known SH_PATTERN (omega arith) v c))
 
   -- ---- lists
@@ -233,6 +246,39 @@ module _ (limits : Limits) (terms : List Term) (ds : List Declaration) (d : Decl
       (values_under d p) few))
       (count_each kind p in_range)
 
+  -- ---- what a closed shape permits and ignores
+
+  predicate_known : (reading : Option RouteReading)
+      → ((route : Route) → reading ≡ Some (Read route) → IsPathWithin terms limits.path_depth route)
+      → AreKnown terms (predicate_of reading)
+  predicate_known (Some (Read (along p))) within = (within (along p) refl).known
+  predicate_known reading within = none_known
+
+  permitted_known : AreKnown terms (permitted_by ds d)
+  permitted_known =
+      All_of_each (λ id. id < length terms) (permitted_by ds d) (λ id c.
+      let of_shapes = λ (node : ℕ).
+      flat_map (λ (shape : Declaration). predicate_of shape.path) (declared_at ds node) in
+      let at = Contains-from_flat_map of_shapes (values_under d SH_PROPERTY) id c in
+      let of = Contains-from_flat_map (λ (shape : Declaration). predicate_of shape.path)
+      (declared_at ds at.0) id at.2 in
+      let e = of.0 in
+      let held = (Contains-from_filter (λ (s : Declaration). s.node == at.0) ds e of.1).0 in
+      each_of_All (λ n. n < length terms) (predicate_of e.path)
+      (predicate_known e.path (all_ready e held).path) id of.2)
+
+  ignored_known : AreKnown terms (members_under d SH_IGNORED_PROPERTIES)
+  ignored_known =
+      All_of_each (λ id. id < length terms) (members_under d SH_IGNORED_PROPERTIES) (λ id c.
+      let at = Contains-from_flat_map members_of (lists_under d SH_IGNORED_PROPERTIES) id c in
+      each_of_All (λ n. n < length terms) (members_of at.0)
+      ((ready.lists SH_IGNORED_PROPERTIES (4, omega arith, refl)).members at.0 at.1) id at.2)
+
+  closes_known : AreKnown terms (members_in (closes ds d))
+  closes_known =
+      All-append (λ id. id < length terms) (permitted_by ds d) (members_under d SH_IGNORED_PROPERTIES)
+      permitted_known ignored_known
+
   -- ---- all of them
 
   of_values : AreHere 1 12 (value_constraints d)
@@ -253,7 +299,7 @@ module _ (limits : Limits) (terms : List Term) (ds : List Declaration) (d : Decl
   of_texts =
       AreSaid-append terms stated_pattern
       (AreSaid-append terms (stated_list LANGUAGE_IN SH_LANGUAGE_IN (omega arith) (0, omega arith, refl))
-      (stated_true UNIQUE_LANG SH_UNIQUE_LANG Nothing refl refl (omega arith)))
+      (stated_true UNIQUE_LANG SH_UNIQUE_LANG Nothing none_known refl (omega arith)))
 
   of_pairs : AreHere 15 19 (pair_constraints d)
   of_pairs =
@@ -281,7 +327,7 @@ module _ (limits : Limits) (terms : List Term) (ds : List Declaration) (d : Decl
 
   of_others : AreHere 27 30 (other_constraints terms ds d)
   of_others =
-      AreSaid-append terms (stated_true CLOSED SH_CLOSED (closes ds d) refl refl (omega arith))
+      AreSaid-append terms (stated_true CLOSED SH_CLOSED (closes ds d) closes_known refl (omega arith))
       (AreSaid-append terms (stated HAS_VALUE SH_HAS_VALUE (omega arith))
       (stated_list IN SH_IN (omega arith) (5, omega arith, refl)))
 

@@ -31,7 +31,7 @@ use Rattle.shape_eval.specs.inner.Answers.{AnswersFollow, AsksBelow, Holds, Hold
 use Rattle.shape_eval.specs.inner.Answers.{KeepsHeld}
 use Rattle.shape_eval.specs.inner.Answers.{answer_in, asked_pairs, held_reads, held_rows, reads_in, rows_in}
 use Rattle.shape_eval.proofs.ConstraintLemmas.{AgreesAt, AsksValuesAt}
-use Rattle.shape_eval.proofs.LevelLemmas.{Agree-itself, asked_below, levels, shape_known}
+use Rattle.shape_eval.proofs.LevelLemmas.{Agree-itself, asked_below, levels, numbers_known}
 use Rattle.shape_eval.proofs.ShapeLemmas.{PathsAgree, unless_alike}
 
 Some-is : {X : Type 0} (x y : X) → Some x ≡ Some y → x ≡ y
@@ -131,7 +131,7 @@ module _ (paths_agree : PathsAgree) (agrees : (c : Constraint) → AgreesAt c)
       unfolded.reads in
       let found = unless_alike paths_agree agrees g g known known m (results shapes g) r
       (pair_reads shapes g) p inside sh sh.deactivated
-      (shape_known g shapes plan p.shape sh e).constraints
+      (numbers_known g shapes plan p.shape sh e)
       (λ c i d j on. same d (Contains-flat_map (λ b. constraint_asks b (value_nodes g sh.path p.node))
       sh.constraints.items c d i j)) (Agree-itself g) in
       record {

@@ -1,6 +1,6 @@
 -- Results of pairs depend on what is read for them, and not on the number of levels: one induction.
 use Rattle.std.specs.Prelude.{◌≡◌, ◌<◌, ◌≤◌, ℕ, zero, suc, List, [], Some, length, slice_get}
-use Rattle.std.specs.Prelude.{Contains}
+use Rattle.std.specs.Prelude.{Contains, flat_map}
 use Rattle.std.proofs.Common.{refl, sym, ◌∙◌, subst, arith, inl, inr}
 use Rattle.std.proofs.lemmas.Bool.{cases_lt}
 use Rattle.std.proofs.lemmas.Option.{get_or_from_slice_get, slice_get_past, slice_get_within}
@@ -8,19 +8,20 @@ use Rattle.shx_term.proofs.MemberLemmas.{Contains-at, Contains-flat_map, each_of
 use Rattle.shx_term.proofs.SetLemmas.{SameMembers-itself, SameMembers-is}
 use Rattle.graph_view.specs.declared.key.Key.{Key}
 use Rattle.graph_view.specs.Agree.{Agree}
-use Rattle.graph_view.specs.Graph.{Graph, AllKnown}
+use Rattle.graph_view.specs.Graph.{Graph, AllKnown, HasTerms}
 use Rattle.graph_view.proofs.AgreeLemmas.{Agree-on_terms, AgreeOn-same}
 use Rattle.comp_core.specs.declared.pair.Pair.{Pair}
 use Rattle.comp_core.specs.Laws.{SameAnswers}
 use Rattle.shape_eval.specs.declared.constraint.Constraint.{Constraint}
 use Rattle.shape_eval.specs.declared.shape.PlanShape.{PlanShape}
-use Rattle.shape_eval.specs.Constraint.{constraint_asks, shapes_named}
+use Rattle.shape_eval.specs.Constraint.{constraint_asks, constraint_numbers, shapes_named}
 use Rattle.shape_eval.specs.Laws.{IsSamePair}
 use Rattle.shape_eval.specs.Plan.{HasTermsOf, IsKnownPlan, RefersLower, names_of}
 use Rattle.shape_eval.specs.Results.{pair_reads, reads_within, results_within}
 use Rattle.shape_eval.specs.Results.{value_nodes}
 use Rattle.shape_eval.proofs.AskLemmas.{asked_is_named}
 use Rattle.shape_eval.proofs.ConstraintLemmas.{AgreesAt, AsksValuesAt}
+use Rattle.shape_eval.proofs.NumberLemmas.{all_that_matter}
 use Rattle.shape_eval.proofs.ShapeLemmas.{PathsAgree, shape_alike, values_known}
 
 member_at : {X : Type 0} (xs : List X) (i : ℕ) (x : X) → slice_get xs i ≡ Some x → Contains xs x
@@ -35,6 +36,14 @@ pub shape_known : (g : Graph) (shapes : List PlanShape) → IsKnownPlan g.terms 
     (sh : PlanShape) → slice_get shapes n ≡ Some sh → HasTermsOf g.terms sh
 shape_known g shapes known n sh e =
     each_of_All (HasTermsOf g.terms) shapes known.each sh (member_at shapes n sh e)
+
+-- what matters to its constraints has terms
+pub numbers_known : (g : Graph) (shapes : List PlanShape) → IsKnownPlan g.terms shapes → (n : ℕ)
+    (sh : PlanShape) → slice_get shapes n ≡ Some sh
+    → HasTerms g (flat_map constraint_numbers sh.constraints.items)
+numbers_known g shapes known n sh e =
+    all_that_matter (λ id. id < length g.terms) sh.constraints.items
+    (shape_known g shapes known n sh e).constraints
 
 -- what a shape asks is of lower shapes
 pub asked_below : (shapes : List PlanShape) → RefersLower shapes → (n : ℕ) (sh : PlanShape)
@@ -58,7 +67,7 @@ module _ (paths_agree : PathsAgree) (agrees : (c : Constraint) → AgreesAt c)
         let both = shape_alike paths_agree agrees g h known known' (results_within k shapes g)
         (results_within l shapes h) (reads_within k shapes g) (reads_within l shapes h) p inside
         (slice_get shapes p.shape)
-        (λ sh e. (shape_known g shapes plan p.shape sh e).constraints)
+        (λ sh e. numbers_known g shapes plan p.shape sh e)
         (λ sh e c i d j on.
         let vs = value_nodes g sh.path p.node in
         let below : d.shape < p.shape = asked_below shapes lower p.shape sh e c i vs d j in

@@ -3,7 +3,11 @@ pub mod AskLemmas
 pub mod ConstraintLemmas
 pub mod EditLemmas
 pub mod ItemLemmas
+pub mod KnownKeyLemmas
+pub mod KnownRowLemmas
 pub mod LevelLemmas
+pub mod NumberLemmas
+pub mod PartLemmas
 pub mod PlaceLemmas
 pub mod ShapeLemmas
 pub mod TargetLemmas

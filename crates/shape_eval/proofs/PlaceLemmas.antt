@@ -1,6 +1,6 @@
 -- Nodes that are entered in turn stand at their places.
 use Rattle.std.specs.Prelude.{◌≡◌, ℕ, ◌+◌, ◌<◌, nat_eq, false, List, [], ◌∷◌, ◌++◌, get_or, length}
-use Rattle.std.specs.Prelude.{take, if◌then◌else◌, Option, Some, None, All, Contains}
+use Rattle.std.specs.Prelude.{flat_map, position, take, if◌then◌else◌, Option, Some, None, All, Contains}
 use Rattle.std.specs.Cmp.{nat_eq_equiv}
 use Rattle.std.specs.List.{IsDistinct, list_any}
 use Rattle.std.proofs.Common.{refl, sym, ap, ◌∙◌, arith, subst}
@@ -47,8 +47,12 @@ next_node shapes distinct i sh inside is old new before entered_is =
     entered_is ∙ ap (λ ks. insert_key nat_eq ks sh.node) before
     ∙ ap (insert_key nat_eq (take i nodes)) node ∙ entered nodes distinct i within
 
-pub nodes_count : (shapes : List PlanShape) → length (nodes_of shapes) ≡ length shapes
-nodes_count shapes = length-map shapes (λ (sh : PlanShape). sh.node)
+-- and their places are the numbers of the shapes
+pub places_are_numbers : (shapes : List PlanShape) (keys : List ℕ) → keys ≡ nodes_of shapes
+    → (nodes : List ℕ)
+    → flat_map (λ node. if_any (position (nat_eq node) keys)) nodes ≡ numbers_of shapes nodes
+places_are_numbers shapes keys placed nodes =
+    ap (λ ks. flat_map (λ node. if_any (position (nat_eq node) ks)) nodes) placed
 
 -- the numbers that are found are numbers of shapes
 pub numbers_within : (shapes : List PlanShape) (nodes : List ℕ)

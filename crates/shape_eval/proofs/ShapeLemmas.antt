@@ -5,8 +5,7 @@ use Rattle.std.proofs.Common.{refl, sym, ap, ◌∙◌, subst, inl, inr}
 use Rattle.std.proofs.lemmas.List.Elements.{Contains-append_left, Contains-append_right}
 use Rattle.shx_term.specs.Members.{SameMembers}
 use Rattle.shx_term.proofs.IdOrderLemmas.{in_term_order_lists}
-use Rattle.shx_term.proofs.MemberLemmas.{All_of_each, Contains-flat_map, Contains-one, each_of_All}
-use Rattle.shx_term.proofs.MemberLemmas.{flat_map_agree}
+use Rattle.shx_term.proofs.MemberLemmas.{All_of_each, Contains-one, flat_map_agree}
 use Rattle.shx_term.proofs.SetLemmas.{SameMembers-append, SameMembers-itself, SameMembers-parts}
 use Rattle.graph_view.specs.declared.key.Key.{Key}
 use Rattle.graph_view.specs.Agree.{Agree}
@@ -29,6 +28,7 @@ use Rattle.shape_eval.specs.Constraint.{constraint_reads}
 use Rattle.shape_eval.specs.Results.{at_of, hits_of_each, reads_of_each, shape_reads, shape_results}
 use Rattle.shape_eval.specs.Results.{value_nodes, value_reads}
 use Rattle.shape_eval.proofs.ConstraintLemmas.{AgreesAt}
+use Rattle.shape_eval.proofs.PartLemmas.{All_in_part}
 
 -- the law of paths
 abbrev pub PathsAgree : Type 0
@@ -76,10 +76,7 @@ module _ (paths_agree : PathsAgree) (agrees : (c : Constraint) → AgreesAt c)
 
     numbers_at : (cs : List Constraint) → AreKnown cs → (c : Constraint) → Contains cs c
         → HasTerms g (constraint_numbers c)
-    numbers_at cs numbers c i =
-        All_of_each (λ id. id < length g.terms) (constraint_numbers c) (λ id j.
-        each_of_All (λ id. id < length g.terms) (flat_map constraint_numbers cs) numbers id
-        (Contains-flat_map constraint_numbers cs c id i j))
+    numbers_at cs numbers c i = All_in_part (λ id. id < length g.terms) constraint_numbers cs numbers c i
 
     each_alike : (cs : List Constraint) (vs : List ℕ) → HasTerms g vs → AreKnown cs → AskAlike cs vs
         → Agree g h (Contains (reads_of_each g r cs (at_of p) vs))

@@ -1,6 +1,6 @@
 -- Any constraint component with its parameters (SHACL, section 4): which shapes it names, what it asks, what
 -- it finds and what it reads are those of its component.
-use Rattle.std.specs.Prelude.{ℕ, List, [], ◌∷◌}
+use Rattle.std.specs.Prelude.{ℕ, List, [], ◌∷◌, ◌++◌}
 use Rattle.graph_view.specs.declared.key.Key.{Key}
 use Rattle.graph_view.specs.declared.key.Key.TheVariants.{Out}
 use Rattle.graph_view.specs.Graph.{Graph}
@@ -138,6 +138,17 @@ constraint_numbers (any.LanguageIn c) = c.members.items
 constraint_numbers (any.QualifiedMinCount c) = c.value ∷ []
 constraint_numbers (any.QualifiedMaxCount c) = c.value ∷ []
 constraint_numbers c = []
+
+-- the members of its list; of a closed shape what it permits, and what it ignores
+abbrev pub members_of : Constraint → List ℕ
+members_of (any.LanguageIn c) = c.members.items
+members_of (any.Closed c) = c.permitted.items ++ c.ignored.items
+members_of (any.In c) = c.members.items
+members_of c = []
+
+-- all numbers of terms in it: the value of its parameter, and the members of its list
+abbrev pub numbers_stated : Constraint → List ℕ
+numbers_stated c = parameter_of c ∷ members_of c
 
 -- the pairs that it asks: each value node at each of the shapes that it names
 abbrev pub constraint_asks : Constraint → List ℕ → List Pair

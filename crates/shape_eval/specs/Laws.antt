@@ -1,9 +1,14 @@
 -- What is true of results and targets, over any graphs.
-use Rattle.std.specs.Prelude.{◌≡◌, ℕ, ◌<◌, List, length, Contains}
+use Rattle.std.specs.Prelude.{◌≡◌, ℕ, ◌<◌, List, length, All, Contains, IfSome}
+use Rattle.shx_term.specs.declared.term.Term.{Term}
 use Rattle.shx_term.specs.Members.{SameMembers}
+use Rattle.shx_term.specs.Vocabulary.{HasVocabulary}
+use Rattle.graph_view.specs.declared.key.Key.{Key}
+use Rattle.graph_view.specs.declared.key.Key.TheVariants.{In, Out, Predicate, Subject}
 use Rattle.graph_view.specs.Agree.{Agree}
 use Rattle.graph_view.specs.Graph.{Graph, AllKnown}
 use Rattle.comp_core.specs.declared.pair.Pair.{Pair}
+use Rattle.comp_core.specs.declared.row.ResultRow.{ResultRow}
 use Rattle.comp_core.specs.Laws.{SameAnswers}
 use Rattle.shape_eval.specs.declared.shape.PlanShape.{PlanShape}
 use Rattle.shape_eval.specs.Plan.{IsKnownPlan, RefersLower}
@@ -40,3 +45,37 @@ LevelsDoNotMatter =
     → (k l : ℕ) (p : Pair) → p.shape < k → p.shape < l → p.node < length g.terms
     → SameAnswers (results_within k shapes g) (results_within l shapes g)
     (reads_within k shapes g) (reads_within l shapes g) p
+
+-- ---- the numbers in what is found and read
+
+-- the numbers in a result have terms, and its shape is one of so many
+pub record IsKnownRow (terms : List Term) (count : ℕ) (row : ResultRow) : Type 0 where
+  pub focus : row.focus < length terms
+  pub value : IfSome row.value (λ id. id < length terms)
+  pub predicate : IfSome row.predicate (λ id. id < length terms)
+  pub shape : row.shape < count
+
+-- the numbers in a key have terms
+abbrev pub IsKnownKey : List Term → Key → Type 0
+IsKnownKey terms (Out s p) = (s < length terms) × (p < length terms)
+IsKnownKey terms (In p o) = (p < length terms) × (o < length terms)
+IsKnownKey terms (Subject s) = s < length terms
+IsKnownKey terms (Predicate p) = p < length terms
+
+-- where the node of a pair has a term, the numbers in its results do, and their shapes are of the plan
+abbrev pub ResultsHaveTerms : Type 0
+ResultsHaveTerms =
+    (shapes : List PlanShape) (g : Graph) → AllKnown g → (p : Pair) → p.node < length g.terms
+    → All (IsKnownRow g.terms (length shapes)) (results shapes g p)
+
+-- and the numbers in its keys do; it may read of the vocabulary
+abbrev pub PairReadsHaveTerms : Type 0
+PairReadsHaveTerms =
+    (shapes : List PlanShape) (g : Graph) → AllKnown g → HasVocabulary g.terms → IsKnownPlan g.terms shapes
+    → (p : Pair) → p.node < length g.terms → All (IsKnownKey g.terms) (pair_reads shapes g p)
+
+-- and those of the targets of a shape
+abbrev pub TargetReadsHaveTerms : Type 0
+TargetReadsHaveTerms =
+    (shapes : List PlanShape) (g : Graph) → AllKnown g → HasVocabulary g.terms → IsKnownPlan g.terms shapes
+    → (n : ℕ) → All (IsKnownKey g.terms) (target_reads shapes g n)

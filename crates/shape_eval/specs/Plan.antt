@@ -15,7 +15,7 @@ use Rattle.shape_eval.specs.declared.constraint.Constraint.{Constraint}
 use Rattle.shape_eval.specs.declared.shape.PlanShape.{PlanShape}
 use Rattle.shape_eval.specs.declared.target.Target.{Target}
 use Rattle.shape_eval.specs.declared.target.Target.TheVariants as target
-use Rattle.shape_eval.specs.Constraint.{constraint_numbers, kind_of, parameter_of, shapes_named}
+use Rattle.shape_eval.specs.Constraint.{kind_of, numbers_stated, parameter_of, shapes_named}
 
 -- ---- what the shapes of a plan refer to
 
@@ -50,7 +50,7 @@ pub record HasTermsOf (terms : List Term) (sh : PlanShape) : Type 0 where
   pub messages : All (λ id. id < length terms) sh.messages.items
   pub path : All (λ id. id < length terms) (path_numbers sh.path)
   pub targets : All (λ id. id < length terms) (map target_number sh.targets.items)
-  pub constraints : All (λ id. id < length terms) (flat_map constraint_numbers sh.constraints.items)
+  pub constraints : All (λ id. id < length terms) (flat_map numbers_stated sh.constraints.items)
 
 -- the numbers of a plan have terms
 pub record IsKnownPlan (terms : List Term) (shapes : List PlanShape) : Type 0 where

@@ -7,6 +7,7 @@ ghost use Rattle.graph_view.specs.Key.{Touches};
 ghost use Rattle.comp_core.specs.declared.pair.Pair.{Pair};
 ghost use Rattle.shape_eval.specs.declared.shape.PlanShape.{PlanShape};
 ghost use Rattle.shape_eval.specs.Laws.{IsSamePair, LevelsDoNotMatter, ResultsDependOnReads};
+ghost use Rattle.shape_eval.specs.Laws.{PairReadsHaveTerms, ResultsHaveTerms, TargetReadsHaveTerms};
 ghost use Rattle.shape_eval.specs.Laws.{TargetsDependOnReads};
 ghost use Rattle.shape_eval.specs.Plan.{IsKnownPlan, RefersLower};
 ghost use Rattle.shape_eval.specs.Results.{pair_reads};
@@ -56,3 +57,14 @@ pub fn edits_beside_a_pair()
 {
     results_depend_on_reads();
 }
+
+/// The numbers in the results of a pair have terms, and their shapes are of the plan.
+pub fn results_have_terms()
+    ensures { ResultsHaveTerms }
+{}
+
+/// The numbers in the keys that are read have terms, of a pair and of the targets of a shape.
+pub fn reads_have_terms()
+    ensures pairs { PairReadsHaveTerms }
+    ensures targets { TargetReadsHaveTerms }
+{}

@@ -13,7 +13,7 @@
 //! | `answering.rt` | the pairs that a pair asks are answered first, and then its constraints are checked |
 //! | `checking.rt` | the constraints of a shape, checked at a node over answers that are held |
 //! | `table.rt` | the answers that are held while one pair is evaluated |
-//! | `laws.rt` | results and target nodes depend on what is read for them, and on nothing else |
+//! | `laws.rt` | results and target nodes depend on what is read for them alone; their numbers have terms |
 //!
 //! It stands on the four crates of components, on `path_eval` for value nodes and instances, and on
 //! `shape_order` for what it is to refer to something. Start with `plan.rt` and `pairs.rt`;
@@ -36,7 +36,8 @@ mod targets;
 
 pub use constraint::Constraint;
 pub use laws::{
-    edits_beside_a_pair, levels_do_not_matter, results_depend_on_reads, targets_depend_on_reads,
+    edits_beside_a_pair, levels_do_not_matter, reads_have_terms, results_depend_on_reads,
+    results_have_terms, targets_depend_on_reads,
 };
 pub use pairs::{PairAnswer, eval_pair};
 pub use plan::Plan;

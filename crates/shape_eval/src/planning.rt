@@ -1,8 +1,8 @@
 //! How a plan is made, and what it holds.
-ghost use Rattle.std.specs.Prelude.{◌≡◌, ◌++◌, ◌<◌, ◌^◌, nat_eq, filter, length, position, Some};
+ghost use Rattle.std.specs.Prelude.{◌≡◌, ◌++◌, ◌<◌, ◌^◌, nat_eq, filter, flat_map, length, position, Some};
 ghost use Rattle.std.specs.Prelude.{slice_get, All, IfOk, OnOk};
 ghost use Rattle.std.specs.List.{IsDistinct};
-ghost use Rattle.shape_eval.specs.Plan.{IsPlan, RefersLower, if_any, is_targeted, nodes_of, numbers_of};
+ghost use Rattle.shape_eval.specs.Plan.{IsPlan, RefersLower, if_any, is_targeted, nodes_of, number_of};
 ghost use Rattle.shape_eval.specs.Plan.{planned};
 ghost use Rattle.shape_eval.specs.Planned.{plan_of};
 
@@ -19,9 +19,14 @@ impl Plan {
         requires { IsPlan pool.now.terms shapes.items }
         ensures { IfOk result (λ plan. plan_of plan ≡ planned pool.now.terms shapes.items) }
     {
+        let places = places_of(alloc, &shapes)?;
         let nodes = pool.in_order(targeted_nodes(alloc, &shapes)?);
-        let targeted = find_numbers(alloc, &shapes, &nodes)?;
-        Ok(Plan { shapes, targeted })
+        let targeted = find_numbers(alloc, &places, &nodes)?;
+        Ok(Plan {
+            shapes,
+            places,
+            targeted,
+        })
     }
 
     /// The shape of a number. It takes no memory.
@@ -30,6 +35,13 @@ impl Plan {
         ensures { slice_get (plan_of self.now).shapes n ≡ Some result.now }
     {
         &self.shapes[n as usize]
+    }
+
+    /// The number of the shape of a node, if there is one. It takes one look-up by hash, and no memory.
+    pub fn number(&self, node: Id) -> Option<ShapeNo>
+        ensures { result ≡ number_of (plan_of self.now).shapes node }
+    {
+        place(&self.places, node)
     }
 
     /// How many shapes there are. It takes no memory.
@@ -77,17 +89,26 @@ fn targeted_nodes(alloc: Global, shapes: &[PlanShape]) -> Result<Vec<Id>, Memory
     Ok(nodes)
 }
 
-// The numbers of the shapes of these nodes, in the same order.
-fn find_numbers(alloc: Global, shapes: &[PlanShape], nodes: &[Id]) -> Result<Vec<ShapeNo>, Memory>
-    requires few { length shapes.now < 2 ^ 32 }
-    requires distinct { IsDistinct nat_eq (nodes_of shapes.now) }
-    ensures numbers { IfOk result (λ found. found.items ≡ numbers_of shapes.now nodes.now) }
-    ensures within { IfOk result (λ found. All (λ n. n < length shapes.now) found.items) }
+// The place of a node, if it has one.
+fn place(places: &IndexSet<Id>, node: Id) -> Option<ShapeNo>
+    requires { length places.now.keys < 2 ^ 32 }
+    ensures { result ≡ position (nat_eq node) places.now.keys }
 {
-    let places = places_of(alloc, shapes)?;
+    match places.get_index_of(&node) {
+        Some(at) => Some(at as ShapeNo),
+        None => None,
+    }
+}
+
+// The places of these nodes, as far as they have one, in the same order.
+fn find_numbers(alloc: Global, places: &IndexSet<Id>, nodes: &[Id]) -> Result<Vec<ShapeNo>, Memory>
+    requires { length places.now.keys < 2 ^ 32 }
+    ensures { IfOk result (λ found. found.items
+        ≡ flat_map (λ node. if_any (position (nat_eq node) places.now.keys)) nodes.now) }
+{
     let mut found = Vec::new(alloc);
     for node in nodes {
-        add_number(&places, *node, &mut found)?;
+        add_number(places, *node, &mut found)?;
     }
     Ok(found)
 }
@@ -98,8 +119,8 @@ fn add_number(places: &IndexSet<Id>, node: Id, found: &mut Vec<ShapeNo>) -> Resu
     ensures { OnOk result (found.new.items
         ≡ found.old.items ++ if_any (position (nat_eq node) places.now.keys)) }
 {
-    if let Some(at) = places.get_index_of(&node) {
-        found.push(at as ShapeNo)?;
+    if let Some(at) = place(places, node) {
+        found.push(at)?;
     }
     Ok(())
 }

@@ -15,8 +15,8 @@ use due_view::{DueView, is_known, is_valid};
 use graph_view::{GraphView, ListGraph};
 use row_tools::{RowFault, all_blocks_met, cut, number};
 use shape_eval::{
-    PairAnswer, Plan, edits_beside_a_pair, eval_pair, levels_do_not_matter,
-    results_depend_on_reads, targets_depend_on_reads,
+    PairAnswer, Plan, edits_beside_a_pair, eval_pair, levels_do_not_matter, reads_have_terms,
+    results_depend_on_reads, results_have_terms, targets_depend_on_reads,
 };
 use shx_term::{Pool, Steps};
 use std::alloc::Global;
@@ -124,4 +124,6 @@ fn laws_of_plans_are_at_hand() {
     targets_depend_on_reads();
     levels_do_not_matter();
     edits_beside_a_pair();
+    results_have_terms();
+    reads_have_terms();
 }

@@ -1,13 +1,16 @@
-use Rattle.std.specs.Prelude.{◌≡◌, ◌<◌, Some, length, slice_get, All, get_or}
+use Rattle.std.specs.Prelude.{◌≡◌, ◌<◌, Some, length, slice_get, All, flat_map, get_or}
 use Rattle.std.proofs.Common.{rules, refl, sym, ap, ◌∙◌, subst, arith}
 use Rattle.std.proofs.lemmas.Option.{slice_get_read}
 use Rattle.comp_core.specs.declared.pair.Pair.{Pair}
 use Rattle.shx_term.proofs.MemberLemmas.{each_of_All}
 use Rattle.shx_term.specs.Members.{Adds}
+use Rattle.graph_view.specs.Graph.{HasTerms}
+use Rattle.shape_eval.specs.Constraint.{constraint_numbers}
 use Rattle.shape_eval.specs.Results.{at_of, hits_of_each, reads_of_each, value_nodes, value_reads}
 use Rattle.shape_eval.specs.inner.Answers.{Holds, asked_pairs, held_reads, held_rows}
 use Rattle.shape_eval.proofs.AnswerLemmas.{add_answer, add_holds, add_keeps, all_held, asked_at, keeps_then}
 use Rattle.shape_eval.proofs.AnswerLemmas.{more_held, off_answer, on_answer}
+use Rattle.shape_eval.proofs.LevelLemmas.{numbers_known}
 use Rattle.shape_eval.proofs.answering.+answer.Goals as goal
 
 pub returns-then-shape-clause-answer : goal.returns-then-shape-clause-answer
@@ -63,6 +66,15 @@ loop-below-preserved g t c =
       held = more_held c.loop-below.table c.add.new.self kept asked i start c.loop-below-test.true
           c.loop-below.invariant.held (add_holds c.answer.new.table c.add.new.self d found also);
     }
+
+pub check_each-requires-clause-numbers : goal.check_each-requires-clause-numbers
+check_each-requires-clause-numbers g t c =
+    let view = g.V.GraphView.graph c.args.view.now in
+    let shapes = c.args.shapes.now in
+    subst (λ cs. HasTerms view (flat_map constraint_numbers cs)) (sym c.deref-3.ensures.value)
+    (numbers_known view shapes c.requires.plan c.args.pair.shape c.index-shapes-pair.result
+    (slice_get_read shapes (length shapes) c.args.pair.shape c.index-shapes-pair.result refl c.requires.shape
+    c.index-shapes-pair.is))
 
 pub check_each-requires-clause-held : goal.check_each-requires-clause-held
 check_each-requires-clause-held g t c =

@@ -36,7 +36,7 @@ use Rattle.shape_eval.proofs.TargetLemmas.{TriplesHeld}
 use Rattle.read_records.specs.declared.reader.Reader.{Reader}
 use Rattle.read_records.specs.declared.reader.Reader.TheVariants.{OfPair, OfTarget}
 use Rattle.read_records.specs.Reader.{reader_cmp}
-use Rattle.read_records.specs.Records.{Recorded, reads_of}
+use Rattle.read_records.specs.Records.{IsTouchedByAny, Recorded, reads_of}
 use Rattle.edit_engine.specs.declared.renewal.Evaluated.{Evaluated}
 use Rattle.edit_engine.specs.declared.renewal.Renewal.{Renewal}
 use Rattle.edit_engine.specs.declared.renewal.TargetReads.{TargetReads}
@@ -46,7 +46,7 @@ use Rattle.edit_engine.specs.Recorded.{AreRecorded, Holds}
 use Rattle.edit_engine.specs.Renewal.{IsDifference, IsRenewal, IsRight, pairs_evaluated}
 use Rattle.edit_engine.specs.Renewal.{shapes_renewed}
 use Rattle.edit_engine.specs.Touched.{is_among_pairs, is_any_touched, touched_pairs}
-use Rattle.edit_engine.specs.inner.Parts.{Evaluates, IsTouchedByAny, RenewsReads, RenewsTargets}
+use Rattle.edit_engine.specs.inner.Parts.{Evaluates, RenewsReads, RenewsTargets}
 use Rattle.edit_engine.specs.inner.Parts.{SameTargets}
 use Rattle.edit_engine.specs.inner.Parts.{pairs_staying, reader_pairs, targets_among}
 use Rattle.edit_engine.proofs.KnownLemmas.{pair_known}

@@ -12,7 +12,7 @@ use Rattle.graph_view.specs.Valid.{IsValidView}
 use Rattle.graph_view.proofs.AgreeLemmas.{AgreeOn-same}
 use Rattle.shape_eval.specs.declared.shape.PlanShape.{PlanShape}
 use Rattle.shape_eval.specs.Laws.{ResultsDependOnReads, TargetsDependOnReads}
-use Rattle.shape_eval.specs.Constraint.{constraint_numbers}
+use Rattle.shape_eval.specs.Constraint.{numbers_stated}
 use Rattle.shape_eval.specs.Plan.{HasTermsOf, IsKnownPlan, Planned, path_numbers, target_number}
 use Rattle.edit_engine.specs.MayBeAsked.{MayBeAsked}
 use Rattle.edit_engine.specs.declared.kept.Kept.{Kept}
@@ -36,7 +36,7 @@ module _ (terms more : List Term) where
     messages = below_more sh.messages.items has.messages;
     path = below_more (path_numbers sh.path) has.path;
     targets = below_more (map target_number sh.targets.items) has.targets;
-    constraints = below_more (flat_map constraint_numbers sh.constraints.items) has.constraints;
+    constraints = below_more (flat_map numbers_stated sh.constraints.items) has.constraints;
   }
 
   -- a plan stays known where there are more terms

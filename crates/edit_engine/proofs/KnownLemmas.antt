@@ -1,8 +1,8 @@
 -- The target nodes of a shape have terms, and so have those of the pairs of some shapes.
-use Rattle.std.specs.Prelude.{◌≡◌, ℕ, ◌<◌, List, [], ◌∷◌, Option, Some, None, length, slice_get}
+use Rattle.std.specs.Prelude.{◌≡◌, ℕ, ◌<◌, List, [], Option, Some, None, length, slice_get}
 use Rattle.std.specs.Prelude.{All, Contains}
-use Rattle.std.proofs.Common.{refl, sym, subst}
-use Rattle.shx_term.proofs.MemberLemmas.{All_of_each, Contains-one, each_of_All, none_in_empty}
+use Rattle.std.proofs.Common.{refl, subst}
+use Rattle.shx_term.proofs.MemberLemmas.{All_of_each, each_of_All, none_in_empty}
 use Rattle.graph_view.specs.Graph.{Graph, AllKnown, HasTerms}
 use Rattle.comp_core.specs.declared.pair.Pair.{Pair}
 use Rattle.shape_eval.specs.declared.shape.PlanShape.{PlanShape}
@@ -40,8 +40,3 @@ module _ (held : TriplesHeld) (g : Graph) (known : AllKnown g) (shapes : List Pl
   pairs_known ns within ps are =
       All_of_each (IsKnownPair shapes g) ps
       (λ p c. pair_known ns within p (subst (λ qs. Contains qs p) are c))
-
--- of one shape
-pub one_within : (n k : ℕ) → n < k → All (λ m. m < k) (n ∷ [])
-one_within n k inside =
-    All_of_each (λ m. m < k) (n ∷ []) (λ m c. subst (λ i. i < k) (sym ((Contains-one n m).0 c)) inside)

@@ -1,8 +1,10 @@
+pub mod AdoptedLemmas
 pub mod AlikeLemmas
 pub mod AppliedLemmas
 pub mod ChangeLemmas
 pub mod ChangedLemmas
 pub mod EnterLemmas
+pub mod EntryLemmas
 pub mod EvaluatesLemmas
 pub mod KnownLemmas
 pub mod KnownPairLemmas
@@ -23,8 +25,8 @@ pub mod SameReportLemmas
 pub mod StagedLemmas
 pub mod StatedLemmas
 pub mod TargetChangeLemmas
+pub mod TargetReadLemmas
 pub mod TellLemmas
 pub mod TestLemmas
 pub mod ToldLemmas
-pub mod TouchedByLemmas
 pub mod ValidEditLemmas

@@ -1,12 +1,10 @@
 -- Pairs of shapes and their target nodes: that each stands once, and how many there are.
-use Rattle.std.specs.Prelude.{◌≡◌, ℕ, ◌+◌, ◌<◌, ◌≤◌, Bool, true, false, nat_eq, List, [], ◌∷◌}
+use Rattle.std.specs.Prelude.{◌≡◌, ℕ, ◌+◌, ◌≤◌, Bool, true, false, nat_eq, List, [], ◌∷◌}
 use Rattle.std.specs.Prelude.{◌++◌}
 use Rattle.std.specs.Prelude.{map, length, slice_get, Some, Contains, ◌↔◌, ◌⊎◌}
 use Rattle.std.specs.Cmp.{nat_eq_equiv}
 use Rattle.std.specs.List.{IsDistinct, list_any}
-use Rattle.std.proofs.Common.{refl, sym, ap, ◌∙◌, subst, inl, inr, get_or, true≢false, length-append}
-use Rattle.std.proofs.Common.{drop, drop-cons, suc, take}
-use Rattle.std.proofs.lemmas.List.{take-append-drop}
+use Rattle.std.proofs.Common.{refl, sym, ap, ◌∙◌, subst, inl, inr, true≢false, length-append}
 use Rattle.std.proofs.lemmas.List.Elements.{Contains-append_left, Contains-append_right}
 use Rattle.std.proofs.lemmas.List.Elements.{Contains-append_cases}
 use Rattle.std.proofs.lemmas.Map.Keys.{IsDistinct-tail}
@@ -59,16 +57,6 @@ numbered_or_not terms node =
     ]
 
 -- ---- each stands once
-
--- what stands at a place stands nowhere before it
-pub not_before_itself : (xs : List ℕ) (i : ℕ) → IsDistinct nat_eq xs → i < length xs
-    → Contains (take i xs) (get_or xs i 0) → ⊥
-not_before_itself xs i once inside c =
-    let x = get_or xs i 0 in
-    let split : take i xs ++ x ∷ drop (suc i) xs ≡ xs =
-    ap (λ rest. take i xs ++ rest) (sym (drop-cons xs i 0 inside)) ∙ take-append-drop i xs in
-    apart_parts nat_eq nat_eq_equiv (take i xs) (x ∷ drop (suc i) xs)
-    (subst (IsDistinct nat_eq) (sym split) once) x c (Contains-head x (drop (suc i) xs))
 
 pub pairs_distinct : (shapes : List PlanShape) (g : Graph) (ns : List ℕ) → IsDistinct nat_eq ns
     → IsDistinct same_pair (pairs_of shapes ns g)

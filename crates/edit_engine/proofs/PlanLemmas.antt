@@ -9,7 +9,7 @@ use Rattle.std.proofs.lemmas.List.Quantifiers.{position-Some}
 use Rattle.shx_term.specs.declared.term.Term.{Term}
 use Rattle.shx_term.specs.IdOrder.{in_term_order}
 use Rattle.shape_eval.specs.declared.shape.PlanShape.{PlanShape}
-use Rattle.shape_eval.specs.Constraint.{constraint_numbers}
+use Rattle.shape_eval.specs.Constraint.{numbers_stated}
 use Rattle.shape_eval.specs.Plan.{if_any, is_targeted, nodes_of, number_of, numbers_of, planned}
 use Rattle.shape_eval.specs.Plan.{HasTermsOf, IsKnownPlan, path_numbers, target_number}
 use Rattle.edit_engine.proofs.TargetChangeLemmas.{IsDistinct-in_term_order}
@@ -73,7 +73,7 @@ module _ (terms longer : List Term) (le : length terms ≤ length longer) where
     messages = numbers_known sh.messages.items known.messages;
     path = numbers_known (path_numbers sh.path) known.path;
     targets = numbers_known (map target_number sh.targets.items) known.targets;
-    constraints = numbers_known (flat_map constraint_numbers sh.constraints.items) known.constraints;
+    constraints = numbers_known (flat_map numbers_stated sh.constraints.items) known.constraints;
   }
 
   pub plan_known : (shapes : List PlanShape) → IsKnownPlan terms shapes → IsKnownPlan longer shapes

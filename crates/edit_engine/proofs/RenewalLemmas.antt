@@ -40,14 +40,14 @@ use Rattle.edit_engine.proofs.ReaderLemmas.{Contains-targets_among, IsDistinct-o
 -- ---- one target
 
 -- one target more is renewed
-renewed_more : (targets : List TargetReads) (new : List TargetReads) (t : TargetReads) (n : ℕ)
+pub renewed_more : (targets : List TargetReads) (new : List TargetReads) (t : TargetReads) (n : ℕ)
     → new ≡ targets ++ t ∷ [] → t.shape ≡ n → shapes_renewed new ≡ shapes_renewed targets ++ n ∷ []
 renewed_more targets new t n pushed is =
     ap shapes_renewed pushed
     ∙ map-append (λ (u : TargetReads). u.shape) targets (t ∷ [])
     ∙ ap (λ m. shapes_renewed targets ++ m ∷ []) is
 
-read_more : (shapes : List PlanShape) (g : Graph) (targets : List TargetReads) (new : List TargetReads)
+pub read_more : (shapes : List PlanShape) (g : Graph) (targets : List TargetReads) (new : List TargetReads)
     (t : TargetReads) → new ≡ targets ++ t ∷ [] → IsReadNow shapes g t → All (IsReadNow shapes g) targets
     → All (IsReadNow shapes g) new
 read_more shapes g targets new t pushed read before =
@@ -57,27 +57,24 @@ read_more shapes g targets new t pushed read before =
 
 module _ {shapes : List PlanShape} {g : Graph} {n : ℕ} where
   pub OpensTarget-made : {old mid : Renewal} {targets : Vec TargetReads Global} {t : TargetReads}
-      (nodes : List ℕ) → IsEmptyRenewal old → OnlyEnters old mid
+      (nodes : List ℕ) → OnlyEnters old mid
       → mid.entering.items ≡ old.entering.items ++ map (at_shape n) nodes → nodes ≡ target_nodes shapes g n
       → targets.items ≡ mid.targets.items ++ t ∷ [] → t.shape ≡ n → IsReadNow shapes g t
-      → OpensTarget shapes g n (record {
+      → OpensTarget shapes g n old (record {
         targets = targets;
         leaving = mid.leaving;
         entering = mid.entering;
         evaluated = mid.evaluated;
       })
-  OpensTarget-made {old} {mid} {targets} {t} nodes empty only entering are pushed is read =
-      let alone = pushed ∙ ap (λ ts. ts ++ t ∷ []) (only.targets ∙ empty.targets) in
-      record {
-        targets = renewed_more [] targets.items t n alone is;
-        reads = read_more shapes g [] targets.items t alone read
-            (All_of_each (IsReadNow shapes g) [] (λ u c. absurd (none_in_empty u c)));
-        entering = entering
-            ∙ ap (λ ps. ps ++ map (at_shape n) nodes) empty.entering
-            ∙ ap (map (at_shape n)) are
-            ∙ sym (append-nil (map (at_shape n) (target_nodes shapes g n)));
-        leaving = only.leaving ∙ empty.leaving;
-      }
+  OpensTarget-made {old} {mid} {targets} {t} nodes only entering are pushed is read = record {
+    opened = t;
+    shape = is;
+    right = read;
+    targets = pushed ∙ ap (λ ts. ts ++ t ∷ []) only.targets;
+    entering = entering ∙ ap (λ ns. old.entering.items ++ map (at_shape n) ns) are;
+    leaving = only.leaving;
+    evaluated = only.evaluated;
+  }
 
 -- what was read now is renewed; else P
 read_now : (shapes : List PlanShape) (h : Graph) (n : ℕ) (P : Type 0) (reads : Option (List Key))

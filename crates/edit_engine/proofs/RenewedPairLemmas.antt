@@ -61,25 +61,29 @@ and_false : (b : Bool) → b && false ≡ false
 and_false true = refl
 and_false false = refl
 
-apart_at_shape : (n x : ℕ) (ys : List ℕ) → AllByRecursion (λ y. nat_eq x y ≡ false) ys
-    → AllByRecursion (λ q. same_pair (at_shape n x) q ≡ false) (map (at_shape n) ys)
-apart_at_shape n x [] apart = tt
-apart_at_shape n x (y ∷ ys) apart = (
-  ap (λ b. (n == n) && b) apart.0 ∙ and_false (n == n),
-  apart_at_shape n x ys apart.1,
-)
-
 pub none_apart : {X : Type 0} (same : X → X → Bool) → IsDistinct same []
 unfolding IsDistinct
 none_apart same = tt
 
+-- what is made of distinct things is distinct where it is told apart
+module _ {X Y : Type 0} (same : X → X → Bool) (tie : Y → Y → Bool) (f : X → Y)
+    (told : (x y : X) → same x y ≡ false → tie (f x) (f y) ≡ false) where
+  apart_mapped : (x : X) (ys : List X) → AllByRecursion (λ y. same x y ≡ false) ys
+      → AllByRecursion (λ z. tie (f x) z ≡ false) (map f ys)
+  apart_mapped x [] apart = tt
+  apart_mapped x (y ∷ ys) apart = (told x y apart.0, apart_mapped x ys apart.1)
+
+  pub IsDistinct-mapped : (xs : List X) → IsDistinct same xs → IsDistinct tie (map f xs)
+  IsDistinct-mapped [] once = none_apart tie
+  IsDistinct-mapped (x ∷ xs) once =
+      IsDistinct-cons tie (f x) (map f xs) (apart_mapped x xs (IsDistinct-head same x xs once))
+      (IsDistinct-mapped xs (IsDistinct-tail same x xs once))
+
 pub IsDistinct-at_shape : (n : ℕ) (nodes : List ℕ) → IsDistinct nat_eq nodes
     → IsDistinct same_pair (map (at_shape n) nodes)
-IsDistinct-at_shape n [] once = none_apart same_pair
-IsDistinct-at_shape n (x ∷ xs) once =
-    IsDistinct-cons same_pair (at_shape n x) (map (at_shape n) xs)
-    (apart_at_shape n x xs (IsDistinct-head nat_eq x xs once))
-    (IsDistinct-at_shape n xs (IsDistinct-tail nat_eq x xs once))
+IsDistinct-at_shape n =
+    IsDistinct-mapped nat_eq same_pair (at_shape n)
+    (λ x y apart. ap (λ b. (n == n) && b) apart ∙ and_false (n == n))
 
 -- ---- the difference of two lists of pairs
 

@@ -1,12 +1,15 @@
--- Where no subclass changes, nodes of which no changed triple tells stay target nodes, or none.
+-- Nodes of which no changed triple tells stay target nodes, or none.
 use Rattle.std.specs.Prelude.{◌≡◌, ℕ, ◌≤◌, true, not, ◌++◌, nat_eq, List, [], ◌∷◌, filter, flat_map, length}
-use Rattle.std.specs.Prelude.{Bool, false, Some, slice_get, take, Contains, ◌↔◌}
+use Rattle.std.specs.Prelude.{Bool, false, ◌&&◌, Option, Some, None, MatchOption, slice_get, take, Contains}
+use Rattle.std.specs.Prelude.{◌↔◌, ◌⊎◌}
 use Rattle.std.specs.Cmp.{nat_eq_equiv}
 use Rattle.std.specs.List.{list_any}
 use Rattle.std.specs.Ordering.{nat_cmp}
 use Rattle.std.specs.Option.{option_to_list}
-use Rattle.std.proofs.Common.{refl, sym, ap, ◌∙◌, subst, inl, inr, arith, true≢false}
+use Rattle.std.proofs.Common.{refl, sym, ap, ◌∙◌, subst, inl, inr, arith, true≢false, append_assoc}
+use Rattle.std.proofs.Common.{append-nil}
 use Rattle.std.proofs.lemmas.Bool.{eqb-true}
+use Rattle.std.proofs.lemmas.Grind.{flat_map-append}
 use Rattle.std.proofs.lemmas.List.{take_all}
 use Rattle.std.proofs.lemmas.List.Elements.{Contains-append_cases, Contains-append_left}
 use Rattle.std.proofs.lemmas.List.Elements.{Contains-append_right}
@@ -14,11 +17,13 @@ use Rattle.shx_term.specs.Chains.{Chain}
 use Rattle.shx_term.specs.InOrder.{Lists}
 use Rattle.shx_term.specs.Members.{SameMembers}
 use Rattle.shx_term.specs.declared.triple.Triple.{Triple}
-use Rattle.shx_term.specs.declared.vocabulary.TheConstants.{RDFS_SUB_CLASS_OF}
+use Rattle.shx_term.specs.declared.vocabulary.TheConstants.{RDF_TYPE, RDFS_SUB_CLASS_OF}
+use Rattle.shx_term.specs.Triple.{same_triple}
+use Rattle.shx_term.specs.inner.TripleLaws.{same_triple_equiv, same_triple_exact}
 use Rattle.shx_term.proofs.IdOrderLemmas.{in_term_order_lists}
 use Rattle.shx_term.proofs.MemberLemmas.{Contains-filter, Contains-flat_map, Contains-from_filter}
 use Rattle.shx_term.proofs.MemberLemmas.{Contains-from_flat_map, Contains-from_map, Contains-head}
-use Rattle.shx_term.proofs.MemberLemmas.{Contains-map, Contains-one, none_in_empty}
+use Rattle.shx_term.proofs.MemberLemmas.{Contains-map, Contains-one, Contains-test, none_in_empty}
 use Rattle.graph_view.specs.declared.key.Key.{Key}
 use Rattle.graph_view.specs.Graph.{AllKnown, Graph, objects_of, subjects_of, triples_with}
 use Rattle.graph_view.specs.Patched.{patched}
@@ -30,7 +35,7 @@ use Rattle.path_eval.specs.declared.direction.Direction.TheVariants.{Backward}
 use Rattle.path_eval.specs.Instances.{instance_route, IsInstance}
 use Rattle.path_eval.specs.Relation.{PathReads}
 use Rattle.path_eval.proofs.ChainLemmas.{Chain-keeps, chain_here, chain_step}
-use Rattle.path_eval.proofs.InstanceLemmas.{instance_kept, instance_test}
+use Rattle.path_eval.proofs.InstanceLemmas.{instance_test}
 use Rattle.path_eval.proofs.MeetsLemmas.{path_lists}
 use Rattle.path_eval.proofs.PathReadsLemmas.{path_reads_are}
 use Rattle.shape_eval.specs.declared.shape.PlanShape.{PlanShape}
@@ -39,13 +44,16 @@ use Rattle.shape_eval.specs.declared.target.Target.TheVariants as target
 use Rattle.shape_eval.specs.Targets.{nodes_of_target, nodes_of_targets, reads_of_target, target_nodes}
 use Rattle.shape_eval.specs.Targets.{target_reads, targets_of}
 use Rattle.edit_engine.specs.Renewal.{IsDifference}
-use Rattle.edit_engine.specs.inner.Told.{is_node_of, is_node_of_any, is_only_in, is_subclass, node_told}
-use Rattle.edit_engine.specs.inner.Told.{nodes_told, told_by}
+use Rattle.edit_engine.specs.inner.Told.{NoSubclass, instances_told, is_class, is_node_of, is_node_of_any}
+use Rattle.edit_engine.specs.inner.Told.{is_only_in, is_subclass, node_told, nodes_told, told_by}
 use Rattle.edit_engine.proofs.RenewedPairLemmas.{among_or_not}
 use Rattle.edit_engine.proofs.TargetChangeLemmas.{IsDistinct-ascending}
 use Rattle.edit_engine.proofs.TestLemmas.{any_from, any_to, first_alone, only_first}
 
 -- ---- target nodes as a relation over triples
+
+abbrev IsWider : List Triple → ℕ → ℕ → Type 0
+IsWider ts s o = Contains ts (record { s = s; p = RDFS_SUB_CLASS_OF; o = o })
 
 abbrev IsNodeOf : List Triple → Target → ℕ → Type 0
 IsNodeOf ts (target.Node node) x = x ≡ node
@@ -155,37 +163,29 @@ pub SameBeside-back : {changed ts us : List Triple} → SameBeside changed ts us
 SameBeside-back same = record { each = λ t none. ((same.each t none).1, (same.each t none).0) }
 
 -- no subclass is among the changed triples
-pub record NoSubclass (changed : List Triple) : Type 0 where
+pub record NoneChanges (changed : List Triple) : Type 0 where
   pub none : (t : Triple) → Contains changed t → is_subclass t ≡ true → ⊥
 
-none_passes : (ts : List Triple) (any : Bool) → any ≡ list_any is_subclass ts → any ≡ false
-    → (t : Triple) → Contains ts t → is_subclass t ≡ true → ⊥
-none_passes ts any tests out t c h = true≢false (sym (any_to is_subclass ts t c h) ∙ sym tests ∙ out)
-
-pub NoSubclass-both : (added removed : List Triple) (a b : Bool) → a ≡ list_any is_subclass added
-    → b ≡ list_any is_subclass removed → a ≡ false → b ≡ false → NoSubclass (added ++ removed)
-NoSubclass-both added removed a b first second not_first not_second = record {
+pub NoneChanges-both : (added removed : List Triple) → NoSubclass added × NoSubclass removed
+    → NoneChanges (added ++ removed)
+NoneChanges-both added removed both = record {
   none = λ t c h. elim (Contains-append_cases added removed t c) [
-    | inl d ↦ none_passes added a first not_first t d h
-    | inr d ↦ none_passes removed b second not_second t d h
+    | inl d ↦ true≢false (sym (any_to is_subclass added t d h) ∙ both.0)
+    | inr d ↦ true≢false (sym (any_to is_subclass removed t d h) ∙ both.1)
   ];
 }
 
-module _ {changed ts us : List Triple} (no_subclass : NoSubclass changed)
-    (same : SameBeside changed ts us) where
-  wider : (s o : ℕ) → Contains ts (record { s = s; p = RDFS_SUB_CLASS_OF; o = o })
-      → Contains us (record { s = s; p = RDFS_SUB_CLASS_OF; o = o })
-  wider s o = (same.each _ (λ d. no_subclass.none _ d refl)).0
+-- what is read for the instances of a class depends on subclasses alone
+module _ {changed ts us : List Triple} (none : NoneChanges changed) (same : SameBeside changed ts us) where
+  wider : (s o : ℕ) → IsWider ts s o → IsWider us s o
+  wider s o = (same.each _ (λ d. none.none _ d refl)).0
 
-  chain_kept : (x y : ℕ) → Chain (λ s o. Contains ts (record { s = s; p = RDFS_SUB_CLASS_OF; o = o })) x y
-      → Chain (λ s o. Contains us (record { s = s; p = RDFS_SUB_CLASS_OF; o = o })) x y
+  chain_kept : (x y : ℕ) → Chain (IsWider ts) x y → Chain (IsWider us) x y
   chain_kept x y chain =
-      let R = λ (s o : ℕ). Contains ts (record { s = s; p = RDFS_SUB_CLASS_OF; o = o }) in
-      let S = λ (s o : ℕ). Contains us (record { s = s; p = RDFS_SUB_CLASS_OF; o = o }) in
-      Chain-keeps R (Chain S x) (λ z w c step. chain_step S x z w c (wider z w step)) x y chain
-      (chain_here S x)
+      Chain-keeps (IsWider ts) (Chain (IsWider us) x)
+      (λ z w c step. chain_step (IsWider us) x z w c (wider z w step)) x y chain
+      (chain_here (IsWider us) x)
 
-  -- what is read for the instances of a class depends on subclasses alone
   class_reads_kept : (class : ℕ) (k : Key) → PathReads ts Backward instance_route class k
       → PathReads us Backward instance_route class k
   class_reads_kept class k h = elim h [
@@ -196,58 +196,146 @@ module _ {changed ts us : List Triple} (no_subclass : NoSubclass changed)
     | inr m ↦ inr (m.0, (m.1.0, chain_kept m.0 m.1.0 m.1.1, m.1.2), m.2)
   ]
 
-  module _ (targets : List Target) where
-    is_told : (t : Target) (u : Triple) (x : ℕ) → Contains targets t → Contains changed u
-        → node_told t u ≡ Some x → Contains (nodes_told targets changed) x
-    is_told t u x c d e =
-        Contains-flat_map (told_by targets) changed u x d
-        (Contains-flat_map (λ a. option_to_list (node_told a u)) targets t x c
-        (subst (λ o. Contains (option_to_list o) x) (sym e) (Contains-head x [])))
+changed_or_not : (changed : List Triple) (t : Triple) → Contains changed t ⊎ (Contains changed t → ⊥)
+changed_or_not changed t =
+    by_test (list_any (same_triple t) changed)
+    (Contains-test same_triple same_triple_equiv same_triple_exact changed t)
+  where
+    by_test : (b : Bool) → (b ≡ true) ↔ Contains changed t → Contains changed t ⊎ (Contains changed t → ⊥)
+    by_test true decides = inl (decides.0 refl)
+    by_test false decides = inr (λ c. true≢false (sym (decides.1 c)))
 
-    node_kept : (t : Target) (x : ℕ) → Contains targets t → (Contains (nodes_told targets changed) x → ⊥)
-        → IsNodeOf ts t x → IsNodeOf us t x
-    node_kept (target.Node node) x c none h = h
-    node_kept (target.Class class) x c none h =
-        instance_kept ts us x
-        (λ o. (same.each _ (λ d. none (is_told (target.Class class) _ x c d refl))).0) wider class h
-    node_kept (target.SubjectsOf p) x c none h =
-        let e : node_told (target.SubjectsOf p) (record { s = x; p = p; o = h.0 }) ≡ Some x =
-        rw (nat_eq_equiv.refl p) refl in
-        (h.0, (same.each _ (λ d. none (is_told (target.SubjectsOf p) _ x c d e))).0 h.1)
-    node_kept (target.ObjectsOf p) x c none h =
-        let e : node_told (target.ObjectsOf p) (record { s = h.0; p = p; o = x }) ≡ Some x =
-        rw (nat_eq_equiv.refl p) refl in
-        (h.0, (same.each _ (λ d. none (is_told (target.ObjectsOf p) _ x c d e))).0 h.1)
+-- a node is an instance of a class, in both graphs, of which a subclass triple that changed tells
+record IsBelowChange (changed ts us : List Triple) (x : ℕ) : Type 0 where
+  pub class : ℕ
+  pub above : ℕ
+  pub changes : Contains changed (record { s = class; p = RDFS_SUB_CLASS_OF; o = above })
+  pub was : IsInstance ts x class
+  pub is : IsInstance us x class
+
+-- so a node whose types stay, and that is below no change, stays an instance: up to the first subclass that
+-- changed, the graphs agree
+module _ {changed ts us : List Triple} (same : SameBeside changed ts us) (x kind : ℕ)
+    (first : Contains ts (record { s = x; p = RDF_TYPE; o = kind }))
+    (second : Contains us (record { s = x; p = RDF_TYPE; o = kind })) where
+  abbrev AreReached : ℕ → Type 0
+  AreReached z = (Chain (IsWider ts) kind z × Chain (IsWider us) kind z) ⊎ IsBelowChange changed ts us x
+
+  reached_more : (z w : ℕ) → AreReached z → IsWider ts z w → AreReached w
+  reached_more z w before step = elim before [
+    | inl both ↦ elim (changed_or_not changed (record { s = z; p = RDFS_SUB_CLASS_OF; o = w })) [
+      | inl c ↦ inr (record {
+        class = z;
+        above = w;
+        changes = c;
+        was = (kind, first, (z, both.0, refl));
+        is = (kind, second, (z, both.1, refl));
+      })
+      | inr free ↦ inl (
+        chain_step (IsWider ts) kind z w both.0 step,
+        chain_step (IsWider us) kind z w both.1 ((same.each _ free).0 step),
+      )
+    ]
+    | inr below ↦ inr below
+  ]
+
+  reached : (z : ℕ) → Chain (IsWider ts) kind z → AreReached z
+  reached z chain =
+      Chain-keeps (IsWider ts) AreReached reached_more kind z chain
+      (inl (chain_here (IsWider ts) kind, chain_here (IsWider us) kind))
+
+-- what is told of is known of one of the graphs
+module _ {changed ts us : List Triple} (same : SameBeside changed ts us) (g : Graph) (known : AllKnown g)
+    (one : (x class : ℕ) → IsInstance ts x class → IsInstance us x class → IsInstance g.triples x class)
+    (targets : List Target) where
+  is_told : (t : Target) (u : Triple) (x : ℕ) → Contains targets t → Contains changed u
+      → node_told t u ≡ Some x → Contains (nodes_told g targets changed) x
+  is_told t u x c d e =
+      Contains-flat_map (told_by g targets) changed u x d
+      (Contains-append_left (flat_map (λ a. option_to_list (node_told a u)) targets)
+      (instances_told g targets u) x
+      (Contains-flat_map (λ a. option_to_list (node_told a u)) targets t x c
+      (subst (λ o. Contains (option_to_list o) x) (sym e) (Contains-head x []))))
+
+  below_told : (class x : ℕ) → Contains targets (target.Class class) → IsBelowChange changed ts us x
+      → Contains (nodes_told g targets changed) x
+  below_told class x c below =
+      let u : Triple = record { s = below.class; p = RDFS_SUB_CLASS_OF; o = below.above } in
+      let is_one : is_subclass u && list_any is_class targets ≡ true =
+      any_to is_class targets (target.Class class) c refl in
+      let among = ((path_lists g known Backward instance_route below.class).each x).1
+      (one x below.class below.was below.is) in
+      Contains-flat_map (told_by g targets) changed u x below.changes
+      (Contains-append_right (flat_map (λ a. option_to_list (node_told a u)) targets)
+      (instances_told g targets u) x (rw is_one among))
+
+  instance_kept : (class x : ℕ) → Contains targets (target.Class class)
+      → (Contains (nodes_told g targets changed) x → ⊥) → IsInstance ts x class → IsInstance us x class
+  instance_kept class x c none h =
+      let typed = (same.each _ (λ d. none (is_told (target.Class class) _ x c d refl))).0 h.1 in
+      elim (reached same x h.0 h.1 typed h.2.0 h.2.1) [
+        | inl both ↦ (h.0, typed, (h.2.0, both.1, h.2.2))
+        | inr below ↦ absurd (none (below_told class x c below))
+      ]
+
+  node_kept : (t : Target) (x : ℕ) → Contains targets t → (Contains (nodes_told g targets changed) x → ⊥)
+      → IsNodeOf ts t x → IsNodeOf us t x
+  node_kept (target.Node node) x c none h = h
+  node_kept (target.Class class) x c none h = instance_kept class x c none h
+  node_kept (target.SubjectsOf p) x c none h =
+      let e : node_told (target.SubjectsOf p) (record { s = x; p = p; o = h.0 }) ≡ Some x =
+      rw (nat_eq_equiv.refl p) refl in
+      (h.0, (same.each _ (λ d. none (is_told (target.SubjectsOf p) _ x c d e))).0 h.1)
+  node_kept (target.ObjectsOf p) x c none h =
+      let e : node_told (target.ObjectsOf p) (record { s = h.0; p = p; o = x }) ≡ Some x =
+      rw (nat_eq_equiv.refl p) refl in
+      (h.0, (same.each _ (λ d. none (is_told (target.ObjectsOf p) _ x c d e))).0 h.1)
 
 -- ---- two graphs
 
+-- what is read for the target where no subclass changes
 module _ {changed : List Triple} (g h : Graph) (known_g : AllKnown g) (known_h : AllKnown h)
-    (no_subclass : NoSubclass changed) (same : SameBeside changed g.triples h.triples) where
-  any_node_kept : (ts : List Target) (x : ℕ) → (Contains (nodes_told ts changed) x → ⊥)
-      → Contains (nodes_of_targets g ts) x → Contains (nodes_of_targets h ts) x
-  any_node_kept ts x none c =
-      let from = (any_node g known_g ts x).0 c in
-      (any_node h known_h ts x).1 (from.0, from.1, node_kept no_subclass same ts from.0 x from.1 none from.2)
-
+    (none : NoneChanges changed) (same : SameBeside changed g.triples h.triples) where
   reads_kept : (t : Target) (k : Key) → Contains (reads_of_target g t) k → Contains (reads_of_target h t) k
   reads_kept (target.Node node) k c = c
   reads_kept (target.Class class) k c =
       (path_reads_are h known_h Backward instance_route class k).1
-      (class_reads_kept no_subclass same class k
+      (class_reads_kept none same class k
       ((path_reads_are g known_g Backward instance_route class k).0 c))
   reads_kept (target.SubjectsOf p) k c = c
   reads_kept (target.ObjectsOf p) k c = c
 
-  pub target_reads_kept : (shapes : List PlanShape) (n : ℕ) (k : Key)
+  target_reads_kept : (shapes : List PlanShape) (n : ℕ) (k : Key)
       → Contains (target_reads shapes g n) k → Contains (target_reads shapes h n) k
   target_reads_kept shapes n k c =
       let targets = targets_of (slice_get shapes n) in
       let from = Contains-from_flat_map (reads_of_target g) targets k c in
       Contains-flat_map (reads_of_target h) targets from.0 k from.1 (reads_kept from.0 k from.2)
 
+pub SameMembers-reads_told : {changed : List Triple} (g h : Graph) → AllKnown g → AllKnown h
+    → NoneChanges changed → SameBeside changed g.triples h.triples → (shapes : List PlanShape) (n : ℕ)
+    → SameMembers (target_reads shapes g n) (target_reads shapes h n)
+SameMembers-reads_told g h known_g known_h none same shapes n = record {
+  each = λ k. (
+    target_reads_kept g h known_g known_h none same shapes n k,
+    target_reads_kept h g known_h known_g none (SameBeside-back same) shapes n k,
+  );
+}
+
+module _ {changed : List Triple} (g h : Graph) (known_g : AllKnown g) (known_h : AllKnown h)
+    (same : SameBeside changed g.triples h.triples) (base : Graph) (known : AllKnown base)
+    (one : (x class : ℕ) → IsInstance g.triples x class → IsInstance h.triples x class
+    → IsInstance base.triples x class) where
+  any_node_kept : (ts : List Target) (x : ℕ) → (Contains (nodes_told base ts changed) x → ⊥)
+      → Contains (nodes_of_targets g ts) x → Contains (nodes_of_targets h ts) x
+  any_node_kept ts x none c =
+      let from = (any_node g known_g ts x).0 c in
+      (any_node h known_h ts x).1
+      (from.0, from.1, node_kept same base known one ts from.0 x from.1 none from.2)
+
   -- of the nodes that are told of, those that are target nodes in one graph alone are the difference
-  pub IsDifference-told : (shapes : List PlanShape) (n : ℕ) (told found : List ℕ)
-      → Lists nat_cmp (Contains (nodes_told (targets_of (slice_get shapes n)) changed)) told
+  IsDifference-told : (shapes : List PlanShape) (n : ℕ) (told found : List ℕ)
+      → Lists nat_cmp (Contains (nodes_told base (targets_of (slice_get shapes n)) changed)) told
       → found ≡ filter (is_only_in g h (targets_of (slice_get shapes n))) told
       → IsDifference nat_eq (target_nodes shapes g n) (target_nodes shapes h n) found
   IsDifference-told shapes n told found tells is =
@@ -264,7 +352,7 @@ module _ {changed : List Triple} (g h : Graph) (known_g : AllKnown g) (known_h :
                   let kept = Contains-from_filter test told x c in
                   let only = only_first (here x) (there x) kept.1 in
                   (first.0 only.0, λ d. only.1 (second.1 d)),
-              λ m. elim (among_or_not x (nodes_told targets changed)) [
+              λ m. elim (among_or_not x (nodes_told base targets changed)) [
                 | inl c ↦
                     Contains-filter test told x ((tells.each x).1 c)
                     (first_alone (here x) (there x) (first.1 m.0) (λ e. m.1 (second.0 e)))
@@ -273,25 +361,50 @@ module _ {changed : List Triple} (g h : Graph) (known_g : AllKnown g) (known_h :
             );
       })
 
-pub SameMembers-reads_told : {changed : List Triple} (g h : Graph) → AllKnown g → AllKnown h
-    → NoSubclass changed → SameBeside changed g.triples h.triples → (shapes : List PlanShape) (n : ℕ)
-    → SameMembers (target_reads shapes g n) (target_reads shapes h n)
-SameMembers-reads_told g h known_g known_h no_subclass same shapes n = record {
-  each = λ k. (
-    target_reads_kept g h known_g known_h no_subclass same shapes n k,
-    target_reads_kept h g known_h known_g no_subclass (SameBeside-back same) shapes n k,
-  );
-}
+-- in both directions it is enough to be told by the first graph
+module _ {changed : List Triple} (g h : Graph) (known_g : AllKnown g) (known_h : AllKnown h)
+    (same : SameBeside changed g.triples h.triples) (shapes : List PlanShape) (n : ℕ) (told found : List ℕ)
+    (tells : Lists nat_cmp (Contains (nodes_told g (targets_of (slice_get shapes n)) changed)) told) where
+  pub IsDifference-leaving : found ≡ filter (is_only_in g h (targets_of (slice_get shapes n))) told
+      → IsDifference nat_eq (target_nodes shapes g n) (target_nodes shapes h n) found
+  IsDifference-leaving is =
+      IsDifference-told g h known_g known_h same g known_g (λ x class was is. was) shapes n told found tells
+      is
+
+  pub IsDifference-entering : found ≡ filter (is_only_in h g (targets_of (slice_get shapes n))) told
+      → IsDifference nat_eq (target_nodes shapes h n) (target_nodes shapes g n) found
+  IsDifference-entering is =
+      IsDifference-told h g known_h known_g (SameBeside-back same) g known_g (λ x class was is. is) shapes n
+      told found tells is
 
 -- ---- as it is computed
 
+pub match_weaker : {X P Q : Type 0} (R : X → Type 0) (o : Option X) → (P → Q) → MatchOption o P R
+    → MatchOption o Q R
+match_weaker R None from h = from h
+match_weaker R (Some x) from h = h
+
+-- one triple more
+pub told_more : (g : Graph) (targets : List Target) (before : List Triple) (t : Triple)
+    (first mid new found : List ℕ) → first ≡ nodes_told g targets before
+    → mid ≡ first ++ flat_map (λ a. option_to_list (node_told a t)) targets → new ≡ mid ++ found
+    → found ≡ instances_told g targets t → new ≡ nodes_told g targets (before ++ t ∷ [])
+told_more g targets before t first mid new found was added pushed are =
+    let itself = flat_map (λ a. option_to_list (node_told a t)) targets in
+    pushed
+    ∙ (λ i. added i ++ are i)
+    ∙ append_assoc first itself (instances_told g targets t)
+    ∙ ap (λ ids. ids ++ told_by g targets t) was
+    ∙ sym (flat_map-append (told_by g targets) before (t ∷ [])
+    ∙ ap (λ ids. nodes_told g targets before ++ ids) (append-nil (told_by g targets t)))
+
 -- the nodes that are told of the targets of a shape
-pub listed_at : (shapes : List PlanShape) (n : ℕ) (sh : PlanShape) (targets : List Target)
+pub listed_at : (g : Graph) (shapes : List PlanShape) (n : ℕ) (sh : PlanShape) (targets : List Target)
     (changed : List Triple) (told : List ℕ) → slice_get shapes n ≡ Some sh → targets ≡ sh.targets.items
-    → Lists nat_cmp (Contains (nodes_told targets changed)) told
-    → Lists nat_cmp (Contains (nodes_told (targets_of (slice_get shapes n)) changed)) told
-listed_at shapes n sh targets changed told at are lists =
-    subst (λ ts. Lists nat_cmp (Contains (nodes_told ts changed)) told) (are ∙ sym (ap targets_of at)) lists
+    → Lists nat_cmp (Contains (nodes_told g targets changed)) told
+    → Lists nat_cmp (Contains (nodes_told g (targets_of (slice_get shapes n)) changed)) told
+listed_at g shapes n sh targets changed told at are lists =
+    subst (λ ts. Lists nat_cmp (Contains (nodes_told g ts changed)) told) (are ∙ sym (ap targets_of at)) lists
 
 -- a filter of all that were gone over
 pub gone_over : (test : ℕ → Bool) (found items told : List ℕ) (i : ℕ) → found ≡ filter test (take i items)

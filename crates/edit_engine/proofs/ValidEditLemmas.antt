@@ -37,17 +37,20 @@ narrow_predicate (Iri iri) is = tt
 narrow_predicate (Blank blank) is = absurd is
 narrow_predicate (Lit literal) is = absurd is
 
--- those of a valid triple
-narrow_terms : (t : TermTriple) → IsValidTermTriple t → All IsNotWide (terms_of (t ∷ []))
-narrow_terms t valid =
-    All-cons IsNotWide t.s (t.p ∷ (t.o ∷ [])) (narrow_subject t.s valid.subject)
-    (All-cons IsNotWide t.p (t.o ∷ []) (narrow_predicate t.p valid.predicate)
-    (All-cons IsNotWide t.o [] valid.object (All-nil IsNotWide)))
+-- those of valid triples
+pub narrow_terms : (ts : List TermTriple) → All IsValidTermTriple ts → All IsNotWide (terms_of ts)
+narrow_terms [] all = All-nil IsNotWide
+narrow_terms (t ∷ ts) all =
+    let valid = All-head IsValidTermTriple t ts all in
+    let rest = narrow_terms ts (All-tail IsValidTermTriple t ts all) in
+    All-cons IsNotWide t.s (t.p ∷ (t.o ∷ terms_of ts)) (narrow_subject t.s valid.subject)
+    (All-cons IsNotWide t.p (t.o ∷ terms_of ts) (narrow_predicate t.p valid.predicate)
+    (All-cons IsNotWide t.o (terms_of ts) valid.object rest))
 
 -- ---- valid views
 
 -- a view stays valid where terms are entered that are no wide literals
-valid_entered : (g : Graph) (ts : List Term) → IsValidView g → All IsNotWide ts
+pub valid_entered : (g : Graph) (ts : List Term) → IsValidView g → All IsNotWide ts
     → IsValidView (record g { terms = with_terms g.terms ts })
 valid_entered g [] valid narrow = valid
 valid_entered g (t ∷ ts) valid narrow =
@@ -65,7 +68,8 @@ valid_numbered terms t (Some u) is fit =
 valid_edited : (g : Graph) (edit : Edit) → IsValidView g → IsValidEdit edit → IsValidView (edited g edit)
 valid_edited g (Insert t) valid fit =
     let terms = terms_with g t in
-    let entered = valid_entered g (terms_of (t ∷ [])) valid (narrow_terms t fit) in
+    let narrow = narrow_terms (t ∷ []) (All-cons IsValidTermTriple t [] fit (All-nil IsValidTermTriple)) in
+    let entered = valid_entered g (terms_of (t ∷ [])) valid narrow in
     record {
       triples = All-append (IsValidTriple terms) g.triples (option_to_list (numbered terms t))
           entered.triples (valid_numbered terms t (numbered terms t) refl fit);

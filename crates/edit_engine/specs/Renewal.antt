@@ -1,5 +1,5 @@
 -- Renewals: what is to be kept from now on in the place of what is.
-use Rattle.std.specs.Prelude.{◌≡◌, ℕ, Bool, nat_eq, List, [], ◌∷◌, map, All, Contains, ◌↔◌}
+use Rattle.std.specs.Prelude.{◌≡◌, ℕ, Bool, nat_eq, List, [], map, All, Contains, ◌↔◌}
 use Rattle.std.specs.List.{IsDistinct}
 use Rattle.shx_term.specs.Members.{SameMembers}
 use Rattle.shx_term.specs.declared.triple.Triple.{Triple}
@@ -52,11 +52,11 @@ pub record IsRenewal (plan : Planned) (g h : Graph) (changed : List Triple) (ren
   pub pairs_once : IsDistinct same_pair (pairs_evaluated renewal.evaluated.items)
   pub right : All (IsRight plan.shapes h) renewal.evaluated.items
 
--- one shape more, all of whose pairs enter and were evaluated
-pub record IsOpening (shapes : List PlanShape) (g : Graph) (n : ℕ) (renewal : Renewal) : Type 0 where
-  pub targets : shapes_renewed renewal.targets.items ≡ n ∷ []
+-- from nothing: all pairs of these shapes enter and were evaluated
+pub record IsOpening (shapes : List PlanShape) (g : Graph) (ns : List ℕ) (renewal : Renewal) : Type 0 where
+  pub targets : shapes_renewed renewal.targets.items ≡ ns
   pub reads : All (IsReadNow shapes g) renewal.targets.items
-  pub entering : renewal.entering.items ≡ pairs_of shapes (n ∷ []) g
+  pub entering : renewal.entering.items ≡ pairs_of shapes ns g
   pub leaving : renewal.leaving.keys ≡ []
-  pub pairs : pairs_evaluated renewal.evaluated.items ≡ pairs_of shapes (n ∷ []) g
+  pub pairs : pairs_evaluated renewal.evaluated.items ≡ pairs_of shapes ns g
   pub right : All (IsRight shapes g) renewal.evaluated.items

@@ -13,8 +13,8 @@ ghost use Rattle.edit_engine.specs.Edits.{is_among};
 ghost use Rattle.edit_engine.specs.inner.Stated.{found_triple};
 ghost use Rattle.edit_engine.specs.Touched.{touched_pairs};
 
-use crate::kept::terms_are_distinct;
 use crate::renewing::renewal_of;
+use crate::staging::terms_are_distinct;
 use crate::stated::{Found, enter_terms, find};
 use crate::{Change, EditFault, Engine};
 use graph_view::{GraphEdit, GraphView, StoreFault};
@@ -33,8 +33,8 @@ impl<V: GraphEdit> Engine<V> {
     /// that have read a key that the triple touches. Each evaluation counts a step; `nested` is not ticked so
     /// far.
     ///
-    /// It costs what these pairs cost, and some look-ups; where it states or takes back a subclass, also a
-    /// walk over the target nodes of each shape whose target it touches.
+    /// It costs what these pairs cost, and some look-ups; where it states or takes back a subclass, also some
+    /// for each instance of that, and for each subclass of the classes in the targets that it touches.
     ///
     /// # Errors
     ///

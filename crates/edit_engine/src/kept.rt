@@ -1,21 +1,14 @@
 //! What is kept of a graph's targets and pairs, and how it is renewed at once.
-ghost use Rattle.std.specs.Prelude.{◌≡◌, ◌<◌, nat_eq, None, Some, length, All, IfOk, OnOk, OnErr};
-ghost use Rattle.std.specs.List.{IsDistinct};
-ghost use Rattle.shx_term.specs.TermOrder.{same_term};
-ghost use Rattle.comp_core.specs.Pairs.{same_pair};
+ghost use Rattle.std.specs.Prelude.{◌≡◌, length, IfOk, OnOk, OnErr};
 ghost use Rattle.pair_results.specs.PairResults.{Commits as CommitsRows, SameRows};
-ghost use Rattle.read_records.specs.Records.{Commits, SameRecords, change_of};
-ghost use Rattle.edit_engine.specs.Renewal.{pairs_evaluated, shapes_renewed};
-ghost use Rattle.edit_engine.specs.inner.Kept.{IsIdle, KeepsNothing, SameKept};
-ghost use Rattle.edit_engine.specs.inner.Put.{HaveStaged, IsPut, answer_rows, no_rows, reads_now};
-ghost use Rattle.edit_engine.specs.inner.Put.{target_reader};
-ghost use Rattle.edit_engine.specs.inner.Staged.{IsStaged, MayBeStaged};
+ghost use Rattle.read_records.specs.Records.{Commits, SameRecords};
+ghost use Rattle.edit_engine.specs.inner.Kept.{IsIdle, SameKept};
+ghost use Rattle.edit_engine.specs.inner.Staged.{IsAdopted, IsStaged, MayBeAdopted, MayBeStaged};
 
-use crate::renewal::{Evaluated, Renewal, TargetReads};
-use comp_core::Pair;
-use indexmap::IndexSet;
+use crate::renewal::Renewal;
+use crate::staging::{gather, stage_gathered, stage_leaving, terms_are_distinct};
 use pair_results::PairResults;
-use read_records::{Reader, Records};
+use read_records::Records;
 use shx_term::{Memory, Pool};
 use std::alloc::{AllocError, Global};
 
@@ -31,16 +24,34 @@ pub(crate) struct Kept {
 }
 
 impl Kept {
-    /// Nothing is kept, of so many shapes.
-    pub(crate) fn new(alloc: Global, shapes: u32) -> Result<Kept, Memory>
-        ensures nothing { IfOk result KeepsNothing }
-        ensures places { IfOk result (λ kept. length kept.results.shapes ≡ shapes) }
+    /// What a renewal makes of nothing, of so many shapes. What is recorded is put in order once, so it takes
+    /// far less time than to stage it all.
+    pub(crate) fn adopt(
+        alloc: Global,
+        pool: &Pool,
+        shapes: u32,
+        renewal: Renewal,
+    ) -> Result<Kept, Memory>
+        requires { MayBeAdopted pool.now.terms shapes renewal }
+        ensures { IfOk result (IsAdopted pool.now.terms shapes renewal) }
     {
+        terms_are_distinct(pool);
+        let pairs = renewal.entering.len() as u64;
+        let mut results = PairResults::new(alloc, shapes)?;
+        let all = gather(
+            alloc,
+            pool,
+            renewal.targets,
+            renewal.evaluated,
+            &mut results,
+        )?;
+        results.commit();
+        let records = Records::of_all(alloc, all)?;
         Ok(Kept {
-            records: Records::new(alloc),
-            results: PairResults::new(alloc, shapes)?,
-            pairs: 0,
-            coming: 0,
+            records,
+            results,
+            pairs,
+            coming: pairs,
         })
     }
 
@@ -79,7 +90,6 @@ impl Kept {
             return Err(AllocError);
         };
         self.coming = coming;
-        stage_targets(&mut self.records, renewal.targets)?;
         stage_leaving(
             alloc,
             pool,
@@ -87,13 +97,14 @@ impl Kept {
             &mut self.records,
             &mut self.results,
         )?;
-        stage_evaluated(
+        let all = gather(
             alloc,
             pool,
+            renewal.targets,
             renewal.evaluated,
-            &mut self.records,
             &mut self.results,
-        )
+        )?;
+        stage_gathered(&mut self.records, all)
     }
 
     /// Forgets what is staged. It takes no memory.
@@ -117,75 +128,4 @@ impl Kept {
         self.results.commit();
         self.pairs = self.coming;
     }
-}
-
-/// A pool holds no term twice.
-pub(crate) fn terms_are_distinct(pool: &Pool)
-    ensures { IsDistinct same_term pool.now.terms }
-{
-    let _ = pool.len();
-}
-
-// Stages what is read for targets.
-fn stage_targets(records: &mut Records, targets: Vec<TargetReads>) -> Result<(), Memory>
-    requires once { IsDistinct nat_eq (shapes_renewed targets.items) }
-    ensures records { SameRecords records.old records.new }
-    ensures staged { OnOk result
-        (IsPut target_reader reads_now targets.items (change_of records.old) (change_of records.new)) }
-{
-    for TargetReads { shape, reads } in targets {
-        records.stage(Reader::OfTarget(shape), reads)?;
-    }
-    Ok(())
-}
-
-// Stages that nothing is kept of some pairs.
-fn stage_leaving(
-    alloc: Global,
-    pool: &Pool,
-    leaving: &IndexSet<Pair>,
-    records: &mut Records,
-    results: &mut PairResults,
-) -> Result<(), Memory>
-    requires distinct { IsDistinct same_term pool.now.terms }
-    requires once { IsDistinct same_pair leaving.now.keys }
-    requires known { All (λ p. p.node < length pool.now.terms) leaving.now.keys }
-    requires within { All (λ p. p.shape < length results.old.shapes) leaving.now.keys }
-    ensures records { SameRecords records.old records.new }
-    ensures rows { SameRows results.old results.new }
-    ensures places { length results.new.shapes ≡ length results.old.shapes }
-    ensures staged { OnOk result (HaveStaged (λ p. p) (λ p. None) no_rows pool.now.terms leaving.now.keys
-        records.old records.new results.old results.new) }
-{
-    for pair in leaving {
-        let rows = Vec::new(alloc);
-        results.stage(alloc, pair.shape, pool.term(pair.node), rows)?;
-        records.stage_removal(Reader::OfPair(*pair))?;
-    }
-    Ok(())
-}
-
-// Stages what pairs come to.
-fn stage_evaluated(
-    alloc: Global,
-    pool: &Pool,
-    evaluated: Vec<Evaluated>,
-    records: &mut Records,
-    results: &mut PairResults,
-) -> Result<(), Memory>
-    requires distinct { IsDistinct same_term pool.now.terms }
-    requires once { IsDistinct same_pair (pairs_evaluated evaluated.items) }
-    requires known { All (λ p. p.node < length pool.now.terms) (pairs_evaluated evaluated.items) }
-    requires within { All (λ p. p.shape < length results.old.shapes) (pairs_evaluated evaluated.items) }
-    ensures records { SameRecords records.old records.new }
-    ensures rows { SameRows results.old results.new }
-    ensures places { length results.new.shapes ≡ length results.old.shapes }
-    ensures staged { OnOk result (HaveStaged (λ found. found.pair) (λ found. Some found.answer.reads)
-        answer_rows pool.now.terms evaluated.items records.old records.new results.old results.new) }
-{
-    for Evaluated { pair, answer } in evaluated {
-        results.stage(alloc, pair.shape, pool.term(pair.node), answer.rows)?;
-        records.stage(Reader::OfPair(pair), answer.reads)?;
-    }
-    Ok(())
 }

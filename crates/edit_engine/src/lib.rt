@@ -9,10 +9,12 @@
 //! | `applying.rt` | `Engine::apply`: an edit, tested, evaluated and made |
 //! | `edit.rt` | `Change`, `EditFault`: what came of an edit, and why nothing did |
 //! | `stated.rt` | the terms of a triple, found and entered |
-//! | `renewing.rt` | what a change of the graph makes of what is kept, beside the graph |
+//! | `renewing.rt` | what a change of the graph makes of what is kept, beside the graph; the opening |
 //! | `renewal.rt`, `parts.rt` | `Renewal`: what is to be kept from then on, and how it is gathered |
-//! | `touched.rt`, `target_change.rt` | whom a change touches; which nodes enter a target, and which leave |
+//! | `target_change.rt` | which nodes enter a target by a change, and which leave |
+//! | `target_reads.rt` | what is read for a target, without going over its nodes |
 //! | `kept.rt` | `Kept`: what is kept of targets and pairs, and how it is renewed at once |
+//! | `staging.rt` | how the parts of a renewal are put in place |
 //! | `laws.rt`, `same_graphs.rt` | what is true of plans, and of graphs that hold the same triples |
 //!
 //! It stands on `shape_eval` for what a pair comes to, and on `read_records` and `pair_results` for what is
@@ -30,10 +32,11 @@ mod parts;
 mod renewal;
 mod renewing;
 mod same_graphs;
+mod staging;
 mod stated;
 mod target_change;
+mod target_reads;
 mod telling;
-mod touched;
 
 pub use edit::{Change, EditFault};
 pub use engine::Engine;

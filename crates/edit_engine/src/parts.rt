@@ -37,7 +37,7 @@ impl Renewal {
         }
     }
 
-    /// The target of a shape, all of whose nodes are new.
+    /// One target more, all of whose nodes are new.
     pub(crate) fn open_target<V: GraphView>(
         &mut self,
         alloc: Global,
@@ -45,15 +45,14 @@ impl Renewal {
         plan: &Plan,
         shape: ShapeNo,
     ) -> Result<(), Memory>
-        requires empty { IsEmptyRenewal self.old }
         requires plan { IsKnownPlan (V.graph view.now).terms (plan_of plan.now).shapes }
         requires shape { shape < length (plan_of plan.now).shapes }
-        ensures target { OnOk result
-            (OpensTarget (plan_of plan.now).shapes (V.graph view.now) shape self.new) }
-        ensures evaluated { self.new.evaluated.items ≡ [] }
+        ensures { OnOk result
+            (OpensTarget (plan_of plan.now).shapes (V.graph view.now) shape self.old self.new) }
     {
         let mut reads = Reads::new(alloc);
         let nodes = eval_target(alloc, view, plan, shape, &mut reads)?;
+        reads.pack(alloc)?;
         self.enter(shape, &nodes)?;
         self.targets.push(TargetReads { shape, reads })?;
         Ok(())
@@ -222,6 +221,7 @@ fn evaluate<V: GraphView, L: Ledger>(
     ensures right { IfOk result (IsRight (plan_of plan.now).shapes (V.graph view.now)) }
     ensures step { steps.new ≡ steps.old + 1 }
 {
-    let answer = eval_pair(alloc, view, plan, pair.shape, pair.node, steps)?;
+    let mut answer = eval_pair(alloc, view, plan, pair.shape, pair.node, steps)?;
+    answer.reads.pack(alloc)?;
     Ok(Evaluated { pair, answer })
 }

@@ -1,16 +1,14 @@
-//! The renewal of a change, and that of a new shape.
-ghost use Rattle.std.specs.Prelude.{◌≡◌, ◌+◌, ◌<◌, ◌^◌, ◌++◌, length, All, IfOk};
+//! The renewal of a change, and that from nothing.
+ghost use Rattle.std.specs.Prelude.{◌≡◌, ◌+◌, ◌<◌, ◌^◌, ◌++◌, length, All, IfOk, OnOk};
 ghost use Rattle.graph_view.specs.Patched.{IsPatch, patched};
-ghost use Rattle.graph_view.specs.Valid.{IsValidTriple, IsValidView};
-ghost use Rattle.shape_eval.specs.Plan.{IsKnownPlan};
+ghost use Rattle.graph_view.specs.Valid.{IsValidTriple};
 ghost use Rattle.shape_eval.specs.Planned.{plan_of};
+ghost use Rattle.shape_eval.specs.Report.{pairs};
 ghost use Rattle.edit_engine.specs.MayBeAsked.{MayBeAsked};
 ghost use Rattle.edit_engine.specs.Recorded.{AreRecorded};
 ghost use Rattle.edit_engine.specs.Renewal.{IsOpening, IsRenewal};
 
 use crate::renewal::Renewal;
-use crate::touched::touched_by_any;
-use comp_core::ShapeNo;
 use graph_view::{GraphView, Patched, look_ups_give_what_is_held, patches_agree};
 use read_records::Records;
 use shape_eval::{Plan, targets_depend_on_reads};
@@ -21,8 +19,8 @@ use std::sync::ledger::Ledger;
 /// What a change makes of what is kept: the graph without some triples and with others is looked up before it
 /// is made. Each pair that the change touches is evaluated once, and no other; each evaluation counts a step.
 ///
-/// It costs what these pairs cost, and some look-ups; where a subclass is stated or taken back, also a walk
-/// over the target nodes, before and after, of each shape whose target is touched.
+/// It costs what these pairs cost, and some look-ups; where a subclass is stated or taken back, also some for
+/// each of its instances, and for each subclass of the classes in the targets that are touched.
 pub(crate) fn renewal_of<V: GraphView, L: Ledger>(
     alloc: Global,
     view: &V,
@@ -45,7 +43,7 @@ pub(crate) fn renewal_of<V: GraphView, L: Ledger>(
     targets_depend_on_reads();
     look_ups_give_what_is_held();
     patches_agree();
-    let touched = touched_by_any(alloc, records, added, removed)?;
+    let touched = records.touched_by_change(alloc, added, removed)?;
     let after = Patched::new(view, added, removed);
     let mut renewal = Renewal::new(alloc);
     renewal.renew_targets(alloc, view, &after, plan, &touched, added, removed)?;
@@ -54,23 +52,25 @@ pub(crate) fn renewal_of<V: GraphView, L: Ledger>(
     Ok(renewal)
 }
 
-/// What is to be kept of a shape of which nothing is: its target, and what each of its pairs comes to.
+/// What is to be kept where nothing is: the targets, and what each pair comes to. Each pair is evaluated
+/// once, which counts a step.
 pub(crate) fn opening_of<V: GraphView, L: Ledger>(
     alloc: Global,
     view: &V,
     plan: &Plan,
-    shape: ShapeNo,
     steps: &mut Steps<L>,
 ) -> Result<Renewal, Memory>
-    requires valid { IsValidView (V.graph view.now) }
-    requires plan { IsKnownPlan (V.graph view.now).terms (plan_of plan.now).shapes }
-    requires shape { shape < length (plan_of plan.now).shapes }
-    ensures renewal { IfOk result (IsOpening (plan_of plan.now).shapes (V.graph view.now) shape) }
-    ensures steps { IfOk result (λ renewal. steps.new ≡ steps.old + length renewal.evaluated.items) }
+    requires { MayBeAsked (plan_of plan.now) (V.graph view.now) }
+    ensures renewal { IfOk result (IsOpening (plan_of plan.now).shapes (V.graph view.now)
+        (plan_of plan.now).targeted) }
+    ensures steps { OnOk result
+        (steps.new ≡ steps.old + length (pairs (plan_of plan.now) (V.graph view.now))) }
 {
     look_ups_give_what_is_held();
     let mut renewal = Renewal::new(alloc);
-    renewal.open_target(alloc, view, plan, shape)?;
+    for shape in plan.targeted() {
+        renewal.open_target(alloc, view, plan, *shape)?;
+    }
     renewal.evaluate_entering(alloc, view, plan, steps)?;
     Ok(renewal)
 }

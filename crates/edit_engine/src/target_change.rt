@@ -1,9 +1,9 @@
 //! Which nodes a change makes target nodes of a shape, and which it leaves none.
-ghost use Rattle.std.specs.Prelude.{◌≡◌, ◌<◌, ◌++◌, filter, length, nat_eq, not, slice_get, Contains};
+ghost use Rattle.std.specs.Prelude.{◌≡◌, ◌<◌, ◌++◌, flat_map, length, nat_eq, slice_get, Contains};
 ghost use Rattle.std.specs.Prelude.{IfOk, MatchOption, OnOk};
 ghost use Rattle.std.specs.List.{list_any};
+ghost use Rattle.std.specs.Option.{option_to_list};
 ghost use Rattle.std.specs.Ordering.{nat_cmp};
-ghost use Rattle.comp_core.specs.TermTests.{is_among};
 ghost use Rattle.shx_term.specs.InOrder.{Lists};
 ghost use Rattle.shx_term.specs.Members.{SameMembers};
 ghost use Rattle.graph_view.specs.Patched.{IsPatch, patched};
@@ -14,13 +14,14 @@ ghost use Rattle.shape_eval.specs.Plan.{IsKnownPlan};
 ghost use Rattle.shape_eval.specs.Planned.{plan_of};
 ghost use Rattle.shape_eval.specs.Targets.{target_nodes, target_reads, targets_of};
 ghost use Rattle.edit_engine.specs.Renewal.{IsDifference};
-ghost use Rattle.edit_engine.specs.inner.Told.{is_node_of, is_node_of_any, is_subclass, node_told};
-ghost use Rattle.edit_engine.specs.inner.Told.{nodes_told, told_by};
+ghost use Rattle.edit_engine.specs.inner.Told.{NoSubclass, instances_told, is_class, is_node_of};
+ghost use Rattle.edit_engine.specs.inner.Told.{is_node_of_any, is_subclass, node_told, nodes_told};
 
-use comp_core::{Lookup, ShapeNo};
+use crate::target_reads::target_reads;
+use comp_core::ShapeNo;
 use graph_view::{GraphView, Reads};
-use path_eval::classes;
-use shape_eval::{Plan, Target, eval_target};
+use path_eval::{classes, instances};
+use shape_eval::{Plan, Target};
 use shx_term::vocabulary::{RDF_TYPE, RDFS_SUB_CLASS_OF};
 use shx_term::{Id, Memory, Triple};
 use std::alloc::Global;
@@ -37,7 +38,10 @@ pub(crate) struct TargetChange {
 }
 
 /// What a change of the graph makes of a target. The nodes that the changed triples tell of are tested in
-/// both graphs; only where a subclass is stated or taken back, the target is gone over.
+/// both graphs; where a subclass is stated or taken back, these are the instances of the subclass.
+///
+/// It costs a few look-ups for each such node, in each graph; where a subclass is stated or taken back, also
+/// what the subclasses of the classes cost, since what is read for the target is then something else.
 pub(crate) fn target_change<V: GraphView, W: GraphView>(
     alloc: Global,
     before: &V,
@@ -63,13 +67,10 @@ pub(crate) fn target_change<V: GraphView, W: GraphView>(
         (target_reads (plan_of plan.now).shapes (W.graph after.now) shape))
         (λ reads. SameMembers reads (target_reads (plan_of plan.now).shapes (W.graph after.now) shape))) }
 {
-    if changes_subclasses(added) || changes_subclasses(removed) {
-        return change_gone_over(alloc, before, after, plan, shape);
-    }
     // All numbers in either graph have terms.
     let _ = before.pool();
     let _ = after.pool();
-    let told = nodes_told(alloc, &plan.shape(shape).targets, added, removed)?;
+    let told = nodes_told(alloc, before, &plan.shape(shape).targets, added, removed)?;
     let mut entering = Vec::new(alloc);
     let mut leaving = Vec::new(alloc);
     for node in &told {
@@ -81,10 +82,11 @@ pub(crate) fn target_change<V: GraphView, W: GraphView>(
             _ => {}
         }
     }
+    let reads = reads_anew(alloc, after, plan, shape, added, removed)?;
     Ok(TargetChange {
         entering,
         leaving,
-        reads: None,
+        reads,
     })
 }
 
@@ -95,27 +97,30 @@ fn changes_subclasses(triples: &[Triple]) -> bool
 }
 
 // The nodes that changed triples tell of, each once: no other becomes a target node or ceases to be one.
-fn nodes_told(
+fn nodes_told<V: GraphView>(
     alloc: Global,
+    view: &V,
     targets: &[Target],
     added: &[Triple],
     removed: &[Triple],
 ) -> Result<Vec<Id>, Memory>
-    ensures { IfOk result (λ nodes.
-        Lists nat_cmp (Contains (nodes_told targets.now (added.now ++ removed.now))) nodes.items) }
+    ensures { IfOk result (λ nodes. Lists nat_cmp
+        (Contains (nodes_told (V.graph view.now) targets.now (added.now ++ removed.now))) nodes.items) }
 {
     let mut nodes = Vec::new(alloc);
     for t in added.iter().chain(removed) {
         add_told(&mut nodes, targets, t)?;
+        nodes.extend_from_slice(&instances_told(alloc, view, targets, t)?)?;
     }
     nodes.sort_unstable();
     nodes.dedup();
     Ok(nodes)
 }
 
-// Adds the nodes that one triple tells of.
+// Adds the nodes that one triple tells of itself.
 fn add_told(nodes: &mut Vec<Id>, targets: &[Target], t: &Triple) -> Result<(), Memory>
-    ensures { OnOk result (nodes.new.items ≡ nodes.old.items ++ told_by targets.now t.now) }
+    ensures { OnOk result (nodes.new.items
+        ≡ nodes.old.items ++ flat_map (λ a. option_to_list (node_told a t.now)) targets.now) }
 {
     for target in targets {
         if let Some(node) = node_told(*target, t) {
@@ -123,6 +128,35 @@ fn add_told(nodes: &mut Vec<Id>, targets: &[Target], t: &Triple) -> Result<(), M
         }
     }
     Ok(())
+}
+
+// The instances of a class that is a subclass from now on, or no longer, where there are targets that are
+// classes. One graph is enough: up to the first subclass that changed, the two agree.
+fn instances_told<V: GraphView>(
+    alloc: Global,
+    view: &V,
+    targets: &[Target],
+    t: &Triple,
+) -> Result<Vec<Id>, Memory>
+    ensures { IfOk result (λ nodes. nodes.items ≡ instances_told (V.graph view.now) targets.now t.now) }
+{
+    if t.p == RDFS_SUB_CLASS_OF && has_class(targets) {
+        instances(alloc, view, t.s, &mut Reads::new(alloc))
+    } else {
+        Ok(Vec::new(alloc))
+    }
+}
+
+fn has_class(targets: &[Target]) -> bool
+    ensures { result ≡ list_any is_class targets.now }
+{
+    targets.iter().any(|target| is_class(*target))
+}
+
+fn is_class(target: Target) -> bool
+    ensures { result ≡ is_class target }
+{
+    matches!(target, Target::Class(_))
 }
 
 // The node that a triple tells of, as a target node of this target or as none.
@@ -179,48 +213,21 @@ fn is_node_of<V: GraphView>(
     }
 }
 
-// The same by all target nodes, before and after.
-fn change_gone_over<V: GraphView, W: GraphView>(
+// What is read for a target now, where a subclass is stated or taken back. Else that is what was.
+fn reads_anew<V: GraphView>(
     alloc: Global,
-    before: &V,
-    after: &W,
+    view: &V,
     plan: &Plan,
     shape: ShapeNo,
-) -> Result<TargetChange, Memory>
-    requires before { IsKnownPlan (V.graph before.now).terms (plan_of plan.now).shapes }
-    requires after { IsKnownPlan (W.graph after.now).terms (plan_of plan.now).shapes }
+    added: &[Triple],
+    removed: &[Triple],
+) -> Result<Option<Reads>, Memory>
     requires shape { shape < length (plan_of plan.now).shapes }
-    ensures entering { IfOk result (λ change. IsDifference nat_eq
-        (target_nodes (plan_of plan.now).shapes (W.graph after.now) shape)
-        (target_nodes (plan_of plan.now).shapes (V.graph before.now) shape) change.entering.items) }
-    ensures leaving { IfOk result (λ change. IsDifference nat_eq
-        (target_nodes (plan_of plan.now).shapes (V.graph before.now) shape)
-        (target_nodes (plan_of plan.now).shapes (W.graph after.now) shape) change.leaving.items) }
-    ensures reads { IfOk result (λ change. MatchOption change.reads
-        (SameMembers (target_reads (plan_of plan.now).shapes (V.graph before.now) shape)
-        (target_reads (plan_of plan.now).shapes (W.graph after.now) shape))
-        (λ reads. SameMembers reads (target_reads (plan_of plan.now).shapes (W.graph after.now) shape))) }
+    ensures { IfOk result (λ reads. MatchOption reads (NoSubclass added.now × NoSubclass removed.now)
+        (λ reads. SameMembers reads (target_reads (plan_of plan.now).shapes (V.graph view.now) shape))) }
 {
-    let mut reads = Reads::new(alloc);
-    let new = eval_target(alloc, after, plan, shape, &mut reads)?;
-    let old = eval_target(alloc, before, plan, shape, &mut Reads::new(alloc))?;
-    Ok(TargetChange {
-        entering: without(alloc, &new, &old)?,
-        leaving: without(alloc, &old, &new)?,
-        reads: Some(reads),
-    })
-}
-
-// The nodes that are not among others, in their order.
-fn without(alloc: Global, nodes: &[Id], others: &[Id]) -> Result<Vec<Id>, Memory>
-    ensures { IfOk result (λ left. left.items ≡ filter (λ id. not (is_among id others.now)) nodes.now) }
-{
-    let others = Lookup::new(alloc, others)?;
-    let mut left = Vec::new(alloc);
-    for node in nodes {
-        if !others.has(*node) {
-            left.push(*node)?;
-        }
+    if !changes_subclasses(added) && !changes_subclasses(removed) {
+        return Ok(None);
     }
-    Ok(left)
+    Ok(Some(target_reads(alloc, view, plan, shape)?))
 }

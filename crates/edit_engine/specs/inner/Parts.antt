@@ -4,7 +4,6 @@ use Rattle.std.specs.Prelude.{MatchOption, None, Option, Some}
 use Rattle.std.specs.List.{IsDistinct}
 use Rattle.std.specs.Option.{option_to_list}
 use Rattle.shx_term.specs.Members.{Adds, SameMembers}
-use Rattle.shx_term.specs.declared.triple.Triple.{Triple}
 use Rattle.graph_view.specs.declared.key.Key.{Key}
 use Rattle.graph_view.specs.Graph.{Graph}
 use Rattle.comp_core.specs.declared.pair.Pair.{Pair}
@@ -14,7 +13,6 @@ use Rattle.shape_eval.specs.Report.{at_shape}
 use Rattle.shape_eval.specs.Targets.{target_nodes, target_reads}
 use Rattle.read_records.specs.declared.reader.Reader.{Reader}
 use Rattle.read_records.specs.declared.reader.Reader.TheVariants.{OfPair, OfTarget}
-use Rattle.read_records.specs.Records.{IsTouched, Recorded}
 use Rattle.edit_engine.specs.declared.renewal.Evaluated.{Evaluated}
 use Rattle.edit_engine.specs.declared.renewal.Renewal.{Renewal}
 use Rattle.edit_engine.specs.declared.renewal.TargetReads.{TargetReads}
@@ -23,12 +21,6 @@ use Rattle.edit_engine.specs.Renewal.{IsDifference, IsReadNow, IsRight, pairs_ev
 use Rattle.edit_engine.specs.Touched.{is_among_pairs}
 
 -- ---- readers
-
--- one of the triples touches what is recorded of the reader
-pub record IsTouchedByAny (state : Recorded) (changed : List Triple) (reader : Reader) : Type 0 where
-  pub triple : Triple
-  pub changes : Contains changed triple
-  pub touched : IsTouched state triple reader
 
 abbrev pub reader_pairs : Reader → List Pair
 reader_pairs (OfTarget n) = []
@@ -95,12 +87,23 @@ pub record Evaluates (shapes : List PlanShape) (g : Graph) (old new : List Evalu
   pub pairs : pairs_evaluated more ≡ ps
   pub right : All (IsRight shapes g) more
 
--- one target, all of whose nodes enter
-pub record OpensTarget (shapes : List PlanShape) (g : Graph) (n : ℕ) (renewal : Renewal) : Type 0 where
-  pub targets : shapes_renewed renewal.targets.items ≡ n ∷ []
+-- these targets, all of whose nodes enter, and nothing else
+pub record OpensTargets (shapes : List PlanShape) (g : Graph) (ns : List ℕ) (renewal : Renewal) : Type 0 where
+  pub targets : shapes_renewed renewal.targets.items ≡ ns
   pub reads : All (IsReadNow shapes g) renewal.targets.items
-  pub entering : renewal.entering.items ≡ pairs_of shapes (n ∷ []) g
+  pub entering : renewal.entering.items ≡ pairs_of shapes ns g
   pub leaving : renewal.leaving.keys ≡ []
+  pub evaluated : renewal.evaluated.items ≡ []
+
+-- one target more, all of whose nodes enter
+pub record OpensTarget (shapes : List PlanShape) (g : Graph) (n : ℕ) (old new : Renewal) : Type 0 where
+  pub opened : TargetReads
+  pub shape : opened.shape ≡ n
+  pub right : IsReadNow shapes g opened
+  pub targets : new.targets.items ≡ old.targets.items ++ opened ∷ []
+  pub entering : new.entering.items ≡ old.entering.items ++ map (at_shape n) (target_nodes shapes g n)
+  pub leaving : new.leaving.keys ≡ old.leaving.keys
+  pub evaluated : new.evaluated.items ≡ old.evaluated.items
 
 -- one target more, from one graph to another: what it reads now, or it reads the same
 pub record RenewsRead (shapes : List PlanShape) (g h : Graph) (n : ℕ) (old new : List TargetReads)

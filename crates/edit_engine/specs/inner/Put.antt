@@ -1,12 +1,11 @@
 -- What stands under keys, and items that are put there in turn.
-use Rattle.std.specs.Prelude.{◌≡◌, ℕ, List, [], Option, Some, None, map, length, slice_get, Contains}
+use Rattle.std.specs.Prelude.{◌≡◌, ℕ, List, [], ◌++◌, Option, Some, None, map, length, slice_get, Contains}
 use Rattle.shx_term.specs.declared.term.Term.{Term}
 use Rattle.graph_view.specs.declared.key.Key.{Key}
 use Rattle.comp_core.specs.declared.pair.Pair.{Pair}
 use Rattle.comp_core.specs.declared.row.ResultRow.{ResultRow}
 use Rattle.read_records.specs.declared.reader.Reader.{Reader}
 use Rattle.read_records.specs.declared.reader.Reader.TheVariants.{OfPair, OfTarget}
-use Rattle.read_records.specs.Records.{Recorded, SameRecords, change_of}
 use Rattle.pair_results.specs.PairResults.{Kept, SameRows, rows_after}
 use Rattle.edit_engine.specs.declared.renewal.Evaluated.{Evaluated}
 use Rattle.edit_engine.specs.declared.renewal.TargetReads.{TargetReads}
@@ -17,13 +16,31 @@ pub record IsPut {I K V : Type 0} (key : I → K) (value : I → V) (items : Lis
   pub each : (item : I) → Contains items item → new (key item) ≡ value item
   pub others : (k : K) → (Contains (map key items) k → ⊥) → new k ≡ old k
 
--- ---- what is staged for readers
+-- ---- what is recorded for readers
 
-abbrev pub target_reader : TargetReads → Reader
-target_reader target = OfTarget target.shape
+abbrev pub Entry : Type 0
+Entry = Reader × List Key
 
-abbrev pub reads_now : TargetReads → Option (Option (List Key))
-reads_now target = Some (Some target.reads)
+abbrev pub target_entry : TargetReads → Entry
+target_entry target = (OfTarget target.shape, target.reads)
+
+abbrev pub pair_entry : Evaluated → Entry
+pair_entry found = (OfPair found.pair, found.answer.reads)
+
+-- of targets and of pairs
+abbrev pub entries_of : List TargetReads → List Evaluated → List Entry
+entries_of targets evaluated = map target_entry targets ++ map pair_entry evaluated
+
+-- who it is for, and what is staged for it
+abbrev pub entry_reader : Entry → Reader
+entry_reader e = e.0
+
+abbrev pub entry_change : Entry → Option (Option (List Key))
+entry_change e = Some (Some e.1)
+
+-- of a pair that leaves
+abbrev pub no_reads : Pair → Option (Option (List Key))
+no_reads p = Some None
 
 -- ---- what is staged for shapes at nodes
 
@@ -50,14 +67,9 @@ no_rows p = []
 abbrev pub answer_rows : Evaluated → List ResultRow
 answer_rows found = found.answer.rows.items
 
--- what becomes of these pairs is staged, and nothing else: what is to be recorded for each, or that its
--- record goes, and its results
-pub record HaveStaged {I : Type 0} (pair : I → Pair) (change : I → Option (List Key))
-    (value : I → List ResultRow) (terms : List Term) (items : List I) (r s : Recorded) (k l : Kept)
-    : Type 0 where
-  pub same : SameRecords r s
+-- the results of these pairs are staged, and no others
+pub record HaveRows {I : Type 0} (pair : I → Pair) (value : I → List ResultRow) (terms : List Term)
+    (items : List I) (k l : Kept) : Type 0 where
   pub rows : SameRows k l
   pub places : length l.shapes ≡ length k.shapes
-  pub reads : IsPut (λ item. OfPair (pair item)) (λ item. Some (change item)) items
-      (change_of r) (change_of s)
   pub results : IsPut (λ item. place_in terms (pair item)) value items (rows_to_come k) (rows_to_come l)

@@ -1,13 +1,39 @@
-use Rattle.std.proofs.Common.{[], ◌∷◌, length}
+use Rattle.std.proofs.Common.{arith, ◌∙◌, ap, length, take_all}
+use Rattle.std.proofs.lemmas.List.{take_more}
 use Rattle.graph_view.proofs.ValidLemmas.{AllKnown-valid}
-use Rattle.edit_engine.proofs.KnownLemmas.{one_within, pairs_known}
+use Rattle.edit_engine.proofs.KnownLemmas.{pairs_known}
+use Rattle.edit_engine.proofs.OpeningLemmas.{IsOpening-made, OpensTargets-more, OpensTargets-none}
 use Rattle.edit_engine.proofs.renewing.opening_of.Goals as goal
+
+pub loop-shape-init : goal.loop-shape-init
+loop-shape-init g c = OpensTargets-none c.new-renewal.ensures
+
+pub loop-shape-preserved : goal.loop-shape-preserved
+loop-shape-preserved g c =
+    rw (take_more c.targeted-shape-items.result.now c.loop-shape.shape-index 0 c.loop-shape-test.true)
+    (OpensTargets-more c.loop-shape.invariant c.in_ok-open_target.ensures)
 
 pub evaluate_entering-requires-clause-known : goal.evaluate_entering-requires-clause-known
 evaluate_entering-requires-clause-known g c =
     let graph = g.V.GraphView.graph c.args.view.now in
     let shapes = c.args.plan.now.shapes.items in
+    let all = take_all c.loop-shape.shape-index c.targeted-shape-items.result.now c.loop-shape-test.false
+    ∙ c.targeted-shape-items.ensures.targeted in
     pairs_known (λ g p t held. ((c.look_ups_give_what_is_held.ensures.by_predicate g p t).0 held).0) graph
-    (AllKnown-valid graph c.requires.valid) shapes c.requires.plan (c.args.shape ∷ [])
-    (one_within c.args.shape (length shapes) c.requires.shape) c.open_target.new.self.entering.items
-    c.in_ok-open_target.ensures.target.entering
+    (AllKnown-valid graph c.requires.valid) shapes c.requires.known _ c.requires.within
+    c.loop-shape.renewal.entering.items (rw all at c.loop-shape.invariant).entering
+
+pub returns-clause-renewal : goal.returns-clause-renewal
+returns-clause-renewal g c =
+    let all = take_all c.loop-shape.shape-index c.targeted-shape-items.result.now c.loop-shape-test.false
+    ∙ c.targeted-shape-items.ensures.targeted in
+    let done = c.in_ok-evaluate_entering.ensures in
+    IsOpening-made (rw all at c.loop-shape.invariant) done.evaluated done.targets
+
+pub returns-clause-steps : goal.returns-clause-steps
+returns-clause-steps g c =
+    let all = take_all c.loop-shape.shape-index c.targeted-shape-items.result.now c.loop-shape-test.false
+    ∙ c.targeted-shape-items.ensures.targeted in
+    let entering = ap length (rw all at c.loop-shape.invariant).entering in
+    let steps = c.in_ok-evaluate_entering.ensures.steps in
+    omega arith

@@ -1,8 +1,11 @@
 use Rattle.edit_engine.specs.inner.Told.{is_only_in}
-use Rattle.shape_eval.specs.Targets.{targets_of}
-use Rattle.std.specs.Prelude.{◌++◌, slice_get}
-use Rattle.edit_engine.proofs.ToldLemmas.{IsDifference-told, NoSubclass-both, SameBeside-back}
-use Rattle.edit_engine.proofs.ToldLemmas.{SameBeside-patched, SameMembers-reads_told, gone_over, listed_at}
+use Rattle.shape_eval.specs.Targets.{target_reads, targets_of}
+use Rattle.shx_term.specs.Members.{SameMembers}
+use Rattle.graph_view.specs.declared.key.Key.{Key}
+use Rattle.std.specs.Prelude.{List, ◌++◌, slice_get}
+use Rattle.edit_engine.proofs.ToldLemmas.{IsDifference-entering, IsDifference-leaving, SameBeside-patched}
+use Rattle.edit_engine.proofs.ToldLemmas.{gone_over, listed_at, match_weaker, SameMembers-reads_told}
+use Rattle.edit_engine.proofs.ToldLemmas.{NoneChanges-both}
 use Rattle.edit_engine.proofs.target_change.target_change.Goals as goal
 
 pub returns-clause-entering : goal.returns-clause-entering
@@ -11,17 +14,12 @@ returns-clause-entering g c =
     let after = g.W.GraphView.graph c.args.after.now in
     let shapes = c.args.plan.now.shapes.items in
     let n = c.args.shape in
-    let added = c.args.added.now in
-    let removed = c.args.removed.now in
+    let changed = c.args.added.now ++ c.args.removed.now in
     let told = c.in_ok-told.told.items in
-    let none = NoSubclass-both added removed c.changes_subclasses.result
-    c.changes_subclasses-else-changes_subclasses.result c.changes_subclasses.ensures
-    c.changes_subclasses-else-changes_subclasses.ensures c.if-changes_subclasses.false
-    c.if-changes_subclasses-2.false in
-    let same = SameBeside-back (SameBeside-patched before after added removed c.requires.patched) in
-    IsDifference-told after before c.pool-2.ensures.known c.pool.ensures.known none same shapes n told
+    IsDifference-entering before after c.pool.ensures.known c.pool-2.ensures.known
+    (SameBeside-patched before after c.args.added.now c.args.removed.now c.requires.patched) shapes n told
     c.loop-node.entering.items
-    (listed_at shapes n c.shape.result.now c.deref.result.now (added ++ removed) told c.shape.ensures
+    (listed_at before shapes n c.shape.result.now c.deref.result.now changed told c.shape.ensures
     c.deref.ensures.value c.in_ok-told.ensures)
     (gone_over (is_only_in after before (targets_of (slice_get shapes n))) c.loop-node.entering.items
     c.deref-node-items.result.now told c.loop-node.node-index c.loop-node.invariant.entering
@@ -33,17 +31,12 @@ returns-clause-leaving g c =
     let after = g.W.GraphView.graph c.args.after.now in
     let shapes = c.args.plan.now.shapes.items in
     let n = c.args.shape in
-    let added = c.args.added.now in
-    let removed = c.args.removed.now in
+    let changed = c.args.added.now ++ c.args.removed.now in
     let told = c.in_ok-told.told.items in
-    let none = NoSubclass-both added removed c.changes_subclasses.result
-    c.changes_subclasses-else-changes_subclasses.result c.changes_subclasses.ensures
-    c.changes_subclasses-else-changes_subclasses.ensures c.if-changes_subclasses.false
-    c.if-changes_subclasses-2.false in
-    let same = SameBeside-patched before after added removed c.requires.patched in
-    IsDifference-told before after c.pool.ensures.known c.pool-2.ensures.known none same shapes n told
+    IsDifference-leaving before after c.pool.ensures.known c.pool-2.ensures.known
+    (SameBeside-patched before after c.args.added.now c.args.removed.now c.requires.patched) shapes n told
     c.loop-node.leaving.items
-    (listed_at shapes n c.shape.result.now c.deref.result.now (added ++ removed) told c.shape.ensures
+    (listed_at before shapes n c.shape.result.now c.deref.result.now changed told c.shape.ensures
     c.deref.ensures.value c.in_ok-told.ensures)
     (gone_over (is_only_in before after (targets_of (slice_get shapes n))) c.loop-node.leaving.items
     c.deref-node-items.result.now told c.loop-node.node-index c.loop-node.invariant.leaving
@@ -55,10 +48,9 @@ returns-clause-reads g c =
     let after = g.W.GraphView.graph c.args.after.now in
     let added = c.args.added.now in
     let removed = c.args.removed.now in
-    let none = NoSubclass-both added removed c.changes_subclasses.result
-    c.changes_subclasses-else-changes_subclasses.result c.changes_subclasses.ensures
-    c.changes_subclasses-else-changes_subclasses.ensures c.if-changes_subclasses.false
-    c.if-changes_subclasses-2.false in
-    SameMembers-reads_told before after c.pool.ensures.known c.pool-2.ensures.known none
-    (SameBeside-patched before after added removed c.requires.patched) c.args.plan.now.shapes.items
-    c.args.shape
+    let shapes = c.args.plan.now.shapes.items in
+    match_weaker (λ (keys : List Key). SameMembers keys (target_reads shapes after c.args.shape))
+    c.in_ok-reads.reads
+    (λ none. SameMembers-reads_told before after c.pool.ensures.known c.pool-2.ensures.known
+    (NoneChanges-both added removed none) (SameBeside-patched before after added removed c.requires.patched)
+    shapes c.args.shape) c.in_ok-reads.ensures

@@ -1,18 +1,18 @@
-use Rattle.std.proofs.Common.{rules, sym, subst, ◌∙◌, ◌<◌, length}
-use Rattle.std.specs.Prelude.{Some}
-use Rattle.edit_engine.specs.inner.Put.{HaveStaged, answer_rows}
+use Rattle.std.proofs.Common.{rules, sym, ap, subst, ◌∙◌, ◌<◌, ◌++◌, append-nil, length, map}
+use Rattle.edit_engine.specs.inner.Put.{HaveRows, answer_rows, pair_entry}
 use Rattle.edit_engine.specs.declared.renewal.Evaluated.{Evaluated}
-use Rattle.edit_engine.proofs.StagedLemmas.{HaveStaged-more, HaveStaged-none, SameRecords-then}
-use Rattle.edit_engine.proofs.StagedLemmas.{SameRows-then, next_so}
+use Rattle.edit_engine.proofs.EntryLemmas.{gathered_more}
+use Rattle.edit_engine.proofs.StagedLemmas.{HaveRows-more, HaveRows-none, SameRows-then, next_so}
 use Rattle.edit_engine.proofs.LeftLemmas.{IsLeft-end, IsLeft-more, IsLeft-start}
-use Rattle.edit_engine.proofs.kept.stage_evaluated.Goals as goal
+use Rattle.edit_engine.proofs.staging.gather_pairs.Goals as goal
 
 pub loop-pair-init : goal.loop-pair-init
 loop-pair-init c =
     let gives = c.into_iter-pair-iterator.ensures.into_iter_gives in
     record {
       left = IsLeft-start _ _ _ _ gives.0 gives.1 (search rules);
-      staged = HaveStaged-none _ _ _ _ _ _;
+      staged = HaveRows-none _ _ _ _;
+      gathered = sym (append-nil c.args.all.now.items);
     }
 
 pub term-requires : goal.term-requires
@@ -31,17 +31,14 @@ loop-pair-preserved c =
     let at = c.loop-pair.invariant in
     let steps = c.in-Some.ensures.steps in
     let rows = c.in_ok-stage.ensures in
-    let reads = c.in_ok-stage-2.ensures in
     record {
       left = IsLeft-more _ _ _ _ _ _ _ at.left steps.0 steps.1;
-      staged = HaveStaged-more (λ found. found.pair) (λ found. Some found.answer.reads) answer_rows
-          c.args.pool.now.terms c.requires.distinct _ _ _ _ c.in-Some.field-0 _ c.requires.once at.left
-          steps.0 _ _ _ _ _ _ at.staged c.term.result.now c.term.ensures rows.kept rows.shapes rows.staged
-          reads.recorded reads.staged;
+      staged = HaveRows-more (λ found. found.pair) answer_rows c.args.pool.now.terms c.requires.distinct
+          _ _ _ _ c.in-Some.field-0 _ c.requires.once at.left steps.0 _ _ _ at.staged c.term.result.now
+          c.term.ensures rows.kept rows.shapes rows.staged;
+      gathered = gathered_more pair_entry c.args.all.now.items c.loop-pair.all.items _ c.loop-pair.yielded
+          c.in-Some.field-0 at.gathered c.in_ok-push.ensures.items;
     }
-
-pub returns-in_err-stage-clause-records : goal.returns-in_err-stage-clause-records
-returns-in_err-stage-clause-records c = c.loop-pair.invariant.staged.same
 
 pub returns-in_err-stage-clause-rows : goal.returns-in_err-stage-clause-rows
 returns-in_err-stage-clause-rows c = SameRows-then c.loop-pair.invariant.staged.rows c.stage.ensures.kept
@@ -49,19 +46,12 @@ returns-in_err-stage-clause-rows c = SameRows-then c.loop-pair.invariant.staged.
 pub returns-in_err-stage-clause-places : goal.returns-in_err-stage-clause-places
 returns-in_err-stage-clause-places c = c.stage.ensures.shapes ∙ c.loop-pair.invariant.staged.places
 
-pub returns-in_err-stage-2-clause-records : goal.returns-in_err-stage-2-clause-records
-returns-in_err-stage-2-clause-records c =
-    SameRecords-then c.loop-pair.invariant.staged.same c.stage-in-loop-pair.ensures.recorded
-
-pub returns-in_err-stage-2-clause-rows : goal.returns-in_err-stage-2-clause-rows
-returns-in_err-stage-2-clause-rows c =
+pub returns-in_err-push-clause-rows : goal.returns-in_err-push-clause-rows
+returns-in_err-push-clause-rows c =
     SameRows-then c.loop-pair.invariant.staged.rows c.in_ok-stage.ensures.kept
 
-pub returns-in_err-stage-2-clause-places : goal.returns-in_err-stage-2-clause-places
-returns-in_err-stage-2-clause-places c = c.in_ok-stage.ensures.shapes ∙ c.loop-pair.invariant.staged.places
-
-pub returns-clause-records : goal.returns-clause-records
-returns-clause-records c = c.loop-pair.invariant.staged.same
+pub returns-in_err-push-clause-places : goal.returns-in_err-push-clause-places
+returns-in_err-push-clause-places c = c.in_ok-stage.ensures.shapes ∙ c.loop-pair.invariant.staged.places
 
 pub returns-clause-rows : goal.returns-clause-rows
 returns-clause-rows c = c.loop-pair.invariant.staged.rows
@@ -72,6 +62,12 @@ returns-clause-places c = c.loop-pair.invariant.staged.places
 pub returns-clause-staged : goal.returns-clause-staged
 returns-clause-staged c =
     let at = c.loop-pair.invariant in
-    subst (λ items. HaveStaged (λ found. found.pair) (λ found. Some found.answer.reads) answer_rows
-    c.args.pool.now.terms items c.args.records.now c.loop-pair.records c.args.results.now c.loop-pair.results)
-    (IsLeft-end _ _ _ _ at.left c.in-None.ensures.steps.0) at.staged
+    subst (λ items. HaveRows (λ found. found.pair) answer_rows c.args.pool.now.terms items c.args.results.now
+    c.loop-pair.results) (IsLeft-end _ _ _ _ at.left c.in-None.ensures.steps.0) at.staged
+
+pub returns-clause-gathered : goal.returns-clause-gathered
+returns-clause-gathered c =
+    let at = c.loop-pair.invariant in
+    at.gathered
+    ∙ ap (λ es. c.args.all.now.items ++ map pair_entry es)
+    (IsLeft-end _ _ _ _ at.left c.in-None.ensures.steps.0)

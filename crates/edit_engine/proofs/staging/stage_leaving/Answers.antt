@@ -1,18 +1,25 @@
 use Rattle.std.proofs.Common.{sym, subst, ap, ◌∙◌, ◌<◌, length, refl, arith}
 use Rattle.std.proofs.lemmas.List.{map-append}
-use Rattle.std.specs.Prelude.{None, [], ◌∷◌}
-use Rattle.edit_engine.specs.inner.Put.{HaveStaged, no_rows}
-use Rattle.edit_engine.proofs.StagedLemmas.{HaveStaged-more, HaveStaged-none, SameRecords-then}
-use Rattle.edit_engine.proofs.StagedLemmas.{SameRows-then, next_so}
+use Rattle.std.specs.Prelude.{[], ◌∷◌}
+use Rattle.comp_core.specs.Pairs.{same_pair_equiv}
+use Rattle.read_records.specs.declared.reader.Reader.TheVariants.{OfPair}
+use Rattle.read_records.specs.Records.{change_of}
+use Rattle.edit_engine.specs.inner.Put.{HaveRows, IsPut, no_reads, no_rows}
+use Rattle.edit_engine.proofs.EntryLemmas.{told_pair}
+use Rattle.edit_engine.proofs.PutLemmas.{IsPut-none, IsPut-step, PutsOne-reader}
+use Rattle.edit_engine.proofs.StagedLemmas.{HaveRows-more, HaveRows-none, SameRecords-itself}
+use Rattle.edit_engine.proofs.StagedLemmas.{SameRecords-then, SameRows-then, next_so}
 use Rattle.edit_engine.proofs.LeftLemmas.{IsLeft-end, IsLeft-more, IsLeft-start, map_itself}
-use Rattle.edit_engine.proofs.kept.stage_leaving.Goals as goal
+use Rattle.edit_engine.proofs.staging.stage_leaving.Goals as goal
 
 pub loop-pair-init : goal.loop-pair-init
 loop-pair-init c =
     let gives = c.into_iter-pair-iterator.ensures.into_iter_gives in
     record {
       left = IsLeft-start _ _ _ _ gives.0 refl (ap length gives.0);
-      staged = HaveStaged-none _ _ _ _ _ _;
+      same = SameRecords-itself _;
+      gone = IsPut-none OfPair no_reads _;
+      staged = HaveRows-none _ _ _ _;
     }
 
 pub term-requires : goal.term-requires
@@ -36,16 +43,18 @@ loop-pair-preserved c =
     let long = ap length steps in
     record {
       left = rw more (IsLeft-more _ _ _ _ _ _ _ at.left steps (omega arith));
-      staged = rw more (HaveStaged-more (λ p. p) (λ p. None) no_rows
-          c.args.pool.now.terms c.requires.distinct _ _ _ _ c.in-Some.pair.now _
-          (rw map_itself c.requires.once) at.left steps
-          _ _ _ _ _ _ at.staged c.term.result.now c.term.ensures rows.kept rows.shapes
-          (rw c.new-rows.ensures.items at rows.staged)
-          reads.recorded reads.staged);
+      same = SameRecords-then at.same reads.recorded;
+      gone = rw more (IsPut-step OfPair no_reads _ same_pair_equiv (λ p. p) _ _ _ _ c.in-Some.pair.now _
+          (rw map_itself c.requires.once) at.left steps (λ q e. told_pair c.in-Some.pair.now q e) _ _ _
+          at.gone (PutsOne-reader _ _ _ _ reads.staged));
+      staged = rw more (HaveRows-more (λ p. p) no_rows c.args.pool.now.terms c.requires.distinct _ _ _ _
+          c.in-Some.pair.now _ (rw map_itself c.requires.once) at.left steps _ _ _ at.staged
+          c.term.result.now c.term.ensures rows.kept rows.shapes
+          (rw c.new-rows.ensures.items at rows.staged));
     }
 
 pub returns-in_err-stage-clause-records : goal.returns-in_err-stage-clause-records
-returns-in_err-stage-clause-records c = c.loop-pair.invariant.staged.same
+returns-in_err-stage-clause-records c = c.loop-pair.invariant.same
 
 pub returns-in_err-stage-clause-rows : goal.returns-in_err-stage-clause-rows
 returns-in_err-stage-clause-rows c = SameRows-then c.loop-pair.invariant.staged.rows c.stage.ensures.kept
@@ -55,7 +64,7 @@ returns-in_err-stage-clause-places c = c.stage.ensures.shapes ∙ c.loop-pair.in
 
 pub returns-in_err-stage_removal-clause-records : goal.returns-in_err-stage_removal-clause-records
 returns-in_err-stage_removal-clause-records c =
-    SameRecords-then c.loop-pair.invariant.staged.same c.stage_removal.ensures.recorded
+    SameRecords-then c.loop-pair.invariant.same c.stage_removal.ensures.recorded
 
 pub returns-in_err-stage_removal-clause-rows : goal.returns-in_err-stage_removal-clause-rows
 returns-in_err-stage_removal-clause-rows c =
@@ -65,18 +74,22 @@ pub returns-in_err-stage_removal-clause-places : goal.returns-in_err-stage_remov
 returns-in_err-stage_removal-clause-places c =
     c.in_ok-stage.ensures.shapes ∙ c.loop-pair.invariant.staged.places
 
-pub returns-clause-records : goal.returns-clause-records
-returns-clause-records c = c.loop-pair.invariant.staged.same
-
 pub returns-clause-rows : goal.returns-clause-rows
 returns-clause-rows c = c.loop-pair.invariant.staged.rows
 
 pub returns-clause-places : goal.returns-clause-places
 returns-clause-places c = c.loop-pair.invariant.staged.places
 
+pub returns-clause-gone : goal.returns-clause-gone
+returns-clause-gone c =
+    let at = c.loop-pair.invariant in
+    let none = ap length c.in-None.ensures.steps.0 in
+    subst (λ ps. IsPut OfPair no_reads ps (change_of c.args.records.now) (change_of c.loop-pair.records))
+    (IsLeft-end _ _ _ _ at.left none) at.gone
+
 pub returns-clause-staged : goal.returns-clause-staged
 returns-clause-staged c =
     let at = c.loop-pair.invariant in
     let none = ap length c.in-None.ensures.steps.0 in
-    subst (λ items. HaveStaged (λ p. p) (λ p. None) no_rows c.args.pool.now.terms items c.args.records.now
-    c.loop-pair.records c.args.results.now c.loop-pair.results) (IsLeft-end _ _ _ _ at.left none) at.staged
+    subst (λ ps. HaveRows (λ p. p) no_rows c.args.pool.now.terms ps c.args.results.now c.loop-pair.results)
+    (IsLeft-end _ _ _ _ at.left none) at.staged

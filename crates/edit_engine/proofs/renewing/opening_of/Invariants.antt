@@ -1,0 +1,9 @@
+use Rattle.std.specs.Prelude.{take}
+use Rattle.shape_eval.specs.Planned.{plan_of}
+use Rattle.edit_engine.specs.inner.Parts.{OpensTargets}
+use Rattle.edit_engine.proofs.renewing.opening_of.Given as goal
+
+abbrev pub invariant-loop-shape : goal.invariant-loop-shape
+invariant-loop-shape g l =
+    OpensTargets (plan_of l.plan).shapes (g.V.GraphView.graph l.view) (take l.shape-index l.shape-items)
+    l.renewal

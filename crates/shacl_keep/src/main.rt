@@ -4,20 +4,18 @@
 //! | file | what it holds |
 //! |---|---|
 //! | `program.rt` | the program over any inputs, sink and pattern host, with the theorem of `run` |
-//! | `command_line.rt` | the words behind the program's name, or how the program ends without them |
 //! | `main.rt` | the program over files and standard output |
 //!
-//! It stands on `shacl_run`, `command_words`, `shx_outside` and `shx_term`. Start with `program.rt`: `main`
-//! only makes the adapters, and ends with the status's number.
+//! It stands on `shacl_run`, `command_words`, `program_words`, `shx_outside` and `shx_term`. Start with
+//! `program.rt`: `main` only makes the adapters, and ends with the status's number.
 #![tactic(auto)]
 
 ghost use Rattle.std.specs.Prelude.{◌≡◌};
 
-mod command_line;
 mod program;
 
-use command_line::read_words;
 use program::run_program;
+use program_words::read_words;
 use shacl_run::Status;
 use shx_outside::{FileInputs, RegexHost, StdSink};
 use shx_term::{Steps, Text};
@@ -29,7 +27,7 @@ use std::sync::ledger::{Blank, Ledger};
 fn main(rt: HostRuntime) -> ExitCode {
     let status = match read_words(&rt) {
         Ok(words) => run_on_files(&rt, &words),
-        Err(status) => status,
+        Err(why) => Status::from(why),
     };
     ExitCode::from(status.number())
 }

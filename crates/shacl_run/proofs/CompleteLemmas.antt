@@ -15,7 +15,7 @@ use Rattle.shacl_run.specs.declared.status.Status.{Status}
 use Rattle.shacl_run.specs.declared.status.Status.TheVariants.{Conforms, Violates, BadWords, Refused}
 use Rattle.shacl_run.specs.declared.status.Status.TheVariants.{InputFault, WriteFault, Memory, LinesRefused}
 use Rattle.shacl_run.specs.Complete.{HasNoPattern, HasRoom, HasRoomByAny, IsCalm, IsComplete, IsDue}
-use Rattle.shacl_run.specs.Complete.{NothingFailed}
+use Rattle.shacl_run.specs.Complete.{IsUndisturbed, NothingFailed, WritesDefined}
 use Rattle.shacl_run.specs.Outside.{Outside}
 use Rattle.shacl_run.specs.Readings.{AreJudged, ComeTo, Readings, TextReading, States, Faulty, Long}
 use Rattle.shacl_run.specs.Readings.{stated_graph}
@@ -187,3 +187,39 @@ module _ (limits : Limits) (readings : Readings) (words : List (List ℕ)) (befo
       → status ≢ WriteFault
   no_write_fault status shapes has runs = λ is.
       no_fault shapes has (subst (IsRun limits words before after) is runs)
+
+-- ---- nothing disturbs
+
+module _ (limits : Limits) (readings : Readings) (words : List (List ℕ)) (before after : Outside)
+    (status : Status) (runs : IsRun limits words before after status)
+    (calm : IsUndisturbed limits readings words before after) where
+  defined_by : IsAnswered status → (verdict : Verdict)
+      → AreJudged limits readings.shapes (words_shapes before.inputs.text (command_words words)) verdict
+      → HasRoom limits readings words before verdict
+      → WritesDue limits readings verdict words before after status
+      → WritesDefined limits readings words before after status
+  defined_by answered verdict judged room due = record {
+    verdict = verdict;
+    judged = judged;
+    built = no_pattern_refused limits words before readings calm.no_pattern verdict judged;
+    output = room.output;
+    defined = room.due;
+    written =
+        let is = subst (λ told. IfSome told (λ defined. due.output ≡ defined)) room.due due.due in
+        subst (λ output. WritesWhole output before after status) is (due.exact answered);
+  }
+
+  pub undisturbed : (status ≡ Memory) ⊎ WritesDefined limits readings words before after status
+  undisturbed =
+      let inputs = no_input_fault limits words before after status calm.texts calm.texts_left calm.told
+      calm.honest runs in
+      let sink = no_write_fault limits readings words before after status calm.shapes calm.room runs in
+      elim (served status inputs sink) [
+        | inl memory ↦ inl memory
+        | inr answered ↦ elim (runs.writes readings calm.shapes) [
+          | inl by ↦
+              let room = calm.room by.verdict by.judged in
+              inr (defined_by answered by.verdict by.judged room (by.says room.data_text room.lines))
+          | inr early ↦ absurd (cut_is_not_answered status answered early.cut)
+        ]
+      ]

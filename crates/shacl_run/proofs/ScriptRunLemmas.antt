@@ -10,8 +10,9 @@ use Rattle.graph_view.proofs.SameGraphLemmas.{SameGraph-then}
 use Rattle.shape_eval.specs.Plan.{Planned}
 use Rattle.shape_eval.specs.Report.{pairs, report}
 use Rattle.edit_engine.specs.declared.edit.Change.{Change}
-use Rattle.edit_engine.specs.Applied.{SamePlan, applied_as}
+use Rattle.edit_engine.specs.Applied.{SamePlan, applied_as, outcome_of}
 use Rattle.edit_engine.specs.Edits.{Outcome, NoEffect, PastTriples, PastTerms, Effect, changed_by, edited}
+use Rattle.edit_engine.specs.Edits.{outcome}
 use Rattle.edit_engine.specs.EngineState.{EngineState}
 use Rattle.edit_engine.specs.Touched.{touched_pairs}
 use Rattle.text_output.specs.declared.format.Format.{Format}
@@ -70,6 +71,16 @@ module _ (limits : Limits) (format : Format) (s : ScriptState) (script : ScriptR
       → IsScriptRun limits format s (record script { engine = engine })
   IsScriptRun-same engine same =
       subst (λ (e : EngineState). IsScriptRun limits format s (record script { engine = e })) (sym same) is
+
+-- what comes of an edit is what the engine says, which may store the graph in another order
+pub same_outcome : ((most_triples most_terms : ℕ) (g h : Graph) (edit : Edit) → SameGraph g h
+    → outcome most_triples most_terms g edit ≡ outcome most_triples most_terms h edit)
+    → (manner : Manner) (s : ScriptState) (script : ScriptRun)
+    → IsScriptRun manner.limits manner.format s script → (edit : Edit)
+    → outcome manner.limits.triples manner.limits.terms s.graph edit ≡ outcome_of script.engine edit
+same_outcome law manner s script is edit =
+    law manner.limits.triples manner.limits.terms s.graph script.engine.graph edit is.stores
+    ∙ (λ i. outcome (sym is.triples i) (sym is.terms i) script.engine.graph edit)
 
 answer_said : (format : Format) (terms terms' : List Term) (answer answer' : Answer) → terms ≡ terms'
     → answer ≡ answer' → answer_text format terms answer ++ [] ≡ answer_text format terms' answer'

@@ -8,18 +8,17 @@ use Rattle.shx_term.specs.declared.term.Term.{Term}
 use Rattle.shx_term.specs.declared.term.Term.TheVariants.{Iri, Blank, Lit}
 use Rattle.shx_term.specs.declared.triple.Triple.{Triple}
 use Rattle.shx_term.specs.declared.triple.TermTriple.{TermTriple}
-use Rattle.shx_term.specs.Members.{SameMembers}
-use Rattle.shx_term.specs.Pool.{Pooled, with_term, with_terms}
+use Rattle.shx_term.specs.Pool.{Pooled}
 use Rattle.shx_term.specs.TripleTerms.{numbered, numbered_all, terms_of}
-use Rattle.shx_term.specs.ValidTriples.{IsIri, IsNoLiteral, IsNotWide, IsValidTermTriple}
+use Rattle.shx_term.specs.ValidTriples.{IsNotWide, IsValidTermTriple}
 use Rattle.shx_term.specs.Vocabulary.{vocabulary}
-use Rattle.shx_term.proofs.MemberLemmas.{All_of_each, each_of_All}
 use Rattle.graph_view.specs.Graph.{Graph, graph_of}
 use Rattle.graph_view.specs.SameGraph.{SameGraph}
 use Rattle.graph_view.specs.Valid.{IsValidTriple, IsValidView}
 use Rattle.graph_view.proofs.SameGraphLemmas.{first_places_same}
 use Rattle.shx_term.proofs.SetLemmas.{SameMembers-sym}
-use Rattle.graph_view.proofs.ValidLemmas.{IsValidTriple-numbered, IsValidView-entered}
+use Rattle.graph_view.proofs.ValidLemmas.{IsValidTriple-numbered}
+use Rattle.edit_engine.proofs.ValidEditLemmas.{narrow_terms, valid_entered, valid_members}
 use Rattle.ttl_meaning.specs.declared.document.Document.{Document}
 use Rattle.ttl_meaning.specs.inner.DocumentOf.{IsDocumentOf}
 use Rattle.ttl_meaning.specs.IsStated.{Bounds}
@@ -27,26 +26,6 @@ use Rattle.ttl_meaning.specs.State.{State}
 use Rattle.shacl_run.specs.inner.Validation.{HasNoWide}
 
 -- ---- terms that are no wide literals
-
-narrow_subject : (t : Term) → IsNoLiteral t → IsNotWide t
-narrow_subject (Iri iri) is = tt
-narrow_subject (Blank blank) is = tt
-narrow_subject (Lit literal) is = absurd is
-
-narrow_predicate : (t : Term) → IsIri t → IsNotWide t
-narrow_predicate (Iri iri) is = tt
-narrow_predicate (Blank blank) is = absurd is
-narrow_predicate (Lit literal) is = absurd is
-
--- those of valid triples
-narrow_terms : (ts : List TermTriple) → All IsValidTermTriple ts → HasNoWide (terms_of ts)
-narrow_terms [] all = All-nil IsNotWide
-narrow_terms (t ∷ ts) all =
-    let valid = All-head IsValidTermTriple t ts all in
-    let rest = narrow_terms ts (All-tail IsValidTermTriple t ts all) in
-    All-cons IsNotWide t.s (t.p ∷ (t.o ∷ terms_of ts)) (narrow_subject t.s valid.subject)
-    (All-cons IsNotWide t.p (t.o ∷ terms_of ts) (narrow_predicate t.p valid.predicate)
-    (All-cons IsNotWide t.o (terms_of ts) valid.object rest))
 
 abbrev is_iri_term : Term → Bool
 is_iri_term (Iri iri) = true
@@ -70,25 +49,6 @@ unfolding vocabulary
 narrow_vocabulary = narrow_iris vocabulary refl
 
 -- ---- valid views
-
--- a view stays valid where terms are entered that are no wide literals
-valid_entered : (g : Graph) (ts : List Term) → IsValidView g → HasNoWide ts
-    → IsValidView (record g { terms = with_terms g.terms ts })
-valid_entered g [] valid narrow = valid
-valid_entered g (t ∷ ts) valid narrow =
-    let one : Graph = record g { terms = with_term g.terms t } in
-    valid_entered one ts (IsValidView-entered g one t valid (All-head IsNotWide t ts narrow) refl refl)
-    (All-tail IsNotWide t ts narrow)
-
--- ... and where the same triples stand in another order
-pub valid_members : (g h : Graph) → g.terms ≡ h.terms → SameMembers g.triples h.triples → IsValidView g
-    → IsValidView h
-valid_members g h terms same valid = record {
-  triples = All_of_each (IsValidTriple h.terms) h.triples (λ t c.
-      subst (λ ts. IsValidTriple ts t) terms
-      (each_of_All (IsValidTriple g.terms) g.triples valid.triples t ((same.each t).1 c)));
-  terms = subst HasNoWide terms valid.terms;
-}
 
 -- what is stored of valid triples is a valid view
 pub valid_stored : (terms : List Term) (triples : List Triple) (h : Graph)

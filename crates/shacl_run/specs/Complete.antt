@@ -1,6 +1,7 @@
 -- What follows where nothing outside fails: a run answers as is due, or memory is wanted.
 use Rattle.std.specs.Prelude.{◌≡◌, ◌≢◌, ℕ, ◌≤◌, ◌⊎◌, false, List, length, Some, IfSome}
 use Rattle.shx_outside.specs.Counted.{last_count}
+use Rattle.shx_outside.specs.OpenTexts.{OpenTexts, texts_told}
 use Rattle.shx_term.specs.declared.limits.Limits.{Limits}
 use Rattle.graph_view.specs.Graph.{Graph}
 use Rattle.ttl_meaning.specs.State.{State}
@@ -79,3 +80,28 @@ HasRoomByAny limits readings words before =
     (verdict : Verdict)
     → AreJudged limits readings.shapes (words_shapes before.inputs.text (command_words words)) verdict
     → HasRoom limits readings words before verdict
+
+-- ---- a run that nothing disturbs
+
+-- the texts are told and none fails to be read, no shape states a pattern, and the sink has room for what is
+-- due
+pub record IsUndisturbed (limits : Limits) (readings : Readings) (words : List (List ℕ))
+    (before after : Outside) : Type 0 where
+  pub texts : OpenTexts
+  pub texts_left : OpenTexts
+  pub told : before.inputs ≡ texts_told 0 texts
+  pub honest : after.inputs ≡ texts_told 0 texts_left
+  pub shapes : ShapesAreReadBy limits readings (command_words words) before.inputs.text
+  pub no_pattern : HasNoPattern limits readings words before
+  pub room : HasRoomByAny limits readings words before
+
+-- by a verdict that the shapes come to, the defined output stands written, and the run ended with its status
+pub record WritesDefined (limits : Limits) (readings : Readings) (words : List (List ℕ))
+    (before after : Outside) (status : Status) : Type 0 where
+  pub verdict : Verdict
+  pub judged : AreJudged limits readings.shapes (words_shapes before.inputs.text (command_words words))
+      verdict
+  pub built : refuses_pattern verdict ≡ false
+  pub output : Output
+  pub defined : run_output limits readings verdict words before.inputs.text ≡ Some output
+  pub written : WritesWhole output before after status

@@ -1,5 +1,7 @@
 -- How runs end.
 use Rattle.std.specs.Prelude.{ℕ}
+use Rattle.program_words.specs.declared.no_words.NoWords.{NoWords}
+use Rattle.program_words.specs.declared.no_words.NoWords.TheVariants as no_words
 use Rattle.shacl_run.specs.declared.status.Status.{Status}
 use Rattle.shacl_run.specs.declared.status.Status.TheVariants.{Conforms, Violates, BadWords, Refused}
 use Rattle.shacl_run.specs.declared.status.Status.TheVariants.{InputFault, WriteFault, Memory, LinesRefused}
@@ -13,6 +15,11 @@ status_number InputFault = 4
 status_number WriteFault = 5
 status_number Memory = 6
 status_number LinesRefused = 7
+
+-- how a program ends that has no words
+abbrev pub status_without_words : NoWords → Status
+status_without_words no_words.NoText = BadWords
+status_without_words no_words.Memory = Memory
 
 -- the run answered: neither memory nor the outside failed
 abbrev pub IsAnswered : Status → Type 0

@@ -1,15 +1,25 @@
 //! What follows from the promise of a run where nothing outside fails: laws, which do nothing when called.
-ghost use Rattle.std.specs.Prelude.{◌≡◌, ◌≢◌, ℕ, List, false};
+ghost use Rattle.std.specs.Prelude.{◌≡◌, ◌≢◌, ◌⊎◌, ℕ, List, false};
 ghost use Rattle.command_words.specs.Words.{command_words};
 ghost use Rattle.shx_term.specs.declared.limits.Limits.{Limits as LimitsOf};
 ghost use Rattle.shx_outside.specs.OpenTexts.{OpenTexts, texts_told};
 ghost use Rattle.shacl_run.specs.declared.status.Status.{Status as StatusOf};
-ghost use Rattle.shacl_run.specs.declared.status.Status.TheVariants.{InputFault, WriteFault};
-ghost use Rattle.shacl_run.specs.Complete.{HasNoPattern, HasRoomByAny, IsComplete, NothingFailed};
+ghost use Rattle.shacl_run.specs.declared.status.Status.TheVariants.{InputFault, Memory, WriteFault};
+ghost use Rattle.shacl_run.specs.Complete.{HasNoPattern, HasRoomByAny, IsComplete, IsUndisturbed};
+ghost use Rattle.shacl_run.specs.Complete.{NothingFailed, WritesDefined};
 ghost use Rattle.shacl_run.specs.Outside.{Outside};
 ghost use Rattle.shacl_run.specs.Readings.{AreJudged, Readings};
 ghost use Rattle.shacl_run.specs.RunClauses.{IsRun, ShapesAreReadBy, words_shapes};
 ghost use Rattle.shacl_run.specs.Verdict.{Verdict, refuses_pattern};
+
+/// Where nothing disturbs a run, it wants memory, or the defined output stands written and the run ended with
+/// its status.
+pub fn an_undisturbed_run_is_due()
+    ensures { (limits : LimitsOf) (readings : Readings) (words : List (List ℕ)) (before after : Outside)
+        (status : StatusOf) → IsRun limits words before after status
+        → IsUndisturbed limits readings words before after
+        → (status ≡ Memory) ⊎ WritesDefined limits readings words before after status }
+{}
 
 /// Where no count of failures rises, and none stands at its last value, a run answers as is due, or wants
 /// memory.

@@ -41,21 +41,21 @@ pub struct Accepted {
 pub fn judge<P: PatternHost>(
     alloc: Global,
     pool: Pool,
-    text: &[u8],
+    text: Vec<u8>,
     base: &IriText,
     limits: &Limits,
     patterns: &mut P,
 ) -> Result<Accepted, Unopened>
     requires absolute { IsAbsolute base.now }
     requires usable { AreUsable limits.now }
-    requires within { length text.now ≤ limits.now.text }
+    requires within { length text.items ≤ limits.now.text }
     requires fresh { pool.terms ≡ vocabulary }
     requires limit { pool.limit ≡ limits.now.terms }
-    requires admitted { PatternsAreAdmitted limits.now base.now (Some text.now) (P.admits patterns.old) }
+    requires admitted { PatternsAreAdmitted limits.now base.now (Some text.items) (P.admits patterns.old) }
     ensures accepts { IfOk result
-        (Accepts limits.now base.now text.now (P.state patterns.old) (P.state patterns.new)) }
+        (Accepts limits.now base.now text.items (P.state patterns.old) (P.state patterns.new)) }
     ensures refused { IfErr result
-        (RefusesShapes limits.now base.now text.now (P.state patterns.old) (P.state patterns.new)) }
+        (RefusesShapes limits.now base.now text.items (P.state patterns.old) (P.state patterns.new)) }
     ensures limit { IfOk result (λ accepted. accepted.pool.limit ≡ limits.now.terms) }
     ensures no_wide { IfOk result (λ accepted. HasNoWide accepted.pool.terms) }
     ensures cut { IfErr result IsStill }

@@ -48,8 +48,8 @@ mod unopened;
 mod validation;
 
 pub use complete::{
-    a_roomy_sink_never_fails, honest_inputs_never_fail, no_pattern_is_never_refused,
-    runs_are_complete,
+    a_roomy_sink_never_fails, an_undisturbed_run_is_due, honest_inputs_never_fail,
+    no_pattern_is_never_refused, runs_are_complete,
 };
 pub use status::Status;
 pub use top::run;

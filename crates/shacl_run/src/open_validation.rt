@@ -30,7 +30,7 @@ use ttl_read::Document;
 pub fn open_validation(
     alloc: Global,
     accepted: Accepted,
-    text: &[u8],
+    text: Vec<u8>,
     base: &IriText,
     format: Format,
     limits: &Limits,
@@ -38,14 +38,14 @@ pub fn open_validation(
     requires absolute { IsAbsolute base.now }
     requires depth { limits.now.turtle_depth ≤ 128 }
     requires limit { accepted.pool.limit ≡ limits.now.terms }
-    requires within { length text.now ≤ limits.now.text }
+    requires within { length text.items ≤ limits.now.text }
     requires known { IsKnownPlan accepted.pool.terms (plan_of accepted.plan).shapes }
     requires refers { RefersLower (plan_of accepted.plan).shapes }
     requires within_plan { TargetsItsOwn (plan_of accepted.plan) }
     requires no_wide { HasNoWide accepted.pool.terms }
     ensures opened { IfOk result
-        (Opens limits.now format base.now accepted.pool.terms (plan_of accepted.plan) text.now) }
-    ensures refused { IfErr result (RefusesData limits.now base.now accepted.pool.terms text.now) }
+        (Opens limits.now format base.now accepted.pool.terms (plan_of accepted.plan) text.items) }
+    ensures refused { IfErr result (RefusesData limits.now base.now accepted.pool.terms text.items) }
     ensures passed { IfOk result (λ validation. validation.passed_over ≡ accepted.passed_over) }
     ensures stands { IfOk result Stands }
     ensures cut { IfErr result IsStill }

@@ -70,9 +70,9 @@ pub fn prepare<I: Inputs, P: PatternHost>(
         Ok(text) => text,
         Err(refusal) => return Err(Unopened::of(refusal, pool)),
     };
-    let accepted = judge(alloc, pool, &shapes_text, &base, limits, patterns)?;
+    let accepted = judge(alloc, pool, shapes_text, &base, limits, patterns)?;
     match read_within(alloc, host, Role::Data, asked.data_file, limits.text) {
-        Ok(text) => open_validation(alloc, accepted, &text, &base, asked.format, limits),
+        Ok(text) => open_validation(alloc, accepted, text, &base, asked.format, limits),
         Err(refusal) => Err(Unopened::of(refusal, accepted.pool)),
     }
 }

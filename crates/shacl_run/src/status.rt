@@ -1,6 +1,8 @@
 ghost use Rattle.std.specs.Prelude.{◌≡◌};
 ghost use Rattle.shacl_run.specs.Status.{status_number};
 
+use program_words::NoWords;
+
 /// How a run ended. The program ends with the status's number.
 #[derive(Clone, Copy, Debug, PartialEq, Eq)]
 pub enum Status {
@@ -36,6 +38,21 @@ impl Status {
             Status::WriteFault => 5,
             Status::Memory => 6,
             Status::LinesRefused => 7,
+        }
+    }
+}
+
+/// How a program ends that has no words: for want of memory, or since one of them is no text. Nothing is
+/// written then.
+impl From<NoWords> for Status {
+    ghost use Rattle.shacl_run.specs.Status.{status_without_words};
+
+    ghost from_gives = { λ why status. status ≡ status_without_words why };
+
+    fn from(why: NoWords) -> Status {
+        match why {
+            NoWords::NoText => Status::BadWords,
+            NoWords::Memory => Status::Memory,
         }
     }
 }

@@ -16,10 +16,11 @@ use std::alloc::Global;
 use ttl_read::{Document, TtlFault, read_document};
 
 /// What a text states, over the numbers of its terms, which are entered into the pool; or why it is refused.
-/// It takes time linear in the text, but for looking up terms by hash and prefixes by name.
+/// The text goes once it is read, so that it lies beside nothing that is made of it. It takes time linear in
+/// the text, but for looking up terms by hash and prefixes by name.
 pub fn read_turtle(
     alloc: Global,
-    text: &[u8],
+    text: Vec<u8>,
     base: &IriText,
     scope: Scope,
     limits: &Limits,
@@ -28,19 +29,19 @@ pub fn read_turtle(
     requires absolute { IsAbsolute base.now }
     requires depth { limits.now.turtle_depth ≤ 128 }
     requires limit { pool.old.limit ≡ limits.now.terms }
-    requires within { length text.now ≤ limits.now.text }
+    requires within { length text.items ≤ limits.now.text }
     ensures limit { pool.new.limit ≡ pool.old.limit }
     ensures states { IfOk result
-        (StatesDocument limits.now base.now scope pool.old.terms text.now pool.new.terms) }
+        (StatesDocument limits.now base.now scope pool.old.terms text.items pool.new.terms) }
     ensures valid { HasNoWide pool.old.terms → IfOk result (λ document.
         IsValidView (record { terms = pool.new.terms; triples = document.triples.items })) }
     ensures known { IfOk result (λ document. IsKnownDocument limits.now.triples
         (record { terms = pool.new.terms; triples = document.triples.items })) }
     ensures refused { IfErr result
-        (RefusesAs (role_of scope) (IsReadAs limits.now base.now scope pool.old.terms text.now)) }
+        (RefusesAs (role_of scope) (IsReadAs limits.now base.now scope pool.old.terms text.items)) }
     ensures cut { IfErr result IsQuiet }
 {
-    match read_document(alloc, text, base, scope, limits, pool) {
+    match read_document(alloc, &text, base, scope, limits, pool) {
         Ok(document) => Ok(document),
         Err(TtlFault::At { code, at }) => Err(Refusal::Text(Answer::TextFault {
             role: role_of(scope),

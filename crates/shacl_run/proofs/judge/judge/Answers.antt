@@ -65,7 +65,7 @@ returns-clause-refused g c =
     let terms : pool.terms ≡ document.terms = ap (λ (pool : Pooled). pool.terms)
     (c.into_pool-in-Err-plan_shapes.ensures ∙ c.in_ok-graph.ensures.pool) in
     rw c.of-in-Err-plan_shapes.ensures
-    (shapes_unplanned c.args.limits.now c.args.base.now c.args.text.now pool
+    (shapes_unplanned c.args.limits.now c.args.base.now c.args.text.items pool
     (g.P.PatternHost.state c.args.patterns.now)
     (g.P.PatternHost.state c.plan_shapes.new.patterns) c.in-Err-plan_shapes.refusal document stored end
     (rw c.requires.fresh at read) terms same c.in-Err-plan_shapes.ensures.refused)

@@ -56,13 +56,11 @@ judge-requires-clause-admitted g c =
     let asked = c.args.asked.now in
     let admits = g.P.PatternHost.admits c.args.patterns.now in
     let base : c.new-base.result ≡ asked.base.now = c.new-base.ensures ∙ c.in_ok-from_str.ensures.ok in
-    subst (λ (bytes : List ℕ). PatternsAreAdmitted limits c.new-base.result (Some bytes) admits)
-    (sym c.deref.ensures.value)
-    (subst (λ (base : List ℕ). PatternsAreAdmitted limits base (Some c.in-Ok.text.items) admits) (sym base)
+    subst (λ (base : List ℕ). PatternsAreAdmitted limits base (Some c.in-Ok.text.items) admits) (sym base)
     (admitted_bytes limits asked.base.now
     ((g.I.Inputs.state c.args.host.now).text asked.shapes_file.now)
     ((g.I.Inputs.state c.read_within.new.host).rest Shapes) c.in-Ok.text.items admits c.in-Ok.ensures.read
-    c.requires.patterns_admitted))
+    c.requires.patterns_admitted)
 
 pub returns-in_err-accepted-clause-prepared : goal.returns-in_err-accepted-clause-prepared
 returns-in_err-accepted-clause-prepared g c =
@@ -83,7 +81,7 @@ returns-in_err-accepted-clause-prepared g c =
     (before.text asked.data_file.now) (g.P.PatternHost.state c.args.patterns.now)
     (g.P.PatternHost.state c.judge.new.patterns) (IsOpenedBy before mid Data) (mid.rest Shapes)
     c.in-Ok.text.items c.in-Ok.ensures.read why
-    (rw (c.deref.ensures.value, base) at c.in_err-accepted.ensures.refused)
+    (rw base at c.in_err-accepted.ensures.refused)
     (no_data limits.text before mid first))
 
 pub returns-in_err-accepted-clause-patterns : goal.returns-in_err-accepted-clause-patterns
@@ -91,7 +89,7 @@ returns-in_err-accepted-clause-patterns g c =
     let why = c.in_err-accepted.field-0.0 in
     let exit = c.from_residual-in_err-accepted in
     rw (passed_on exit.result why exit.ensures.1)
-    (HostStays-unplanned c.args.limits.now c.new-base.result c.deref.result.now
+    (HostStays-unplanned c.args.limits.now c.new-base.result c.in-Ok.text.items
     (g.P.PatternHost.state c.args.patterns.now) (g.P.PatternHost.state c.judge.new.patterns) why
     c.in_err-accepted.ensures.refused)
 
@@ -128,11 +126,11 @@ returns-in-Ok-read_within-clause-prepared g c =
     (before.text asked.data_file.now) (g.P.PatternHost.state c.args.patterns.now)
     (g.P.PatternHost.state c.judge.new.patterns) (IsOpenedBy before after Data) (mid.rest Shapes)
     c.in-Ok.text.items c.in-Ok.ensures.read c.in_ok-accepted.accepted
-    (rw (c.deref.ensures.value, base) at c.in_ok-accepted.ensures.accepts) (after.rest Data)
+    (rw base at c.in_ok-accepted.ensures.accepts) (after.rest Data)
     c.in-Ok-read_within.text.items c.open_validation.result (rw same at c.in-Ok-read_within.ensures.read)
-    (rw (c.deref-in-Ok-read_within.ensures.value, base) at c.open_validation.ensures.opened)
+    (rw base at c.open_validation.ensures.opened)
     c.open_validation.ensures.passed
-    (rw (c.deref-in-Ok-read_within.ensures.value, base) at c.open_validation.ensures.refused)
+    (rw base at c.open_validation.ensures.refused)
 
 pub returns-in-Ok-read_within-clause-patterns : goal.returns-in-Ok-read_within-clause-patterns
 returns-in-Ok-read_within-clause-patterns g c =
@@ -171,7 +169,7 @@ returns-clause-prepared g c =
     (before.text asked.data_file.now) (g.P.PatternHost.state c.args.patterns.now)
     (g.P.PatternHost.state c.judge.new.patterns) (IsOpenedBy before after Data) (mid.rest Shapes)
     c.in-Ok.text.items c.in-Ok.ensures.read accepted
-    (rw (c.deref.ensures.value, base) at c.in_ok-accepted.ensures.accepts) accepted.pool
+    (rw base at c.in_ok-accepted.ensures.accepts) accepted.pool
     c.in-Err-read_within.refusal (rw same at c.in-Err-read_within.ensures.too_long))
 
 pub returns-clause-patterns : goal.returns-clause-patterns

@@ -1,0 +1,4 @@
+mod DrillLemmas
+mod SizeLemmas
+mod TallyLemmas
+mod TextLemmas

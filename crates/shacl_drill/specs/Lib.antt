@@ -1,0 +1,5 @@
+pub mod Clauses
+pub mod Size
+pub mod Summary
+pub mod Texts
+pub mod inner

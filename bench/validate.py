@@ -109,4 +109,5 @@ def main():
             print(f"| {row} |", flush=True)
 
 
-main()
+if __name__ == "__main__":
+    main()

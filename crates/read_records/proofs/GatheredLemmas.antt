@@ -1,8 +1,7 @@
--- What is gathered from notes: whoever has read a key stands under it; and a tree that is made of a list.
-use Rattle.std.specs.Prelude.{◌≡◌, List, [], ◌∷◌, Option, Some, None, All, Contains, map, ◌↔◌, ◌⊎◌}
+-- What is gathered from notes: whoever has read a key stands under it; and what is recorded of a list.
+use Rattle.std.specs.Prelude.{◌≡◌, List, [], ◌∷◌, Option, Some, None, Contains, map, ◌⊎◌}
 use Rattle.std.specs.BTreeMap as tree
 use Rattle.std.specs.BTreeMap.{BTreeMap}
-use Rattle.std.specs.BTreeSet.{BTreeSet, IsFromIterResult}
 use Rattle.std.specs.Cmp.{eq_by_cmp_equiv}
 use Rattle.std.specs.List.{IsDistinct}
 use Rattle.std.specs.Map.{keys_of, lookup}
@@ -11,52 +10,32 @@ use Rattle.std.specs.Ordering.{eq_by_cmp}
 use Rattle.std.proofs.Common.{refl, sym, ap, ◌∙◌, subst, inl, inr}
 use Rattle.std.proofs.lemmas.Map.Made.{keys_of-map_values, lookup-map_values, update_all_none}
 use Rattle.std.proofs.lemmas.Map.Views.{Contains-from_lookup, tells_apart}
-use Rattle.shx_term.proofs.MemberLemmas.{All_of_each, Contains-cases, Contains-test, each_of_All}
-use Rattle.shx_term.proofs.MemberLemmas.{none_in_empty}
+use Rattle.shx_term.proofs.MemberLemmas.{Contains-cases, none_in_empty}
 use Rattle.graph_view.specs.declared.key.Key.{Key}
-use Rattle.read_records.proofs.ReadingLemmas.{reader_cmp_exact, same_reading_equiv, same_reading_exact}
-use Rattle.read_records.proofs.ReadingLemmas.{same_reading}
+use Rattle.read_records.proofs.ReadingLemmas.{reader_cmp_exact}
 use Rattle.read_records.proofs.StoreLemmas.{is_at, kept_recorded}
 use Rattle.read_records.specs.declared.noted.Noted.{Noted}
 use Rattle.read_records.specs.declared.reader.Reader.{Reader}
-use Rattle.read_records.specs.declared.readings.Reading.{Reading}
 use Rattle.read_records.specs.Reader.{reader_cmp, same_reader}
 use Rattle.read_records.specs.Records.{reads_of}
 use Rattle.read_records.specs.Store.{Notes, if_noted}
 use Rattle.read_records.specs.inner.Notes.{AreUnder, as_recorded, reads_noted}
 use Rattle.read_records.specs.inner.ReaderLaws.{reader_cmp_ties, reader_cmp_total}
-use Rattle.read_records.specs.inner.Readings.{HasNumbers, StandsUnderEach, StaysIn, reading, reading_cmp}
-
--- ---- a tree that is made of a list
-
-pub Contains-collected : (xs : List Reading) (set : BTreeSet Reading) → IsFromIterResult reading_cmp xs set
-    → (x : Reading) → Contains set.keys x ↔ Contains xs x
-Contains-collected xs set made x =
-    let held = Contains-test same_reading same_reading_equiv same_reading_exact set.keys x in
-    let given = Contains-test same_reading same_reading_equiv same_reading_exact xs x in (
-      λ c. given.0 (sym (made.0 x) ∙ held.1 c),
-      λ c. held.0 (made.0 x ∙ given.1 c),
-    )
-
-pub HasNumbers-collected : (xs : List Reading) (set : BTreeSet Reading) → IsFromIterResult reading_cmp xs set
-    → All HasNumbers xs → All HasNumbers set.keys
-HasNumbers-collected xs set made numbers =
-    All_of_each HasNumbers set.keys
-    (λ x c. each_of_All HasNumbers xs numbers x ((Contains-collected xs set made x).0 c))
+use Rattle.read_records.specs.inner.Readings.{Filed, StandsUnderEach, StaysIn, reading}
 
 -- ---- the readings of notes
 
 module _ {T : Type 0} where
   -- of the entries that are not left, the readings were gathered
-  pub record AreGathered (all left : Notes (Noted T)) (readings : List Reading) : Type 0 where
+  pub record AreGathered (all left : Notes (Noted T)) (readings : Filed) : Type 0 where
     pub each : (reader : Reader) (noted : Noted T) → Contains all (reader, Some noted)
         → Contains left (reader, Some noted) ⊎ StandsUnderEach readings noted.reads reader
 
-  pub AreGathered-none : (all : Notes (Noted T)) (readings : List Reading) → AreGathered all all readings
+  pub AreGathered-none : (all : Notes (Noted T)) (readings : Filed) → AreGathered all all readings
   AreGathered-none all readings = record { each = λ reader noted c. inl c }
 
   -- one entry less is left
-  pub AreGathered-next : {all left next : Notes (Noted T)} {old new : List Reading} (reader : Reader)
+  pub AreGathered-next : {all left next : Notes (Noted T)} {old new : Filed} (reader : Reader)
       (entry : Option (Noted T)) → left ≡ (reader, entry) ∷ next → StaysIn old new
       → ((noted : Noted T) → entry ≡ Some noted → StandsUnderEach new noted.reads reader)
       → AreGathered all left old → AreGathered all next new
@@ -77,7 +56,7 @@ module _ {T : Type 0} where
   same_noted is = cc
 
   -- once none is left, whoever has read a key stands under it
-  pub AreUnder-gathered : {all left : Notes (Noted T)} {readings : List Reading}
+  pub AreUnder-gathered : {all left : Notes (Noted T)} {readings : Filed}
       → AreGathered all left readings → left ≡ [] → AreUnder all readings
   AreUnder-gathered {all} {left} {readings} gathered none = record {
     each = λ reader key has. elim (gathered.each reader has.noted

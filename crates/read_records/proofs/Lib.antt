@@ -1,4 +1,6 @@
+pub mod FiledLemmas
 pub mod GatheredLemmas
+pub mod PostingLemmas
 pub mod RangeLemmas
 pub mod ReachedLemmas
 pub mod ReadingLemmas

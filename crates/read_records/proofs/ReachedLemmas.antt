@@ -16,13 +16,12 @@ use Rattle.read_records.proofs.StoreLemmas.{kept_recorded, noted_is, recorded_no
 use Rattle.read_records.proofs.TouchedLemmas.{Lists-sorted}
 use Rattle.read_records.specs.declared.noted.Noted.{Noted}
 use Rattle.read_records.specs.declared.reader.Reader.{Reader}
-use Rattle.read_records.specs.declared.readings.Reading.{Reading}
 use Rattle.read_records.specs.Reader.{reader_cmp, same_reader}
 use Rattle.read_records.specs.Records.{IsTouched, IsTouchedByAny, Recorded}
 use Rattle.read_records.specs.Store.{Notes, Stored, if_noted, note_at}
 use Rattle.read_records.specs.inner.ReaderLaws.{reader_cmp_total, same_reader_equiv, same_reader_exact}
 use Rattle.read_records.specs.inner.Notes.{AreUnder, HasNoted, as_recorded, reads_noted}
-use Rattle.read_records.specs.inner.Readings.{reading}
+use Rattle.read_records.specs.inner.Readings.{Filed, Stands, reading}
 use Rattle.read_records.specs.inner.Touched.{IsTouchedKey}
 
 reader_order : IsExactOrder reader_cmp
@@ -86,8 +85,8 @@ module _ {T : Type 0} where
         }
 
     -- once all that stand under it were looked at, all that have read it are there
-    pub AddsNoted-all : {readings : List Reading} {readers old new : List Reader}
-        → AreUnder entries readings → ((r : Reader) → Contains readers r ↔ Contains readings (reading key r))
+    pub AddsNoted-all : {readings : Filed} {readers old new : List Reader}
+        → AreUnder entries readings → ((r : Reader) → Contains readers r ↔ Stands readings (reading key r))
         → AddsNoted entries key readers old new → (r : Reader)
         → Contains new r ↔ (Contains old r ⊎ HasNoted entries r key)
     AddsNoted-all indexed under added r = (

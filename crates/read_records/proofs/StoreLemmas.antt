@@ -11,14 +11,13 @@ use Rattle.graph_view.specs.declared.key.Key.{Key}
 use Rattle.read_records.proofs.ReadingLemmas.{reader_cmp_exact}
 use Rattle.read_records.specs.declared.noted.Noted.{Noted}
 use Rattle.read_records.specs.declared.reader.Reader.{Reader}
-use Rattle.read_records.specs.declared.readings.Reading.{Reading}
 use Rattle.read_records.specs.Reader.{reader_cmp}
 use Rattle.read_records.specs.Store.{MakesStaged, Notes, SameNotes, SameStaged, StagesFor, Stored, changed_to}
 use Rattle.read_records.specs.Store.{change_for, if_noted, kept_for, note_at}
 use Rattle.read_records.specs.inner.Notes.{AreUnder, ComesToSame, HasKey, HasNoted, HavePlaces, SameNoted}
 use Rattle.read_records.specs.inner.Notes.{StandsFor}
 use Rattle.read_records.specs.inner.Notes.{as_recorded, reads_noted}
-use Rattle.read_records.specs.inner.Readings.{IsLeft, StaysIn, reading}
+use Rattle.read_records.specs.inner.Readings.{Filed, IsLeft, Reading, Stands, StaysIn, reading}
 
 abbrev pub is_at : Reader → Reader → Bool
 is_at reader other = eq_by_cmp reader_cmp reader other
@@ -130,20 +129,20 @@ module _ {T : Type 0} where
 
   -- ---- who stands under the keys
 
-  pub AreUnder-same : {old new : Notes (Noted T)} {readings : List Reading} → SameNoted old new
+  pub AreUnder-same : {old new : Notes (Noted T)} {readings : Filed} → SameNoted old new
       → AreUnder old readings → AreUnder new readings
   AreUnder-same same indexed = record {
     each = λ reader key has. indexed.each reader key (HasNoted-same same reader key has);
   }
 
-  pub AreUnder-stays : {entries : Notes (Noted T)} {old new : List Reading} → StaysIn old new
+  pub AreUnder-stays : {entries : Notes (Noted T)} {old new : Filed} → StaysIn old new
       → AreUnder entries old → AreUnder entries new
   AreUnder-stays stays indexed = record {
     each = λ reader key has. stays.each (reading key reader) (indexed.each reader key has);
   }
 
   -- a reading goes that stands for nothing
-  pub AreUnder-left : {entries : Notes (Noted T)} {old new : List Reading} (key : Key) (reader : Reader)
+  pub AreUnder-left : {entries : Notes (Noted T)} {old new : Filed} (key : Key) (reader : Reader)
       → IsLeft old new (reading key reader) → (HasNoted entries reader key → ⊥)
       → AreUnder entries old → AreUnder entries new
   AreUnder-left {entries} key reader left absent indexed = record {
@@ -153,18 +152,18 @@ module _ {T : Type 0} where
     );
   }
 
-  pub AreUnder-put : {old new : Notes (Noted T)} {readings : List Reading} {reader : Reader} {entry : Entry T}
+  pub AreUnder-put : {old new : Notes (Noted T)} {readings : Filed} {reader : Reader} {entry : Entry T}
       → Puts old new reader entry → StandsFor readings (if_noted entry) reader
       → AreUnder old readings → AreUnder new readings
   AreUnder-put {old} {new} {readings} {reader} {entry} puts stands indexed = record {
-    each = λ other key has. put_at puts (λ r e. e ≡ Some (Some has.noted) → Contains readings (reading key r))
+    each = λ other key has. put_at puts (λ r e. e ≡ Some (Some has.noted) → Stands readings (reading key r))
         (λ is. (subst (λ e. StandsFor readings (if_noted e) reader) is stands).each key has.read) other
         (λ is. indexed.each other key (record { noted = has.noted; stands = is; read = has.read }))
         has.stands;
   }
 
   -- whoever has an entry stands under its keys
-  pub StandsFor-under : {entries : Notes (Noted T)} {readings : List Reading} (reader : Reader)
+  pub StandsFor-under : {entries : Notes (Noted T)} {readings : Filed} (reader : Reader)
       (reads : Option (Noted T)) → AreUnder entries readings → note_at entries reader ≡ Some reads
       → StandsFor readings reads reader
   StandsFor-under reader None indexed is = tt
@@ -173,11 +172,11 @@ module _ {T : Type 0} where
   }
 
   -- who stood under its keys before still does
-  pub record KeepsUnder (entries : Notes (Noted T)) (old new : List Reading) : Type 0 where
+  pub record KeepsUnder (entries : Notes (Noted T)) (old new : Filed) : Type 0 where
     pub keeps : AreUnder entries old → AreUnder entries new
 
   -- one that is not among its keys goes
-  pub KeepsUnder-left : {entries : Notes (Noted T)} {old mid new : List Reading} (key : Key) (reader : Reader)
+  pub KeepsUnder-left : {entries : Notes (Noted T)} {old mid new : Filed} (key : Key) (reader : Reader)
       {held : Entry T} → held ≡ note_at entries reader → IsLeft mid new (reading key reader)
       → (HasKey held key → false ≡ true) → KeepsUnder entries old mid → KeepsUnder entries old new
   KeepsUnder-left key reader is left absent kept = record {
@@ -189,12 +188,12 @@ module _ {T : Type 0} where
   -- ---- what is recorded, what is staged, and the readings of both
 
   -- what always holds of them
-  abbrev pub IsStore : Notes (Noted T) → Notes (Noted T) → List Reading → Type 0
+  abbrev pub IsStore : Notes (Noted T) → Notes (Noted T) → Filed → Type 0
   IsStore records staged readings =
       AreUnder records readings × AreUnder staged readings × HavePlaces staged records
 
   -- nothing is staged
-  pub IsStore-kept : {records staged : Notes (Noted T)} {readings : List Reading} → staged ≡ []
+  pub IsStore-kept : {records staged : Notes (Noted T)} {readings : Filed} → staged ≡ []
       → AreUnder records readings → IsStore records staged readings
   IsStore-kept {records} {readings = readings} none under =
       subst (λ staged. IsStore records staged readings) (sym none) (
@@ -204,7 +203,7 @@ module _ {T : Type 0} where
       )
 
   -- one that has entered, and stands under its keys, is staged
-  pub IsStore-staged : {records entered staged changed : Notes (Noted T)} {old new : List Reading}
+  pub IsStore-staged : {records entered staged changed : Notes (Noted T)} {old new : Filed}
       {reader : Reader} {reads : Option (Noted T)} → IsStore records staged old → MakesPlace records entered
       → StaysIn old new
       → IsSome (note_at entered reader) → StandsFor new reads reader
@@ -216,7 +215,7 @@ module _ {T : Type 0} where
   )
 
   -- a reader has entered
-  pub IsStore-entered : {records entered staged : Notes (Noted T)} {old new : List Reading}
+  pub IsStore-entered : {records entered staged : Notes (Noted T)} {old new : Filed}
       → IsStore records staged old → SameNoted records entered → HavePlaces records entered
       → StaysIn old new → IsStore entered staged new
   IsStore-entered kept same places stays = (
@@ -226,7 +225,7 @@ module _ {T : Type 0} where
   )
 
   -- one that was staged goes
-  pub IsStore-taken : {records staged left : Notes (Noted T)} {readings : List Reading} {reader : Reader}
+  pub IsStore-taken : {records staged left : Notes (Noted T)} {readings : Filed} {reader : Reader}
       → IsStore records staged readings → Puts staged left reader None → IsStore records left readings
   IsStore-taken kept taken = (
     kept.0,
@@ -235,7 +234,7 @@ module _ {T : Type 0} where
   )
 
   -- what went is forgotten
-  pub IsStore-tidied : {records left staged : Notes (Noted T)} {old new : List Reading}
+  pub IsStore-tidied : {records left staged : Notes (Noted T)} {old new : Filed}
       → IsStore records staged old → (AreUnder records old → AreUnder records new)
       → (AreUnder staged old → AreUnder staged new)
       → SameNoted records left → (HavePlaces staged records → HavePlaces staged left)
@@ -244,7 +243,7 @@ module _ {T : Type 0} where
       (AreUnder-same same (first kept.0), next kept.1, places kept.2)
 
   -- one that was staged is made
-  pub IsStore-made : {records made staged left : Notes (Noted T)} {readings : List Reading} {reader : Reader}
+  pub IsStore-made : {records made staged left : Notes (Noted T)} {readings : Filed} {reader : Reader}
       {reads : Option (Noted T)} → IsStore records staged readings → note_at staged reader ≡ Some reads
       → Puts staged left reader None → Puts records made reader (Some reads) → IsStore made left readings
   IsStore-made {reader = reader} {reads = reads} kept was taken puts = (

@@ -1,5 +1,6 @@
 -- Words of the inside: what is proved of public calls can be believed without them.
 pub mod Notes
+pub mod Postings
 pub mod ReaderLaws
 pub mod Readings
 pub mod Touched

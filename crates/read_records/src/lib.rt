@@ -9,6 +9,9 @@
 //! | `noted.rt` | `Noted`: a value, and the keys that were read for it |
 //! | `notes.rt` | what is noted for each reader, and under which keys it stands for that |
 //! | `readings.rt` | under each key its readers |
+//! | `by_kind.rt` | postings for each kind of key |
+//! | `postings.rt` | the postings of one kind, as a tree |
+//! | `posting.rt` | `Posting`: the numbers of a key and of a reader |
 //! | `touched.rt` | the keys that triples touch |
 //! | `gathered.rt` | readings that are gathered, and then put in order at once |
 //!
@@ -16,9 +19,12 @@
 //! `specs/Records.antt` says what is recorded, and whom a triple touches.
 #![tactic(auto)]
 
+mod by_kind;
 mod gathered;
 mod noted;
 mod notes;
+mod posting;
+mod postings;
 mod reader;
 mod readings;
 mod records;

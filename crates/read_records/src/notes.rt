@@ -1,12 +1,12 @@
 //! Entries of readers: what is noted for each, and under which keys it stands for that.
-ghost use Rattle.std.specs.Prelude.{◌≡◌, ◌↔◌, Some, Contains, IsTrue, IsSome, IfOk, OnOk};
+ghost use Rattle.std.specs.Prelude.{◌≡◌, ◌↔◌, Some, IsTrue, IsSome, IfOk, OnOk};
 ghost use Rattle.std.specs.Option.{option_copied};
 ghost use Rattle.std.specs.BTreeMap.{Updates};
 ghost use Rattle.read_records.specs.Reader.{reader_cmp};
 ghost use Rattle.read_records.specs.Store.{note_at};
 ghost use Rattle.read_records.specs.inner.Notes.{AreUnder, HasKey, HasNoted, HavePlaces, SameNoted};
 ghost use Rattle.read_records.specs.inner.Notes.{StandsFor};
-ghost use Rattle.read_records.specs.inner.Readings.{StandsUnderEach, StaysIn, reading};
+ghost use Rattle.read_records.specs.inner.Readings.{Stands, StandsUnderEach, StaysIn, reading};
 ghost use Rattle.graph_view.specs.declared.key.Key.{Key};
 
 use crate::Reader;
@@ -67,7 +67,7 @@ fn enter_keys<T: Drop>(
     keys: &[Key],
     reader: Reader,
 ) -> Result<(), Memory>
-    requires { (key : Key) → HasKey (option_copied held) key → Contains readings.old (reading key reader) }
+    requires { (key : Key) → HasKey (option_copied held) key → Stands readings.old (reading key reader) }
     ensures stay { StaysIn readings.old readings.new }
     ensures added { OnOk result (StandsUnderEach readings.new keys.now reader) }
 {

@@ -1,104 +1,91 @@
-ghost use Rattle.std.specs.Prelude.{◌≡◌, ◌↔◌, [], ◌∷◌, All, Contains, IfOk, OnOk, OnErr};
-ghost use Rattle.shx_term.specs.Members.{Adds};
-ghost use Rattle.graph_view.specs.declared.key.Key.{Key};
+ghost use Rattle.std.specs.Prelude.{◌≡◌, ◌↔◌, Contains, IfOk, OnOk, OnErr};
 ghost use Rattle.read_records.specs.declared.reader.Reader.{Reader};
-ghost use Rattle.read_records.specs.declared.readings.Reading.{Reading};
-ghost use Rattle.read_records.specs.inner.Readings.{HasNumbers, IsLeft, reading};
+ghost use Rattle.read_records.specs.inner.Readings.{AddsOne, AreTargets, IsLeft, Stands};
+ghost use Rattle.read_records.specs.inner.Readings.{nothing_filed, reading};
 
 use crate::Reader;
+use crate::by_kind::ByKind;
+use crate::posting::whom_of;
+use crate::postings::Postings;
 use comp_core::Pair;
 use graph_view::Key;
-use shx_term::{Id, Memory};
+use shx_term::Memory;
 use std::alloc::Global;
-use std::collections::BTreeSet;
 use std::marker::Model;
 
-/// A key, and one of its readers.
-#[derive(Clone, Copy, Debug, PartialEq, Eq, PartialOrd, Ord)]
-pub(crate) struct Reading {
-    pub(crate) key: Key,
-    pub(crate) reader: Reader,
-}
-
-impl Reading {
-    pub(crate) fn new(key: Key, reader: Reader) -> Reading
-        ensures reading { result ≡ reading key reader }
-        ensures numbers { HasNumbers result }
-    {
-        Reading { key, reader }
-    }
-}
-
-/// Under each key its readers, as one tree of readings. Contracts see the list of these, in order.
+/// Under each key its readers. What a tree holds is all of one kind, so that a key and a reader take 16
+/// bytes.
 #[derive(Drop)]
 pub(crate) struct Readings {
-    all: BTreeSet<Reading>,
+    targets: ByKind<Postings>,
+    pairs: ByKind<Postings>,
 }
 
 impl Model for Readings {
-    ghost use Rattle.std.specs.Prelude.{List, All};
-    ghost use Rattle.read_records.specs.declared.readings.Reading.{Reading};
-    ghost use Rattle.read_records.specs.inner.Readings.{HasNumbers};
+    ghost use Rattle.read_records.specs.inner.Readings.{AreTargets, Filed};
 
-    ghost Value = { List Reading };
+    ghost Value = { Filed };
 
-    ghost view = { λ a. a.all.keys };
+    ghost view = { λ a. record { targets = a.targets; pairs = a.pairs } };
 
-    ghost invariant = { λ a. All HasNumbers a.all.keys };
+    ghost invariant = { λ a. AreTargets a.targets };
 }
 
 impl Readings {
     /// No readings. It takes no memory.
     pub(crate) fn new(alloc: Global) -> Readings
-        ensures { result ≡ [] }
+        ensures { result ≡ nothing_filed }
     {
         Readings {
-            all: BTreeSet::new(alloc),
+            targets: ByKind::new(alloc),
+            pairs: ByKind::new(alloc),
         }
     }
 
-    /// These readings, each once. It sorts them, which takes time `O(n log n)` in their number, and memory
-    /// for them once more.
-    pub(crate) fn of_all(alloc: Global, all: Vec<Reading>) -> Result<Readings, Memory>
-        requires { All HasNumbers all.items }
-        ensures { IfOk result (λ made. (x : Reading) → Contains made x ↔ Contains all.items x) }
+    /// What is in these trees. It takes no memory.
+    pub(crate) fn of_trees(targets: ByKind<Postings>, pairs: ByKind<Postings>) -> Readings
+        requires { AreTargets targets }
+        ensures { result ≡ record { targets = targets; pairs = pairs } }
     {
-        let all = all.into_iter().collect(alloc)?;
-        Ok(Readings { all })
+        Readings { targets, pairs }
     }
 
     /// Enters a reader under a key. It takes logarithmic time, as `remove` does.
     pub(crate) fn insert(&mut self, key: Key, reader: Reader) -> Result<(), Memory>
-        ensures added { OnOk result (Adds self.old self.new (reading key reader ∷ [])) }
+        ensures added { OnOk result (AddsOne self.old self.new (reading key reader)) }
         ensures refused { OnErr result (self.new ≡ self.old) }
     {
-        self.all.insert(Reading::new(key, reader))?;
-        Ok(())
+        match reader {
+            Reader::OfTarget(_) => self.targets.insert(&key, whom_of(&reader)),
+            Reader::OfPair(_) => self.pairs.insert(&key, whom_of(&reader)),
+        }
     }
 
     /// Takes a reader out from under a key. It takes no memory.
     pub(crate) fn remove(&mut self, key: Key, reader: Reader)
         ensures { IsLeft self.old self.new (reading key reader) }
     {
-        self.all.remove(&Reading::new(key, reader));
+        match reader {
+            Reader::OfTarget(_) => self.targets.remove(&key, whom_of(&reader)),
+            Reader::OfPair(_) => self.pairs.remove(&key, whom_of(&reader)),
+        }
     }
 
-    /// The readers that stand under a key. It takes logarithmic time, and linear time in what it finds.
+    /// The readers that stand under a key. It takes two look-ups of logarithmic time, and linear time in what
+    /// it finds.
     pub(crate) fn readers_of(&self, alloc: Global, key: &Key) -> Result<Vec<Reader>, Memory>
         ensures { IfOk result (λ found.
-            (r : Reader) → Contains found.items r ↔ Contains self.now (reading key.now r)) }
+            (r : Reader) → Contains found.items r ↔ Stands self.now (reading key.now r)) }
     {
-        let least = Reading::new(*key, Reader::OfTarget(0));
-        let greatest = Reading::new(
-            *key,
+        let targets = self.targets.under(alloc, key)?;
+        let pairs = self.pairs.under(alloc, key)?;
+        let targets = targets.iter().map(|whom| Reader::OfTarget(whom.shape));
+        let pairs = pairs.iter().map(|whom| {
             Reader::OfPair(Pair {
-                shape: u32::MAX,
-                node: Id::MAX,
-            }),
-        );
-        self.all
-            .range(least..=greatest)
-            .map(|reading| reading.reader)
-            .collect(alloc)
+                shape: whom.shape,
+                node: whom.node,
+            })
+        });
+        targets.chain(pairs).collect(alloc)
     }
 }

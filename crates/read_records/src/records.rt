@@ -20,7 +20,7 @@ use std::marker::Model;
 /// What each reader has read, found by reader and by key. Changes are staged, which takes all the memory that
 /// they need, and then made at once.
 ///
-/// A reader and its keys take 36 bytes for each key, and some 60 bytes beside.
+/// A reader and its keys take 28 bytes for each key, and some 60 bytes beside.
 #[derive(Drop)]
 pub struct Records {
     store: Store<()>,

@@ -1,5 +1,5 @@
-//! What is recorded and kept of pairs, as tests alone: after some steps, what a reader has read, whom a triple
-//! touches, and which results there are.
+//! What is recorded and kept of pairs, as tests alone: after some steps, what a reader has read, whom a
+//! triple touches, and which results there are.
 //!
 //! | file | what it holds |
 //! |---|---|

@@ -5,10 +5,9 @@ use Rattle.std.specs.Option.{option_map}
 use Rattle.graph_view.specs.declared.key.Key.{Key}
 use Rattle.read_records.specs.declared.noted.Noted.{Noted}
 use Rattle.read_records.specs.declared.reader.Reader.{Reader}
-use Rattle.read_records.specs.declared.readings.Reading.{Reading}
 use Rattle.read_records.specs.Records.{Recorded}
 use Rattle.read_records.specs.Store.{Notes, Stored, coming_for, if_noted, note_at}
-use Rattle.read_records.specs.inner.Readings.{StandsUnderEach, reading}
+use Rattle.read_records.specs.inner.Readings.{Filed, Stands, StandsUnderEach, reading}
 
 module _ {T : Type 0} where
   -- the keys that were read, without what is noted beside them
@@ -22,7 +21,7 @@ module _ {T : Type 0} where
   as_recorded state = record { kept = all_reads state.kept; staged = all_reads state.staged }
 
   -- under each key that stands for it somewhere, if any does
-  abbrev pub StandsFor : List Reading → Option (Noted T) → Reader → Type 0
+  abbrev pub StandsFor : Filed → Option (Noted T) → Reader → Type 0
   StandsFor readings None reader = Unit
   StandsFor readings (Some noted) reader = StandsUnderEach readings noted.reads reader
 
@@ -37,9 +36,9 @@ module _ {T : Type 0} where
   HasNoted notes reader key = HasKey (note_at notes reader) key
 
   -- whoever has read a key stands under it
-  pub record AreUnder (notes : Notes (Noted T)) (readings : List Reading) : Type 0 where
+  pub record AreUnder (notes : Notes (Noted T)) (readings : Filed) : Type 0 where
     pub each : (reader : Reader) (key : Key) → HasNoted notes reader key
-        → Contains readings (reading key reader)
+        → Stands readings (reading key reader)
 
   -- whoever has an entry among the first has one among the second
   pub record HavePlaces (first second : Notes (Noted T)) : Type 0 where

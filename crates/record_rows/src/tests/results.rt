@@ -1,5 +1,5 @@
-//! Steps and a question about the results that are kept after them, with the answer, a row each. A result is a
-//! number; a place is the number of a shape and the term of a node.
+//! Steps and a question about the results that are kept after them, with the answer, a row each. A result is
+//! a number; a place is the number of a shape and the term of a node.
 ghost use Rattle.std.specs.Prelude.{◌≡◌, ◌<◌, All, length, IfOk};
 
 use comp_core::ResultRow;

@@ -1,5 +1,5 @@
-//! Steps and a question about what is recorded after them, with the answer, a row each. A reader is the number
-//! of a shape, or those of a shape and of a node; a key is a triple with a line for what it leaves open.
+//! Steps and a question about what is recorded after them, with the answer, a row each. A reader is the
+//! number of a shape, or those of a shape and of a node; a key is a triple with a line for what it leaves open.
 use super::steps::is_answered;
 use row_tools::all_met;
 use std::test::Fail;
@@ -35,8 +35,8 @@ stage 1/7 1.2._ _.2.3 1._._ _.2._; commit; touched 1.2.3 → 1/7
 stage 1/7 1.2._ _.2.3 5._._; commit; touched 1.2.3 → 1/7
 
 == targets by their shapes, then pairs by shape and node
-stage 2/1 1.2._; stage 1/9 _.2.3; stage 3 _.2._; stage 1/4 1._._; stage 0 1.2._; commit; touched 1.2.3 → 0 3 1/4 1/9 2/1
-stage 1/0 _.2._; stage 1 _.2._; stage 0/4294967295 _.2._; stage 4294967295 _.2._; commit; touched 1.2.3 → 1 4294967295 0/4294967295 1/0
+stage 2/1 1.2._; stage 3 _.2._; stage 1/4 1._._; stage 0 1.2._; commit; touched 1.2.3 → 0 3 1/4 2/1
+stage 1/0 _.2._; stage 1 _.2._; stage 0/4294967295 _.2._; commit; touched 1.2.3 → 1 0/4294967295 1/0
 stage 4294967295/4294967295 1._._; commit; touched 1.2.3 → 4294967295/4294967295
 
 == by several triples, added before the bar and removed behind it

@@ -1,14 +1,19 @@
-use Rattle.std.proofs.lemmas.Map.Views.{All-remove_key}
-use Rattle.read_records.proofs.ReadingLemmas.{IsLeft-reading, same_reading}
-use Rattle.read_records.specs.inner.Readings.{HasNumbers}
+use Rattle.std.proofs.Common.{ap, ◌∙◌}
+use Rattle.read_records.specs.inner.Postings.{whom}
+use Rattle.read_records.proofs.FiledLemmas.{AreTargets-left, IsLeft-pair, IsLeft-target}
 use Rattle.read_records.proofs.readings.Readings.remove.Goals as goal
 
 pub invariant_of-self : goal.invariant_of-self
-invariant_of-self c =
-    rw c.remove.ensures.keys
-    (All-remove_key (same_reading c.new.result) HasNumbers c.self.inside.all.keys c.self.invariant)
+invariant_of-self c = AreTargets-left c.remove.ensures c.self.invariant
 
-pub returns : goal.returns
-returns c =
-    rw (← c.self.view_is, ← c.new.ensures.reading)
-    (IsLeft-reading c.self.inside.all.keys c.remove.new.self.keys c.new.result c.remove.ensures.updates.0)
+pub returns-in-OfTarget : goal.returns-in-OfTarget
+returns-in-OfTarget c =
+    rw (← c.self.view_is, c.in-OfTarget.is)
+    (IsLeft-target c.self.inside.targets c.self.inside.pairs c.args.key c.in-OfTarget.field-0
+    (c.whom_of.ensures ∙ ap whom c.in-OfTarget.is) c.remove.ensures)
+
+pub returns-in-OfPair : goal.returns-in-OfPair
+returns-in-OfPair c =
+    rw (← c.self.view_is, c.in-OfPair.is)
+    (IsLeft-pair c.self.inside.targets c.self.inside.pairs c.args.key c.in-OfPair.field-0
+    (c.whom_of-in-OfPair.ensures ∙ ap whom c.in-OfPair.is) c.remove-in-OfPair.ensures)

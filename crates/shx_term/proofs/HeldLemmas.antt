@@ -5,7 +5,8 @@ use Rattle.std.specs.List.{list_any, list_all, position_or_len}
 use Rattle.std.proofs.Common.{refl, sym, ap, ◌∙◌, append_assoc, append-nil, arith, length-append, lt-ltb}
 use Rattle.std.proofs.lemmas.Bool.{and_from, or_left, or_right}
 use Rattle.std.proofs.lemmas.Grind.{common_steps}
-use Rattle.std.proofs.lemmas.List.Folds.{list_any-append, list_any_at, prefix_len-append}
+use Rattle.std.proofs.lemmas.List.Folds.{list_any-append, list_any_at, position_or_len_push}
+use Rattle.std.proofs.lemmas.List.Folds.{prefix_len-append}
 use Rattle.std.proofs.lemmas.List.Quantifiers.{position-Some}
 use Rattle.std.proofs.lemmas.List.Sums.{fold-append}
 use Rattle.shx_term.specs.declared.term.Term.{Term}
@@ -100,3 +101,24 @@ pub number_in-known : (terms : List Term) (t : Term)
 number_in-known terms t e =
     let place = place_of_any (same_term t) terms e in
     (position_or_len (same_term t) terms, place, rw (lt-ltb _ (length terms) place) refl)
+
+place_of_none : {X : Type 0} (p : X → Bool) (xs : List X) → list_any p xs ≡ false
+    → position_or_len p xs ≡ length xs
+place_of_none p [] e = refl
+place_of_none p (x ∷ xs) e = grind (arith, common_steps, place_of_none p xs)
+
+place_of_next : {X : Type 0} (p : X → Bool) (xs : List X) (x : X) → list_any p xs ≡ false → p x ≡ true
+    → position p (xs ++ x ∷ []) ≡ Some (position_or_len p xs)
+place_of_next p xs x none passes =
+    grind (arith, common_steps, place_of_none p xs none, position_or_len_push, length-append xs (x ∷ []))
+
+-- a term that is entered has the number that it had, or the next one
+pub number_entered : (terms : List Term) (t : Term)
+    → number_in (with_term terms t) t ≡ Some (position_or_len (same_term t) terms)
+number_entered terms t =
+    elim (is_held terms t) as
+    (λ b. is_held terms t ≡ b
+    → number_in (if b then terms else terms ++ t ∷ []) t ≡ Some (position_or_len (same_term t) terms)) [
+      | true ↦ λ held. grind (arith, common_steps, place_of_any (same_term t) terms held)
+      | false ↦ λ absent. place_of_next (same_term t) terms t absent (same_term_itself t)
+    ] refl

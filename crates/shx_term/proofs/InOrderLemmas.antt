@@ -1,5 +1,6 @@
 -- What lists in an order have for members, and when two of them are the same.
-use Rattle.std.specs.Prelude.{◌≡◌, Bool, true, false, T, ◌&&◌, List, [], ◌∷◌, map, is_some, Contains, ◌↔◌}
+use Rattle.std.specs.Prelude.{◌≡◌, ◌<◌, Bool, true, false, T, ◌&&◌, List, [], ◌∷◌, length, map, is_some}
+use Rattle.std.specs.Prelude.{Contains, ◌↔◌}
 use Rattle.std.specs.declared.cmp.Ordering.{Ordering}
 use Rattle.std.specs.declared.cmp.Ordering.TheVariants.{Less, Equal, Greater}
 use Rattle.std.specs.Ordering.{ordering_then, eq_by_cmp, is_lt}
@@ -9,7 +10,7 @@ use Rattle.std.specs.List.Sorted.{IsStrictlySortedBy}
 use Rattle.std.specs.BTreeSet.{BTreeSet}
 use Rattle.std.specs.FinMap as ordered_map
 use Rattle.std.specs.FinMap.Entries.{below_all, is_some-find}
-use Rattle.std.proofs.Common.{refl, sym, ap, ◌∙◌}
+use Rattle.std.proofs.Common.{refl, sym, ap, ◌∙◌, arith}
 use Rattle.std.proofs.lemmas.Map.Lookups.{CmpEqualImpliesEq, btree_set_from_contains}
 use Rattle.std.proofs.lemmas.Map.Views.{tells_apart, Contains-from_any, list_any-from_Contains}
 use Rattle.shx_term.proofs.MemberLemmas.{Contains-head, Contains-tail}
@@ -98,6 +99,14 @@ module _ {K : Type 0} (cmp : K → K → Ordering) where
     -- so what lists the members is the definition
     pub in_order_is : (xs ys : List K) → Lists cmp (Contains xs) ys → ys ≡ in_order cmp xs
     in_order_is xs ys lists = same_lists ys (in_order cmp xs) lists (in_order_lists xs)
+
+    -- a list of one element, or of none, is in order
+    pub few_in_order : (xs : List K) → length xs < 2 → xs ≡ in_order cmp xs
+    unfolding IsStrictlySortedBy
+    few_in_order [] few = in_order_is [] [] (record { sorted = tt; each = λ y. (λ c. c, λ c. c) })
+    few_in_order (x ∷ []) few =
+        in_order_is (x ∷ []) (x ∷ []) (record { sorted = (tt, tt); each = λ y. (λ c. c, λ c. c) })
+    few_in_order (x ∷ (y ∷ ys)) few = absurd (omega arith)
 
     -- lists with the same members are the same in order
     pub in_order_same : (xs others : List K) → ((y : K) → Contains xs y ↔ Contains others y)

@@ -8,5 +8,6 @@ pub mod PieceLemmas
 pub mod PlaceLemmas
 pub mod SetLemmas
 pub mod SortLemmas
+pub mod TermEqualityLemmas
 pub mod TripleOrderLemmas
 pub mod VocabularyLemmas

@@ -1,10 +1,11 @@
 -- The terms of the vocabulary in every list that begins with it.
-use Rattle.std.proofs.Common.{◌≡◌, ℕ, ◌+◌, ◌-◌, ◌≤◌, ◌∙◌, List, ◌++◌, take, length, refl, ap, arith}
+use Rattle.std.proofs.Common.{◌≡◌, ℕ, ◌+◌, ◌-◌, ◌<◌, ◌≤◌, ◌∙◌, true, false, List, [], ◌∷◌, ◌++◌, take, length}
+use Rattle.std.proofs.Common.{refl, ap, arith, append_assoc, length-append, if◌then◌else◌}
 use Rattle.std.proofs.Math.Seq.{take-append-add}
 use Rattle.std.proofs.lemmas.List.{length-take}
 use Rattle.std.proofs.lemmas.Option.{slice_get_within}
 use Rattle.shx_term.specs.declared.term.Term.{Term}
-use Rattle.shx_term.specs.Pool.{IsPool}
+use Rattle.shx_term.specs.Pool.{IsPool, is_held, with_term}
 use Rattle.shx_term.specs.Vocabulary.{vocabulary, HasVocabulary, VocabularyStands}
 use Rattle.shx_term.proofs.IdOrderLemmas.{slice_get-append}
 
@@ -36,3 +37,20 @@ IsPool-take terms limit n long pool = record {
   limit_fits = pool.limit_fits;
   vocabulary = HasVocabulary-take terms n long pool.vocabulary;
 }
+
+-- and a pool with a term more, where there is room for one, is a pool
+pub IsPool-entered : (terms : List Term) (limit : ℕ) (t : Term) → length terms < limit → IsPool terms limit
+    → IsPool (with_term terms t) limit
+IsPool-entered terms limit t below pool =
+    elim (is_held terms t) as (λ b. IsPool (if b then terms else terms ++ t ∷ []) limit) [
+      | true ↦ pool
+      | false ↦ record {
+        within = omega (arith, length-append terms (t ∷ []));
+        limit_fits = pool.limit_fits;
+        vocabulary = record {
+          more = pool.vocabulary.more ++ t ∷ [];
+          begins = ap (λ ts. ts ++ t ∷ []) pool.vocabulary.begins
+              ∙ append_assoc vocabulary pool.vocabulary.more (t ∷ []);
+        };
+      }
+    ]

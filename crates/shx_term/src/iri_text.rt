@@ -1,23 +1,40 @@
 ghost use Rattle.std.specs.Prelude.{◌≡◌, string_bytes, IfOk};
 
+use crate::common_datatype::CommonDatatype;
 use crate::{Memory, Text};
 use std::alloc::Global;
 use std::marker::Model;
 
 /// An IRI, as its text. Whether the text is absolute, or allowed at all, is the matter of those who make it.
-#[derive(Debug, PartialEq, Eq, PartialOrd, Ord, Hash, Drop)]
+/// That of a common datatype may be kept without memory of its own, and is equal all the same.
+#[derive(Debug, Drop)]
 pub struct IriText {
-    text: Text,
+    held: Held,
+}
+
+// The IRI of a common datatype may stand in either form.
+#[derive(Debug)]
+enum Held {
+    Common(CommonDatatype),
+    Own(Text),
+}
+
+impl Drop for Held {
+    fn drop(self) {
+        match self {
+            Held::Common(_datatype) => {}
+            Held::Own(_text) => {}
+        }
+    }
 }
 
 impl Model for IriText {
     ghost use Rattle.std.specs.Prelude.{List, ℕ};
+    ghost use Rattle.shx_term.specs.inner.IriTexts.{held_text};
 
     ghost Value = { List ℕ };
 
-    ghost view = { λ a. a.text };
-
-    ghost inverse = { λ d. record { text = d } };
+    ghost view = { λ a. held_text a.held };
 }
 
 impl IriText {
@@ -26,7 +43,30 @@ impl IriText {
         ensures { result ≡ string_bytes text }
     {
         IriText {
-            text: Text::new(text),
+            held: Held::Own(Text::new(text)),
+        }
+    }
+
+    /// The IRI of this text. It takes no memory where that is a common datatype's.
+    pub fn from_str(alloc: Global, iri: &str) -> Result<IriText, Memory>
+        ensures { IfOk result (λ made. made ≡ iri.now) }
+    {
+        let held = match CommonDatatype::of(iri) {
+            Some(datatype) => Held::Common(datatype),
+            None => Held::Own(Text::new(String::from_str(alloc, iri)?)),
+        };
+        Ok(IriText { held })
+    }
+
+    /// The same IRI, which gives its memory back where it is a common datatype's.
+    pub fn interned(self) -> IriText
+        ensures { result ≡ self }
+    {
+        match CommonDatatype::of(self.as_str()) {
+            Some(datatype) => IriText {
+                held: Held::Common(datatype),
+            },
+            None => self,
         }
     }
 
@@ -34,15 +74,40 @@ impl IriText {
     pub fn as_str(&self) -> &str
         ensures { result.now ≡ self.now }
     {
-        self.text.as_str()
+        match &self.held {
+            Held::Common(datatype) => datatype.as_str(),
+            Held::Own(text) => text.as_str(),
+        }
     }
 
-    /// An equal IRI of its own.
+    /// An equal IRI of its own. It takes no memory where it is a common datatype's.
     pub fn copy(&self, alloc: Global) -> Result<IriText, Memory>
         ensures { IfOk result (λ copy. copy ≡ self.now) }
     {
-        Ok(IriText {
-            text: self.text.copy(alloc)?,
-        })
+        let held = match &self.held {
+            Held::Common(datatype) => Held::Common(*datatype),
+            Held::Own(text) => Held::Own(text.copy(alloc)?),
+        };
+        Ok(IriText { held })
     }
+}
+
+impl PartialEq for IriText {
+    ghost use Rattle.std.specs.Prelude.{nat_eq};
+    ghost use Rattle.std.specs.Cmp;
+    ghost use Rattle.std.specs.Cmp.Lexicographic.{pointwise, nat_list_eq_equiv};
+
+    ghost eq = { pointwise nat_eq };
+
+    ghost laws = { Cmp.partial_equiv_from_equiv nat_list_eq_equiv };
+
+    fn eq(&self, other: &Self) -> bool {
+        self.as_str() == other.as_str()
+    }
+}
+
+impl Eq for IriText {
+    ghost use Rattle.std.specs.Cmp.Lexicographic.{nat_list_eq_equiv};
+
+    ghost laws = { nat_list_eq_equiv };
 }

@@ -3,6 +3,7 @@
 //! | file | what it holds |
 //! |---|---|
 //! | `text.rt`, `iri_text.rt`, `label.rt` | `Text`, `IriText`, `Label`: texts, seen as lists of bytes |
+//! | `common_datatype.rt` | the datatypes whose IRIs take no memory |
 //! | `term.rt` | `Term` and its parts |
 //! | `order.rt` | the order of terms, and their equality and hash |
 //! | `pieces.rt` | `Pieces`: what takes a text in pieces |
@@ -10,6 +11,7 @@
 //! | `scheme.rt` | `is_scheme`: what an absolute IRI begins with |
 //! | `triple.rt` | `Id`, `Triple` over numbers, `TermTriple` over terms |
 //! | `edit.rt` | `Edit`: what is asked of a graph |
+//! | `term_keys.rt` | `TermKeys`: the keyed hash of a pool's terms |
 //! | `pool.rt` | `Pool`: distinct terms by number |
 //! | `vocabulary.rt` | the 62 terms that every pool begins with, and a constant for each number |
 //! | `limits.rt` | `Limits` |
@@ -20,6 +22,7 @@
 //! order and `specs/Pool.antt` the words of a pool's contracts.
 #![tactic(auto)]
 
+mod common_datatype;
 mod edit;
 pub mod fault_codes;
 mod iri_text;
@@ -33,6 +36,7 @@ mod scheme;
 mod spelling;
 mod steps;
 mod term;
+mod term_keys;
 mod text;
 mod triple;
 pub mod vocabulary;
@@ -49,5 +53,6 @@ pub use scheme::is_scheme;
 pub use spelling::{XSD_STRING, spell, write_term};
 pub use steps::Steps;
 pub use term::{BlankName, Literal, LocalName, Scope, Term};
+pub use term_keys::TermKeys;
 pub use text::Text;
 pub use triple::{Id, TermTriple, Triple};

@@ -1,10 +1,12 @@
-ghost use Rattle.std.specs.Prelude.{◌≡◌};
+ghost use Rattle.std.specs.Prelude.{◌≡◌, fold};
 ghost use Rattle.shx_term.specs.declared.term.Term.{Term};
 ghost use Rattle.shx_term.specs.TermOrder.{term_cmp, alike_cmp, texts_cmp, tags_cmp};
-ghost use Rattle.shx_term.specs.TermOrder.{kind_of, scope_of, number_of, head_of, lexical_of, tag_number_of};
-ghost use Rattle.shx_term.specs.TermOrder.{tag_of};
+ghost use Rattle.shx_term.specs.TermOrder.{kind_of, rank_of, scope_of, number_of, head_of, lexical_of};
+ghost use Rattle.shx_term.specs.TermOrder.{tag_number_of, tag_of};
+ghost use Rattle.shx_term.specs.inner.TermEquality.{same_parts, same_blank, same_name, same_literal};
+ghost use Rattle.shx_term.specs.inner.TermHash.{hashed_blank, hashed_literal};
 
-use crate::{LocalName, Scope, Term};
+use crate::{BlankName, Literal, LocalName, Scope, Term};
 use std::cmp::Ordering;
 use std::hash::{Hash, Hasher};
 
@@ -75,15 +77,21 @@ fn kind(term: &Term) -> u8
     }
 }
 
+fn rank(scope: Scope) -> u8
+    ensures { result ≡ rank_of scope }
+{
+    match scope {
+        Scope::Data => 0,
+        Scope::Shapes => 1,
+    }
+}
+
 fn scope(term: &Term) -> u8
     ensures { result ≡ scope_of term.now }
 {
     match term {
         Term::Iri(_) => 0,
-        Term::Blank(blank) => match blank.scope {
-            Scope::Data => 0,
-            Scope::Shapes => 1,
-        },
+        Term::Blank(blank) => rank(blank.scope),
         Term::Lit(_) => 0,
     }
 }
@@ -150,6 +158,40 @@ fn tag(term: &Term) -> &str
     }
 }
 
+// Whether two terms have the same parts. Texts of different lengths are told apart at once.
+fn same_parts(a: &Term, b: &Term) -> bool
+    ensures { result ≡ same_parts a.now b.now }
+{
+    match (a, b) {
+        (Term::Iri(a), Term::Iri(b)) => a == b,
+        (Term::Blank(a), Term::Blank(b)) => same_blank(a, b),
+        (Term::Lit(a), Term::Lit(b)) => same_literal(a, b),
+        _ => false,
+    }
+}
+
+fn same_blank(a: &BlankName, b: &BlankName) -> bool
+    ensures { result ≡ same_blank a.now b.now }
+{
+    rank(a.scope) == rank(b.scope) && same_name(&a.name, &b.name)
+}
+
+fn same_name(a: &LocalName, b: &LocalName) -> bool
+    ensures { result ≡ same_name a.now b.now }
+{
+    match (a, b) {
+        (LocalName::Labelled(a), LocalName::Labelled(b)) => a == b,
+        (LocalName::Anonymous(a), LocalName::Anonymous(b)) => a == b,
+        _ => false,
+    }
+}
+
+fn same_literal(a: &Literal, b: &Literal) -> bool
+    ensures { result ≡ same_literal a.now b.now }
+{
+    a.lexical == b.lexical && a.datatype == b.datatype && a.tag == b.tag
+}
+
 impl PartialEq for Term {
     ghost use Rattle.std.specs.Cmp;
     ghost use Rattle.shx_term.specs.TermOrder.{same_term};
@@ -160,7 +202,7 @@ impl PartialEq for Term {
     ghost laws = { Cmp.partial_equiv_from_equiv same_term_equiv };
 
     fn eq(&self, other: &Self) -> bool {
-        cmp_terms(self, other).is_eq()
+        same_parts(self, other)
     }
 }
 
@@ -214,12 +256,46 @@ impl Hash for Term {
     ghost respects_eq = { λ a b h. ap hashed (same_term_exact a b h) };
 
     fn hash<H: Hasher>(&self, state: &mut H) {
-        kind(self).hash(state);
-        scope(self).hash(state);
-        number(self).hash(state);
-        head(self).hash(state);
-        lexical(self).hash(state);
-        tag_number(self).hash(state);
-        tag(self).hash(state);
+        match self {
+            Term::Iri(iri) => {
+                state.write_u8(0);
+                state.write(iri.as_str().as_bytes());
+            }
+            Term::Blank(blank) => hash_blank(blank, state),
+            Term::Lit(literal) => hash_literal(literal, state),
+        }
     }
+}
+
+fn hash_blank<H: Hasher>(blank: &BlankName, state: &mut H)
+    ensures { state.new ≡ fold H.write state.old (hashed_blank blank.now) }
+{
+    match blank.scope {
+        Scope::Data => state.write_u8(1),
+        Scope::Shapes => state.write_u8(2),
+    }
+    match &blank.name {
+        LocalName::Labelled(label) => {
+            state.write_u8(0);
+            state.write(label.as_str().as_bytes());
+        }
+        LocalName::Anonymous(number) => {
+            state.write_u8(1);
+            state.write_u32(*number);
+        }
+    }
+}
+
+fn hash_literal<H: Hasher>(literal: &Literal, state: &mut H)
+    ensures { state.new ≡ fold H.write state.old (hashed_literal literal.now) }
+{
+    match &literal.tag {
+        None => state.write_u8(3),
+        Some(tag) => {
+            state.write_u8(4);
+            tag.hash(state);
+        }
+    }
+    literal.lexical.hash(state);
+    state.write(literal.datatype.as_str().as_bytes());
 }

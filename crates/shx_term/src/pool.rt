@@ -8,7 +8,7 @@ ghost use Rattle.shx_term.specs.Vocabulary.{HasVocabulary};
 ghost use Rattle.shx_term.specs.IdOrder.{id_cmp, in_term_order, TermOrderLists};
 ghost use Rattle.shx_term.specs.TripleOrder.{triple_cmp, in_triple_order, TripleOrderLists};
 
-use crate::{Id, Term, Triple, cmp_terms};
+use crate::{Id, Term, TermKeys, Triple, cmp_terms};
 use indexmap::IndexSet;
 use std::alloc::{AllocError, AllocFailed, Global};
 use std::cmp::Ordering;
@@ -66,7 +66,7 @@ impl<T: Drop> From<AllocFailed<T>> for PoolFault {
 /// for good.
 #[derive(Drop)]
 pub struct Pool {
-    terms: IndexSet<Term>,
+    terms: IndexSet<Term, TermKeys>,
     limit: u32,
     alloc: Global,
 }
@@ -84,7 +84,7 @@ impl Model for Pool {
 
 impl Pool {
     /// A pool of these terms.
-    pub(crate) fn from_terms(alloc: Global, terms: IndexSet<Term>, limit: u32) -> Pool
+    pub(crate) fn from_terms(alloc: Global, terms: IndexSet<Term, TermKeys>, limit: u32) -> Pool
         requires within { length terms.keys ≤ limit }
         requires vocabulary { HasVocabulary terms.keys }
         ensures { result ≡ record { terms = terms.keys; limit = limit } }
@@ -94,6 +94,11 @@ impl Pool {
             limit,
             alloc,
         }
+    }
+
+    /// The hash of its terms, for a later pool. It takes no memory.
+    pub fn keys(&self) -> TermKeys {
+        *self.terms.hasher()
     }
 
     /// The number of a term, or `None` where it is not held. It takes no memory, and one look-up by hash.
@@ -184,6 +189,25 @@ impl Pool {
         Ok(index as u32)
     }
 
+    /// As `enter`, for a term that is given up, and dropped where it is refused: one look-up by hash, and no
+    /// memory for a copy.
+    pub fn enter_own(&mut self, term: Term) -> Result<Id, PoolFault>
+        ensures limit { self.new.limit ≡ self.old.limit }
+        ensures entered { OnOk result (self.new.terms ≡ with_term self.old.terms term) }
+        ensures found { IfOk result (λ id. position (same_term term) self.new.terms ≡ Some id) }
+        ensures id { IfOk result (λ id. slice_get self.new.terms id ≡ Some term) }
+        ensures refused { OnErr result (self.new.terms ≡ self.old.terms) }
+        ensures full { IfErr result (λ fault. fault ≡ PoolFault.Full → IsFullFor self.old term) }
+        ensures memory { IfErr result (λ fault. fault ≡ PoolFault.Memory → HasRoomFor self.old term) }
+        ensures room { OnOk result (IsFullFor self.old term → ⊥) }
+    {
+        if self.len() >= self.limit {
+            return self.find(&term).ok_or(PoolFault::Full);
+        }
+        let (index, _) = self.terms.insert_full(term)?;
+        Ok(index as u32)
+    }
+
     /// Forgets the terms from this number on, and keeps those before it. It takes no memory, and time linear
     /// in what it forgets.
     pub fn cut(&mut self, len: u32)
@@ -233,6 +257,9 @@ impl Pool {
     pub fn in_order(&self, mut ids: Vec<Id>) -> Vec<Id>
         ensures { result.items ≡ in_term_order self.now.terms ids.items }
     {
+        if ids.len() < 2 {
+            return ids;
+        }
         ids.sort_unstable_by(|a, b| self.cmp_ids(*a, *b));
         ids.dedup();
         ids
@@ -243,6 +270,9 @@ impl Pool {
     pub fn triples_in_order(&self, mut triples: Vec<Triple>) -> Vec<Triple>
         ensures { result.items ≡ in_triple_order self.now.terms triples.items }
     {
+        if triples.len() < 2 {
+            return triples;
+        }
         triples.sort_unstable_by(|a, b| self.cmp_triples(a, b));
         triples.dedup();
         triples

@@ -4,7 +4,7 @@ ghost use Rattle.shx_term.specs.declared.term.Term.TheVariants.{Iri};
 ghost use Rattle.shx_term.specs.Pool.{with_terms};
 ghost use Rattle.shx_term.specs.Vocabulary.{vocabulary, VocabularyStands};
 
-use crate::{Id, IriText, Memory, Pool, Term};
+use crate::{Id, IriText, Memory, Pool, Term, TermKeys};
 use indexmap::IndexSet;
 use std::alloc::Global;
 
@@ -272,19 +272,24 @@ pub fn vocabulary_stands()
 {}
 
 impl Pool {
-    /// A pool that holds the vocabulary, and at most `limit` terms in all.
-    pub fn with_vocabulary(alloc: Global, limit: u32) -> Result<Pool, Memory>
+    /// A pool that holds the vocabulary, and at most `limit` terms in all. It looks terms up by the hash that
+    /// `keys` gives, and nothing that it answers depends on that.
+    pub fn with_vocabulary(alloc: Global, limit: u32, keys: TermKeys) -> Result<Pool, Memory>
         requires { 62 ≤ limit }
         ensures terms { IfOk result (λ pool. pool.terms ≡ vocabulary) }
         ensures limit { IfOk result (λ pool. pool.limit ≡ limit) }
     {
-        let mut terms = IndexSet::new(alloc);
+        let mut terms = IndexSet::with_hasher(alloc, keys);
         enter_iris(alloc, &mut terms, &VOCABULARY)?;
         Ok(Pool::from_terms(alloc, terms, limit))
     }
 }
 
-fn enter_iris(alloc: Global, terms: &mut IndexSet<Term>, rows: &[(Id, &str)]) -> Result<(), Memory>
+fn enter_iris(
+    alloc: Global,
+    terms: &mut IndexSet<Term, TermKeys>,
+    rows: &[(Id, &str)],
+) -> Result<(), Memory>
     ensures { OnOk result (terms.new.keys ≡ with_terms terms.old.keys (map (λ row. Iri row.1.now) rows.now)) }
 {
     for (_, iri) in rows {

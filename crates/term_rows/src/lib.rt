@@ -6,6 +6,7 @@
 //! | `tests/codes.rt` | the codes of faults with their names; schemes |
 //! | `tests/pools.rt` | the vocabulary, and pools that are asked and changed, step by step |
 //! | `tests/pools/rows.rt` | the steps |
+//! | `tests/keys.rt` | the keyed hash of a pool's terms |
 //! | `tests/limits.rt` | limits and steps |
 //!
 //! It stands on `shx_term` and `row_tools`. A table is a text, and a test tells the first row that is not

@@ -1,9 +1,11 @@
 mod codes;
+mod keys;
 mod limits;
 mod pools;
 mod terms;
 
 use row_tools::RowFault;
+use shx_term::TermKeys;
 use std::cmp::Ordering;
 use std::test::Fail;
 
@@ -13,6 +15,11 @@ fn holds(outcome: Result<bool, RowFault>) -> Result<(), Fail> {
         true => Ok(()),
         false => Err(Fail::new("it does not hold")),
     }
+}
+
+// The hash of the pools here.
+fn key() -> TermKeys {
+    TermKeys::of([7; 16])
 }
 
 // What rows say of what is so or not.

@@ -36,7 +36,7 @@ abbrev parts_of : Term → Parts
 parts_of t =
     (kind_of t, (scope_of t, (number_of t, (head_of t, (lexical_of t, (tag_number_of t, tag_of t))))))
 
-same_scope : (a b : Scope) → rank_of a ≡ rank_of b → a ≡ b
+pub same_scope : (a b : Scope) → rank_of a ≡ rank_of b → a ≡ b
 same_scope Data Data e = refl
 same_scope Data Shapes e = cc
 same_scope Shapes Data e = cc

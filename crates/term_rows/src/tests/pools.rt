@@ -1,6 +1,6 @@
 mod rows;
 
-use super::{holds, order_name, said};
+use super::{holds, key, order_name, said};
 use row_tools::{RowFault, all_blocks_met, cut, in_three, iri, number, term};
 use shx_term::vocabulary::*;
 use shx_term::{Id, Pool, PoolFault, Triple};
@@ -10,7 +10,7 @@ use std::test::Fail;
 
 // Fails with the first row whose number is not that of its IRI in the vocabulary.
 fn all_are_numbered(alloc: Global, rows: &[(Id, &str)]) -> Result<(), Fail> {
-    let pool = Pool::with_vocabulary(alloc, VOCABULARY_LEN)?;
+    let pool = Pool::with_vocabulary(alloc, VOCABULARY_LEN, key())?;
     for (id, name) in rows {
         if pool.find(&iri(alloc, name)?) != Some(*id) {
             return Err(Fail::new(*name));
@@ -81,9 +81,14 @@ fn has_term(alloc: Global, pool: &Pool, id: &str, due: &str) -> Result<bool, Row
     Ok(id < pool.len() && *pool.term(id) == due)
 }
 
-// Whether a term gets the number that is due, is found under it, and is its term.
-fn enters(alloc: Global, pool: &mut Pool, word: &str, due: &str) -> Result<bool, RowFault> {
-    match pool.enter(&term(alloc, word)?) {
+// Whether a term that was entered got the number that is due, is found under it, and is its term.
+fn is_entered(
+    alloc: Global,
+    pool: &Pool,
+    entered: Result<Id, PoolFault>,
+    (word, due): (&str, &str),
+) -> Result<bool, RowFault> {
+    match entered {
         Ok(id) => Ok(
             id == number(due)?
                 && finds(alloc, pool, word, due)?
@@ -92,6 +97,16 @@ fn enters(alloc: Global, pool: &mut Pool, word: &str, due: &str) -> Result<bool,
         Err(PoolFault::Full) => Ok(due == "full"),
         Err(PoolFault::Memory) => Err(RowFault::Memory),
     }
+}
+
+fn enters(alloc: Global, pool: &mut Pool, word: &str, due: &str) -> Result<bool, RowFault> {
+    let entered = pool.enter(&term(alloc, word)?);
+    is_entered(alloc, pool, entered, (word, due))
+}
+
+fn enters_own(alloc: Global, pool: &mut Pool, word: &str, due: &str) -> Result<bool, RowFault> {
+    let entered = pool.enter_own(term(alloc, word)?);
+    is_entered(alloc, pool, entered, (word, due))
 }
 
 fn cuts(pool: &mut Pool, len: &str, due: &str) -> Result<bool, RowFault> {
@@ -155,6 +170,7 @@ fn goes_on(alloc: Global, pool: &mut Pool, step: &str) -> Result<bool, RowFault>
         "limit" => Ok(pool.limit() == number(due)?),
         _ => match cut(step, " ")? {
             ("enter", word) => enters(alloc, pool, word, due),
+            ("enter_own", word) => enters_own(alloc, pool, word, due),
             ("cut", len) => cuts(pool, len, due),
             question => answers(alloc, pool, question, due),
         },
@@ -168,7 +184,7 @@ fn goes_as_said(alloc: Global, block: &str) -> Result<bool, RowFault> {
     if limit < VOCABULARY_LEN {
         return Err(RowFault::Unread);
     }
-    let mut pool = Pool::with_vocabulary(alloc, limit)?;
+    let mut pool = Pool::with_vocabulary(alloc, limit, key())?;
     for step in steps.lines() {
         if !goes_on(alloc, &mut pool, step)? {
             return Ok(false);

@@ -2,7 +2,7 @@ use super::{holds, order_name};
 use row_tools::{
     RowFault, all_met, anonymous, cut, in_three, iri_text, label, spelled, term, text,
 };
-use shx_term::{Scope, Term, cmp_terms, spell};
+use shx_term::{IriText, Scope, Term, cmp_terms, spell};
 use std::alloc::Global;
 use std::cmp::Ordering;
 use std::test::Fail;
@@ -95,6 +95,10 @@ b|b|equal
 |b|less
 http://e/a|http://e/b|less
 http://e/a|http://e/a|equal
+http://www.w3.org/2001/XMLSchema#string|http://www.w3.org/2001/XMLSchema#string|equal
+http://www.w3.org/2001/XMLSchema#integer|http://www.w3.org/2001/XMLSchema#int|greater
+http://www.w3.org/2001/XMLSchema#date|http://www.w3.org/2001/XMLSchema#dateTime|less
+http://www.w3.org/1999/02/22-rdf-syntax-ns#langString|http://www.w3.org/2001/XMLSchema#float|less
 b1|b2|less
 b2|b10|greater";
 
@@ -113,8 +117,9 @@ fn are_texts(alloc: Global, a: &str, b: &str, order: &str) -> Result<bool, RowFa
 fn are_iri_texts(alloc: Global, a: &str, b: &str, order: &str) -> Result<bool, RowFault> {
     let first = iri_text(alloc, a)?;
     let copy = first.copy(alloc)?;
-    let second = iri_text(alloc, b)?;
-    Ok(copy.as_str() == a && copy == first && is_order_of(order, &first, &second))
+    let second = IriText::from_str(alloc, b)?;
+    let kept = copy.as_str() == a && copy == first && is_order_of(order, &first, &second);
+    Ok(kept && is_order_of(order, &first.interned(), &second.copy(alloc)?))
 }
 
 fn are_labels(alloc: Global, a: &str, b: &str, order: &str) -> Result<bool, RowFault> {

@@ -30,6 +30,37 @@ enter sh:in → 61
 find shapes#1 → none
 len → 62
 
+64
+enter_own 'x'@en → 62
+enter 'x'@en → 62
+enter_own 'x'@en → 62
+enter_own sh:in → 61
+enter data#1 → 63
+len → 64
+enter_own data#1 → 63
+enter_own shapes#1 → full
+find shapes#1 → none
+len → 64
+cut 63 → done
+enter_own 'x' → 63
+term 63 → 'x'
+find data#1 → none
+
+72
+enter_own '5' → 62
+enter_own '5'^^integer → 63
+enter_own '5'@en → 64
+enter_own '5'@de → 65
+enter_own data:x → 66
+enter_own shapes:x → 67
+enter_own data#1 → 68
+enter_own shapes#1 → 69
+enter_own shapes#2 → 70
+enter_own e:a → 71
+enter_own shapes:x → 67
+enter_own e:b → full
+limit → 72
+
 65
 enter data:x → 62
 enter shapes:x → 63
@@ -120,6 +151,7 @@ compare 69 69 → equal
 order '5' e:a data:x e:a shapes:x e:b shapes#1 → e:a e:b data:x shapes:x shapes#1 '5'
 
 62
+order_triples rdf:type rdf:type rdf:first → rdf:type rdf:type rdf:first
 order sh:in rdf:type sh:and sh:IRI rdf:first rdf:type sh:in → rdf:first rdf:type sh:IRI sh:and sh:in
 order sh:in → sh:in
 

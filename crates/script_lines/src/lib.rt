@@ -8,7 +8,7 @@
 //! | `form.rt` | the form of a line, by its tokens |
 //! | `word.rt` | the word with which a line begins |
 //! | `term.rt` | the terms of a line |
-//! | `laws.rt` | that a line has one reading, which the base, prefixes and blank nodes of the data text decide |
+//! | `laws.rt` | a line has one reading, by the base, prefixes and blank nodes of the data text |
 //!
 //! It stands on `ttl_tokens` for the tokens of a line and on `ttl_read` for its terms. Start with `line.rt`;
 //! `specs/Forms.antt` says which forms a line may have, and `specs/Lines.antt` what it then asks for.

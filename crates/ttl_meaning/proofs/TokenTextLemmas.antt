@@ -1,9 +1,12 @@
--- How the texts of language tags and of labels begin, so that they may be cut there.
+-- How the texts of language tags and of labels begin, so that they may be cut there, and where the prefix
+-- of a name ends.
 use Rattle.std.proofs.Common.{◌≡◌, ℕ, List, [], ◌∷◌, ◌++◌, length, get_or, sym, ap, ◌∙◌, subst, arith}
-use Rattle.std.proofs.Common.{codes, drop, eqb-true, ◌||◌}
+use Rattle.std.proofs.Common.{codes, drop, eqb-true, ◌||◌, ◌==◌, ◌≢◌, All, refl, false}
 use Rattle.std.proofs.Math.Utf8.{encodes}
+use Rattle.std.proofs.lemmas.Bool.{ne_eqb}
 use Rattle.std.proofs.lemmas.List.{append_cancel_right}
-use Rattle.std.proofs.lemmas.List.Folds.{drop_split}
+use Rattle.std.proofs.lemmas.List.Folds.{drop_split, list_any_none}
+use Rattle.std.specs.List.{list_any, before_first}
 use Rattle.std.proofs.lemmas.Str.{encodes-chars, encodes-append, encodes-IsAscii, chars-append}
 use Rattle.std.proofs.lemmas.Str.{IsUtf8-between, IsCharBoundary-after_ascii}
 use Rattle.std.proofs.lemmas.Str.Ascii.{IsAscii-nil, IsAscii-cons}
@@ -17,6 +20,7 @@ use Rattle.ttl_tokens.specs.Chars.{is_letter_or_digit, is_name_start_or_line, is
 use Rattle.ttl_tokens.specs.Tokens.{IsNext}
 use Rattle.ttl_tokens.specs.Unescaped.{IsGiven, token_text}
 use Rattle.ttl_tokens.proofs.RestLemmas.{IsRest, takes_rest}
+use Rattle.iri_resolve.proofs.CutLemmas.{before_first-at, before_first-none}
 
 exactly_begins : (c : ℕ) (xs ys : List ℕ) → Takes PastChar (exactly c) xs ys → xs ≡ c ∷ ys
 exactly_begins c [] ys t = absurd t
@@ -94,3 +98,17 @@ module _ (text : List ℕ) (token : Token) (utf8 : IsUtf8 text) (given : IsGiven
       let second : get_or (token_text text token) 1 0 ≡ 58 = ap (λ (l : List ℕ). get_or l 1 0) same in
       IsCharBoundary-after_ascii (token_text text token) 1 text_utf8 (omega (arith, size))
       (omega (arith, second))
+
+-- ---- before a colon
+
+no_colon : (bs : List ℕ) → All (λ b. b ≢ 58) bs → list_any (λ b. b == 58) bs ≡ false
+no_colon bs none = list_any_none (λ b. b == 58) bs (λ k d below. ne_eqb (get_or bs k d) 58 (none k d below))
+
+pub prefix_cut : (name prefix behind : List ℕ) → name ≡ prefix ++ 58 ∷ behind → All (λ b. b ≢ 58) prefix
+    → prefix ≡ before_first (λ b. b == 58) name
+prefix_cut name prefix behind parts none =
+    sym (ap (before_first (λ b. b == 58)) parts
+    ∙ before_first-at (λ b. b == 58) prefix 58 behind (no_colon prefix none) refl)
+
+pub prefix_whole : (name : List ℕ) → All (λ b. b ≢ 58) name → name ≡ before_first (λ b. b == 58) name
+prefix_whole name none = sym (before_first-none (λ b. b == 58) name (no_colon name none))

@@ -54,7 +54,7 @@ impl Context {
         match self {
             Context::Open => Ok(Context::About(node)),
             Context::About(subject) => Ok(Context::About(subject)),
-            Context::Of(subject, verb) => stated.add(pool, subject, verb, &node),
+            Context::Of(subject, verb) => stated.add(pool, subject, verb, node),
         }
     }
 
@@ -75,9 +75,7 @@ impl Context {
         match self {
             Context::Open => Ok(Context::Open),
             Context::About(subject) => Ok(Context::About(subject)),
-            Context::Of(subject, verb) => {
-                stated.add(pool, subject, verb, &Placed::Term(literal))
-            }
+            Context::Of(subject, verb) => stated.add(pool, subject, verb, Placed::Term(literal)),
         }
     }
 

@@ -13,11 +13,11 @@ ghost use Rattle.ttl_meaning.specs.Terms.{said};
 use crate::fault::{NoTerm, TermFaultKind};
 use crate::placed::Placed;
 use crate::reader_state::ReaderState;
-use crate::terms::{prefix_text, typed};
+use crate::terms::{prefix_text, token_text, typed};
 use iri_resolve::{IriFault, resolve};
 use shx_term::{IriText, Memory, Pool, Term};
 use std::alloc::Global;
-use ttl_tokens::{Token, TokenKind, unescape};
+use ttl_tokens::{Token, TokenKind, unescape, unescape_onto};
 
 /// What an IRI is used for.
 #[derive(Clone, Copy, Debug, PartialEq, Eq)]
@@ -70,7 +70,7 @@ impl ReaderState {
             IriRole::Verb => self.begin_verb(Placed::Term(Term::Iri(iri))),
             IriRole::Datatype => {
                 let lexical = self.take_held();
-                self.put_literal(pool, self.held_at, typed(lexical, iri))
+                self.put_literal(pool, self.held_at, typed(lexical, iri.interned()))
             }
         }
     }
@@ -111,17 +111,22 @@ pub(crate) fn named(
         return Err(NoTerm::Fault(TermFaultKind::UnknownPrefix));
     };
     match token.kind {
-        TokenKind::PnameLn => Ok(joined(alloc, namespace, &unescape(alloc, text, token)?)?),
+        TokenKind::PnameLn => Ok(joined(alloc, namespace, text, token)?),
         _ => Ok(namespace.copy(alloc)?),
     }
 }
 
-// A namespace with a local name behind it.
-fn joined(alloc: Global, namespace: &IriText, local: &str) -> Result<IriText, Memory>
-    ensures { IfOk result (λ iri. iri ≡ namespace.now ++ local.now) }
+// A namespace with the local name of a token behind it.
+fn joined(alloc: Global, namespace: &IriText, text: &str, token: &Token) -> Result<IriText, Memory>
+    requires { IsGiven text.now token.now }
+    ensures { IfOk result (λ iri. iri ≡ namespace.now ++ said text.now token.now) }
 {
-    let mut out = String::with_capacity(alloc, namespace.as_str().len() + local.len())?;
+    // The token is its prefix, a colon and the local name, which is no longer than it is written.
+    let local = token_text(text, token)
+        .len()
+        .saturating_sub(prefix_text(text, token).len() + 1);
+    let mut out = String::with_capacity(alloc, namespace.as_str().len() + local)?;
     out.push_str(namespace.as_str())?;
-    out.push_str(local)?;
+    unescape_onto(&mut out, text, token)?;
     Ok(IriText::new(out))
 }

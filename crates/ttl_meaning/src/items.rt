@@ -18,9 +18,9 @@ use crate::iris::IriRole;
 use crate::literals::bare;
 use crate::placed::Placed;
 use crate::reader_state::ReaderState;
-use crate::terms::{anonymous, iri_text, string_datatype, tag_text, tagged, token_text, typed};
+use crate::terms::{anonymous, string_datatype, tag_text, tagged, token_text, typed};
 use shx_term::vocabulary::{RDF_FIRST, RDF_NIL, RDF_REST, RDF_TYPE};
-use shx_term::{Memory, Pool};
+use shx_term::{IriText, Memory, Pool};
 use std::alloc::AllocError;
 use ttl_tokens::{Token, unescape};
 
@@ -111,7 +111,7 @@ impl ReaderState {
         if self.fault.is_some() {
             return Ok(());
         }
-        let datatype = iri_text(self.alloc, string_datatype())?;
+        let datatype = IriText::from_str(self.alloc, string_datatype())?;
         let lexical = self.take_held();
         self.put_literal(pool, self.held_at, typed(lexical, datatype))
     }

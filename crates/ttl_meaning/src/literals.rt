@@ -8,9 +8,7 @@ ghost use Rattle.ttl_meaning.specs.Terms.{datatype_of as kind_datatype, judged a
 ghost use Rattle.ttl_meaning.specs.Terms.{tagged as tagged_literal, typed as typed_literal};
 
 use crate::fault::NoTerm;
-use crate::terms::{
-    datatype_of, iri_text, judged, string_datatype, tag_text, tagged, token_text, typed,
-};
+use crate::terms::{datatype_of, judged, string_datatype, tag_text, tagged, token_text, typed};
 use shx_term::{IriText, Literal, Memory, Term};
 use std::alloc::Global;
 use ttl_tokens::{Token, unescape};
@@ -30,7 +28,7 @@ pub fn plain_string(alloc: Global, text: &str, token: &Token) -> Result<Term, No
     requires { IsGiven text.now token.now }
     ensures { IsMeant (judged_term (typed_literal (said text.now token.now) xsd_string)) result }
 {
-    let datatype = iri_text(alloc, string_datatype())?;
+    let datatype = IriText::from_str(alloc, string_datatype())?;
     typed_string(alloc, text, token, datatype)
 }
 
@@ -68,6 +66,6 @@ pub(crate) fn bare(alloc: Global, text: &str, token: &Token) -> Result<Literal, 
         literal ≡ typed_literal (text_of text.now token.now) (kind_datatype token.now.kind)) }
 {
     let lexical = String::from_str(alloc, token_text(text, token))?;
-    let datatype = iri_text(alloc, datatype_of(token.kind))?;
+    let datatype = IriText::from_str(alloc, datatype_of(token.kind))?;
     Ok(typed(lexical, datatype))
 }

@@ -48,4 +48,24 @@ impl Placed {
             }
         }
     }
+
+    // As `number`, where the term is not needed any more: so it is not copied.
+    pub(crate) fn into_number(self, pool: &mut Pool) -> Result<TermId, PoolFault>
+        ensures keeps { KeepsTerms pool.old pool.new }
+        ensures entered { (t : term) → IsPlaced pool.old.terms self t
+            → OnOk result (pool.new.terms ≡ with_term pool.old.terms t) }
+        ensures found { (t : term) → IsPlaced pool.old.terms self t
+            → IfOk result (λ id. position (same_term t) pool.new.terms ≡ Some id) }
+        ensures refused { OnErr result (pool.new.terms ≡ pool.old.terms) }
+        ensures full { (t : term) → IsPlaced pool.old.terms self t
+            → IfErr result (λ fault. fault ≡ PoolFault.Full → IsFullFor pool.old t) }
+    {
+        match self {
+            Placed::Term(term) => pool.enter_own(term),
+            Placed::Id(id) => {
+                let _ = pool.len();
+                Ok(id)
+            }
+        }
+    }
 }

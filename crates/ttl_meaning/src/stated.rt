@@ -60,7 +60,7 @@ impl Stated {
         pool: &mut Pool,
         subject: Placed,
         verb: Placed,
-        object: &Placed,
+        object: Placed,
     ) -> Result<Context, Memory>
         ensures keeps { KeepsTerms pool.old pool.new }
         ensures context { (s : a_subject) (iri : List ℕ) → IsPlaced pool.old.terms subject (subject_term s)
@@ -68,7 +68,7 @@ impl Stated {
             → IfOk result (λ context. IsContext pool.new.terms context (of s iri)) }
         ensures stated { (s p o : term) (bounds : Bounds) (triples : List term_triple)
             → IsPlaced pool.old.terms subject s → IsPlaced pool.old.terms verb p
-            → IsPlaced pool.old.terms object.now o → IsStated bounds triples self.old pool.old
+            → IsPlaced pool.old.terms object o → IsStated bounds triples self.old pool.old
             → OnOk result (IsStated bounds (triples ++ (triple_of s p o ∷ [])) self.new pool.new) }
     {
         if self.count >= self.most {
@@ -98,26 +98,26 @@ fn numbered(
     pool: &mut Pool,
     subject: &Placed,
     verb: &Placed,
-    object: &Placed,
+    object: Placed,
 ) -> Result<Triple, PoolFault>
     ensures keeps { KeepsTerms pool.old pool.new }
     ensures entered { (s p o : term) → IsPlaced pool.old.terms subject.now s
-        → IsPlaced pool.old.terms verb.now p → IsPlaced pool.old.terms object.now o
+        → IsPlaced pool.old.terms verb.now p → IsPlaced pool.old.terms object o
         → OnOk result (pool.new.terms ≡ with_terms pool.old.terms (terms_of (triple_of s p o ∷ []))) }
     ensures triple { (s p o : term) → IsPlaced pool.old.terms subject.now s
-        → IsPlaced pool.old.terms verb.now p → IsPlaced pool.old.terms object.now o
+        → IsPlaced pool.old.terms verb.now p → IsPlaced pool.old.terms object o
         → IfOk result (λ triple. numbered_in pool.new.terms (triple_of s p o) ≡ Some triple) }
     ensures places { (s p : term) → IsPlaced pool.old.terms subject.now s
         → IsPlaced pool.old.terms verb.now p
         → IfOk result (λ triple. (slice_get pool.new.terms triple.s ≡ Some s)
         × (slice_get pool.new.terms triple.p ≡ Some p)) }
     ensures full { (s p o : term) → IsPlaced pool.old.terms subject.now s
-        → IsPlaced pool.old.terms verb.now p → IsPlaced pool.old.terms object.now o
+        → IsPlaced pool.old.terms verb.now p → IsPlaced pool.old.terms object o
         → IfErr result (λ fault. fault ≡ PoolFault.Full
         → pool.old.limit < length (with_terms pool.old.terms (terms_of (triple_of s p o ∷ [])))) }
 {
     let s = subject.number(pool)?;
     let p = verb.number(pool)?;
-    let o = object.number(pool)?;
+    let o = object.into_number(pool)?;
     Ok(Triple { s, p, o })
 }

@@ -14,7 +14,7 @@ use shx_term::{
     BlankName, IriText, Label, Literal, LocalName, Memory, Scope, Term, Text, XSD_STRING,
 };
 use std::alloc::Global;
-use ttl_tokens::{Token, TokenKind};
+use ttl_tokens::{Token, TokenKind, cut_at};
 use value_space::{is_float, wide};
 
 const LANG_STRING: &str = "http://www.w3.org/1999/02/22-rdf-syntax-ns#langString";
@@ -26,13 +26,6 @@ const DECIMAL: &str = "http://www.w3.org/2001/XMLSchema#decimal";
 const DOUBLE: &str = "http://www.w3.org/2001/XMLSchema#double";
 
 const BOOLEAN: &str = "http://www.w3.org/2001/XMLSchema#boolean";
-
-// An IRI with this text.
-pub(crate) fn iri_text(alloc: Global, text: &str) -> Result<IriText, Memory>
-    ensures { IfOk result (λ iri. iri ≡ text.now) }
-{
-    Ok(IriText::new(String::from_str(alloc, text)?))
-}
 
 pub(crate) fn anonymous(scope: Scope, number: u32) -> Term
     ensures { result ≡ Blank (anonymous_node scope number) }
@@ -72,7 +65,7 @@ pub(crate) fn tagged(alloc: Global, lexical: String, tag: &str) -> Result<Litera
     tag.make_ascii_lowercase();
     Ok(Literal {
         lexical: Text::new(lexical),
-        datatype: iri_text(alloc, LANG_STRING)?,
+        datatype: IriText::from_str(alloc, LANG_STRING)?,
         tag: Some(Text::new(tag)),
     })
 }
@@ -133,7 +126,7 @@ pub(crate) fn prefix_text<'a>(text: &'a str, token: &Token) -> &'a str
     ensures { result.now ≡ prefix_of text.now token.now }
 {
     let name = token_text(text, token);
-    match name.split_once(':') {
+    match cut_at(name, b':') {
         Some((prefix, _)) => prefix,
         None => name,
     }

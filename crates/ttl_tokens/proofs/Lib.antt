@@ -7,6 +7,7 @@ pub mod DigitLemmas
 pub mod DottedLemmas
 pub mod EscapeLemmas
 pub mod EscapedLemmas
+pub mod FirstByteLemmas
 pub mod FormLemmas
 pub mod FrontLemmas
 pub mod GroupLemmas

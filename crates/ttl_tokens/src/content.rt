@@ -3,8 +3,8 @@ ghost use Rattle.std.specs.Str.{chars};
 ghost use Rattle.ttl_tokens.specs.inner.Marks.{HasMarks};
 ghost use Rattle.ttl_tokens.specs.Unescaped.{behind_colon, content, mark_length, without_ends};
 
+use crate::cut::cut_at;
 use crate::token::TokenKind;
-use crate::walk::first_char;
 
 /// The part of a token's text that stands for something: of an IRI reference and a string what stands between
 /// the marks, of a `PNAME_LN` the local name, else all of it.
@@ -42,12 +42,8 @@ fn inner(piece: &str, marks: usize) -> &str
 fn local_name(piece: &str) -> &str
     ensures { chars result.now ≡ behind_colon (chars piece.now) }
 {
-    let mut rest = piece;
-    while let Some((first, behind)) = first_char(rest) {
-        if first == ':' {
-            return behind;
-        }
-        rest = behind;
+    match cut_at(piece, b':') {
+        Some((_, local)) => local,
+        None => "",
     }
-    rest
 }

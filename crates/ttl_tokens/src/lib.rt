@@ -5,7 +5,8 @@
 //! | `token.rt` | `TokenKind`, `Token`, `NoToken` |
 //! | `scan.rt` | `next_token`, `next_token_after`: the longest terminal behind white space and comments |
 //! | `lookahead.rt` | `Lookahead`: where no prefixed name begins, for a loop over the tokens |
-//! | `meaning.rt`, `content.rt` | `unescape`: a token's text between its marks, its escapes undone |
+//! | `meaning.rt`, `content.rt` | `unescape`, `unescape_onto`: a token's text between its marks, unescaped |
+//! | `cut.rt` | `cut_at`: a text on both sides of a character of ASCII |
 //! | `group.rt` | which terminals may begin with a character |
 //! | `blanks.rt`, `marks.rt`, `caret.rt` | white space and comments; marks and ANON; `^^` |
 //! | `numbers.rt`, `lang_tag.rt`, `iri_ref.rt`, `strings.rt`, `escapes.rt` | the terminals of these names |
@@ -23,6 +24,7 @@ mod blanks;
 mod caret;
 mod classes;
 mod content;
+mod cut;
 mod escapes;
 mod group;
 mod iri_ref;
@@ -41,8 +43,9 @@ mod token;
 mod walk;
 mod words;
 
+pub use cut::cut_at;
 pub use laws::{escapes_are_undone, one_token_stands};
 pub use lookahead::Lookahead;
-pub use meaning::unescape;
+pub use meaning::{unescape, unescape_onto};
 pub use scan::{next_token, next_token_after};
 pub use token::{NoToken, Token, TokenKind};

@@ -1,10 +1,12 @@
-ghost use Rattle.std.specs.Prelude.{◌≡◌, ◌≤◌, IfOk, drop, take};
+ghost use Rattle.std.specs.Prelude.{◌≡◌, ℕ, ◌≤◌, List, ◌++◌, IfOk, OnOk, OnErr, drop, take, string_bytes};
+ghost use Rattle.std.specs.Prelude.{is_ok, if◌then◌else◌};
 ghost use Rattle.std.specs.Str.{chars, encode_utf8_all};
 ghost use Rattle.ttl_tokens.specs.Unescaped.{char_of, digit_number, escape_length, escape_number};
 ghost use Rattle.ttl_tokens.specs.Unescaped.{escaped_char, IsGiven, meaning, number_of, undone};
 
 use crate::Token;
 use crate::content::content;
+use crate::cut::cut_at;
 use crate::walk::first_char;
 use std::alloc::{AllocError, Global};
 
@@ -15,24 +17,43 @@ pub fn unescape(alloc: Global, text: &str, token: &Token) -> Result<String, Allo
     requires given { IsGiven text.now token.now }
     ensures meaning { IfOk result (λ s. s.bytes.items ≡ encode_utf8_all (meaning text.now token.now)) }
 {
-    let piece = &text[token.start..token.end];
-    undo(alloc, content(piece, token.kind))
+    let mut out = String::new(alloc);
+    unescape_onto(&mut out, text, token)?;
+    Ok(out)
 }
 
-// The text with its escapes undone: what stands between them is copied as it is.
-fn undo(alloc: Global, text: &str) -> Result<String, AllocError>
-    ensures { IfOk result (λ s. s.bytes.items ≡ encode_utf8_all (undone (chars text.now))) }
+/// As `unescape`, behind what a string has: it takes no memory where there is room for the token's text.
+/// Where memory is refused, the string is as before.
+pub fn unescape_onto(out: &mut String, text: &str, token: &Token) -> Result<(), AllocError>
+    requires given { IsGiven text.now token.now }
+    ensures meaning { string_bytes out.new ≡ (if is_ok result
+        then string_bytes out.old ++ encode_utf8_all (meaning text.now token.now) else string_bytes out.old) }
 {
-    let mut out = String::new(alloc);
+    let before = out.len();
+    let piece = &text[token.start..token.end];
+    match undo_onto(out, content(piece, token.kind)) {
+        Ok(()) => Ok(()),
+        Err(error) => {
+            out.truncate(before);
+            Err(error)
+        }
+    }
+}
+
+// A text with its escapes undone, behind what the string has: what stands between them is copied as it is.
+fn undo_onto(out: &mut String, text: &str) -> Result<(), AllocError>
+    ensures ok { OnOk result
+        (string_bytes out.new ≡ string_bytes out.old ++ encode_utf8_all (undone (chars text.now))) }
+    ensures err { OnErr result ((added : List ℕ) × (string_bytes out.new ≡ string_bytes out.old ++ added)) }
+{
     let mut rest = text;
-    while let Some((plain, escape)) = rest.split_once('\\') {
+    while let Some((plain, escape)) = cut_at(rest, b'\\') {
         out.push_str(plain)?;
         let (meant, behind) = decoded(escape);
         out.push(meant)?;
         rest = behind;
     }
-    out.push_str(rest)?;
-    Ok(out)
+    out.push_str(rest)
 }
 
 // What stands behind a backslash: the character that the escape stands for, and the text behind it.

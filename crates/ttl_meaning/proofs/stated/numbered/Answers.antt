@@ -14,9 +14,9 @@ returns-clause-triple c = λ s p o is_s is_p is_o.
     let third = c.in_ok-o.ensures in
     let verb = IsPlaced-kept _ _ first.keeps c.args.verb.now p is_p in
     let object =
-    IsPlaced-kept _ _ second.keeps c.args.object.now o
-    (IsPlaced-kept _ _ first.keeps c.args.object.now o is_o) in
-    numbered-in_turn c.number.new.pool.terms c.number-2.new.pool.terms c.number-3.new.pool.terms
+    IsPlaced-kept _ _ second.keeps c.args.object o
+    (IsPlaced-kept _ _ first.keeps c.args.object o is_o) in
+    numbered-in_turn c.number.new.pool.terms c.number-2.new.pool.terms c.into_number.new.pool.terms
     (triple_of s p o) c.in_ok-s.s c.in_ok-p.p c.in_ok-o.o (second.entered p verb) (third.entered o object)
     (first.found s is_s) (second.found p verb) (third.found o object)
 
@@ -34,8 +34,8 @@ returns-in_err-o-clause-full c = λ s p o is_s is_p is_o.
     let second = c.in_ok-p.ensures in
     let verb = IsPlaced-kept _ _ first.keeps c.args.verb.now p is_p in
     let object =
-    IsPlaced-kept _ _ second.keeps c.args.object.now o
-    (IsPlaced-kept _ _ first.keeps c.args.object.now o is_o) in
+    IsPlaced-kept _ _ second.keeps c.args.object o
+    (IsPlaced-kept _ _ first.keeps c.args.object o is_o) in
     let terms : c.number-2.new.pool.terms ≡ with_term (with_term c.args.pool.now.terms s) p =
     second.entered p verb ∙ ap (λ xs. with_term xs p) (first.entered s is_s) in
     let exit = err_from_is_err_and c.from_residual-in_err-o.result c.from_residual-in_err-o.ensures.1 in

@@ -26,6 +26,6 @@ returns-in-Datatype-clause-does c =
     let taken = c.take_held-lexical.ensures in
     rw c.in-Datatype.is
     (on_ok_weaker _
-    (string_ends (λ held. typed held c.args.iri) _ _ _ _ _ _ _ _ taken.said taken.at c.typed.ensures
-    (taken.kept c.args.pool.now))
+    (string_ends (λ held. typed held c.args.iri) _ _ _ _ _ _ _ _ taken.said taken.at
+    (rw c.interned.ensures at c.typed.ensures) (taken.kept c.args.pool.now))
     c.put_literal.ensures.does)

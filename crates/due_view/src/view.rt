@@ -54,6 +54,10 @@ impl<'a, V: GraphView> GraphView for DueView<'a, V> {
         self.base.contains(t)
     }
 
+    fn count_up_to(&self, key: &Key, most: u64) -> u64 {
+        self.base.count_up_to(key, most)
+    }
+
     fn objects(&self, alloc: Global, s: Id, p: Id, reads: &mut Reads) -> Result<Vec<Id>, Memory> {
         self.allow(&Key::Out(s, p))?;
         self.base.objects(alloc, s, p, reads)

@@ -25,9 +25,12 @@ use Rattle.shx_term.proofs.MemberLemmas.{Contains-filter, Contains-flat_map, Con
 use Rattle.shx_term.proofs.MemberLemmas.{Contains-from_flat_map, Contains-from_map, Contains-head}
 use Rattle.shx_term.proofs.MemberLemmas.{Contains-map, Contains-one, Contains-test, none_in_empty}
 use Rattle.graph_view.specs.declared.key.Key.{Key}
-use Rattle.graph_view.specs.Graph.{AllKnown, Graph, objects_of, subjects_of, triples_with}
+use Rattle.graph_view.specs.declared.key.Key.TheVariants.{Out, In}
+use Rattle.graph_view.specs.Graph.{AllKnown, Graph, triples_with}
 use Rattle.graph_view.specs.Patched.{patched}
-use Rattle.graph_view.proofs.LookUpLemmas.{Contains-objects_of, Contains-subjects_of, Contains-triples_with}
+use Rattle.graph_view.specs.Key.{look}
+use Rattle.graph_view.proofs.KeyLemmas.{Contains-look}
+use Rattle.graph_view.proofs.LookUpLemmas.{Contains-triples_with}
 use Rattle.graph_view.proofs.PatchedLemmas.{Contains-patched, is_not}
 use Rattle.graph_view.proofs.SameGraphLemmas.{IsDistinct-filter}
 use Rattle.comp_core.specs.Rows.{is_empty}
@@ -61,7 +64,7 @@ IsNodeOf ts (target.Class class) x = IsInstance ts x class
 IsNodeOf ts (target.SubjectsOf p) x = (o : ℕ) × Contains ts (record { s = x; p = p; o = o })
 IsNodeOf ts (target.ObjectsOf p) x = (s : ℕ) × Contains ts (record { s = s; p = p; o = x })
 
-not_empty : (xs : List ℕ) → (not (is_empty xs) ≡ true) ↔ ((x : ℕ) × Contains xs x)
+not_empty : {X : Type 0} (xs : List X) → (not (is_empty xs) ≡ true) ↔ ((x : X) × Contains xs x)
 not_empty [] = (λ e. absurd (cc), λ h. absurd (none_in_empty h.0 h.1))
 not_empty (x ∷ xs) = (
   λ e. (x, Contains-head x xs),
@@ -104,14 +107,28 @@ module _ (g : Graph) (known : AllKnown g) where
       (λ h. sym (eqb-true node x h), λ e. subst (λ y. nat_eq node y ≡ true) (sym e) (nat_eq_equiv.refl node))
   node_test (target.Class class) x = instance_test g known x class
   node_test (target.SubjectsOf p) x =
-      let some = not_empty (objects_of g x p) in (
-        λ e. let h = some.0 e in (h.0, (Contains-objects_of g x p h.0).0 h.1),
-        λ h. some.1 (h.0, (Contains-objects_of g x p h.0).1 h.1),
+      let some = not_empty (look g.triples (Out x p)) in (
+        λ e.
+            let h = some.0 e in
+            let here = (Contains-look g.triples (Out x p) h.0).0 h.1 in
+            let same : h.0 ≡ record { s = x; p = p; o = h.0.o } =
+            λ i. record { s = here.1.0 i; p = here.1.1 i; o = h.0.o } in
+            (h.0.o, subst (Contains g.triples) same here.0),
+        λ h.
+            let t : Triple = record { s = x; p = p; o = h.0 } in
+            some.1 (t, (Contains-look g.triples (Out x p) t).1 (h.1, (refl, refl))),
       )
   node_test (target.ObjectsOf p) x =
-      let some = not_empty (subjects_of g p x) in (
-        λ e. let h = some.0 e in (h.0, (Contains-subjects_of g p x h.0).0 h.1),
-        λ h. some.1 (h.0, (Contains-subjects_of g p x h.0).1 h.1),
+      let some = not_empty (look g.triples (In p x)) in (
+        λ e.
+            let h = some.0 e in
+            let here = (Contains-look g.triples (In p x) h.0).0 h.1 in
+            let same : h.0 ≡ record { s = h.0.s; p = p; o = x } =
+            λ i. record { s = h.0.s; p = here.1.0 i; o = here.1.1 i } in
+            (h.0.s, subst (Contains g.triples) same here.0),
+        λ h.
+            let t : Triple = record { s = h.0; p = p; o = x } in
+            some.1 (t, (Contains-look g.triples (In p x) t).1 (h.1, (refl, refl))),
       )
 
   -- a node of one of the targets

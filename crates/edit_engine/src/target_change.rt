@@ -19,7 +19,7 @@ ghost use Rattle.edit_engine.specs.inner.Told.{is_node_of_any, is_subclass, node
 
 use crate::target_reads::target_reads;
 use comp_core::ShapeNo;
-use graph_view::{GraphView, Reads};
+use graph_view::{GraphView, Key, Reads};
 use path_eval::{classes, instances};
 use shape_eval::{Plan, Target};
 use shx_term::vocabulary::{RDF_TYPE, RDFS_SUB_CLASS_OF};
@@ -183,10 +183,9 @@ fn is_target<V: GraphView>(
     ensures { IfOk result (λ is. is ≡ is_node_of_any (V.graph view.now)
         (targets_of (slice_get (plan_of plan.now).shapes shape)) node) }
 {
-    let mut reads = Reads::new(alloc);
-    let classes = classes(alloc, view, node, &mut reads)?;
+    let classes = classes(alloc, view, node, &mut Reads::new(alloc))?;
     for target in &plan.shape(shape).targets {
-        if is_node_of(alloc, view, *target, node, &classes, &mut reads)? {
+        if is_node_of(view, *target, node, &classes) {
             return Ok(true);
         }
     }
@@ -194,22 +193,15 @@ fn is_target<V: GraphView>(
 }
 
 // Whether a node, of which these are the classes, is a node of a target.
-fn is_node_of<V: GraphView>(
-    alloc: Global,
-    view: &V,
-    target: Target,
-    node: Id,
-    classes: &[Id],
-    reads: &mut Reads,
-) -> Result<bool, Memory>
+fn is_node_of<V: GraphView>(view: &V, target: Target, node: Id, classes: &[Id]) -> bool
     requires classes { classes.now ≡ nodes_reached (V.graph view.now) Direction.Forward instance_route node }
-    ensures { IfOk result (λ is. is ≡ is_node_of (V.graph view.now) node target) }
+    ensures { result ≡ is_node_of (V.graph view.now) node target }
 {
     match target {
-        Target::Node(other) => Ok(other == node),
-        Target::Class(class) => Ok(classes.contains(&class)),
-        Target::SubjectsOf(p) => Ok(!view.objects(alloc, node, p, reads)?.is_empty()),
-        Target::ObjectsOf(p) => Ok(!view.subjects(alloc, p, node, reads)?.is_empty()),
+        Target::Node(other) => other == node,
+        Target::Class(class) => classes.contains(&class),
+        Target::SubjectsOf(p) => view.count_up_to(&Key::Out(node, p), 1) > 0,
+        Target::ObjectsOf(p) => view.count_up_to(&Key::In(p, node), 1) > 0,
     }
 }
 

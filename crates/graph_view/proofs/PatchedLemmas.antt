@@ -18,13 +18,13 @@ use Rattle.shx_term.specs.TripleOrder.{triple_cmp, in_triple_order}
 use Rattle.shx_term.proofs.IdOrderLemmas.{in_term_order_same}
 use Rattle.shx_term.proofs.InOrderLemmas.{in_order_same}
 use Rattle.shx_term.proofs.MemberLemmas.{Contains-head, Contains-tail, Contains-test, Contains-filter}
-use Rattle.shx_term.proofs.MemberLemmas.{Contains-from_filter, each_of_All}
+use Rattle.shx_term.proofs.MemberLemmas.{Contains-from_filter, each_of_All, All_of_each}
 use Rattle.shx_term.proofs.TripleOrderLemmas.{triple_order}
 use Rattle.graph_view.specs.declared.key.Key.{Key}
 use Rattle.graph_view.specs.declared.key.Key.TheVariants.{Out, In}
 use Rattle.graph_view.specs.Agree.{Agree, IsUntouched}
 use Rattle.graph_view.specs.Graph.{Graph, objects_of, subjects_of}
-use Rattle.graph_view.specs.Key.{look}
+use Rattle.graph_view.specs.Key.{look, is_touching}
 use Rattle.graph_view.specs.Patched.{without, patched, IsBeside}
 use Rattle.shx_term.specs.Members.{SameMembers}
 use Rattle.graph_view.specs.Valid.{IsValidTriple, IsValidView}
@@ -145,6 +145,45 @@ module _ (triples gone : List Triple) where
       IsDistinct-append same_triple same_triple_equiv same_triple_exact left gone (left_distinct one) other
       disjoint in
       sym (length-append left gone) ∙ length-same (left ++ gone) triples whole distinct one
+
+-- and so are those of them that touch a key
+module _ (triples gone : List Triple) (key : Key) where
+  touching_left : SameMembers (look (without same_triple triples gone) key)
+      (without same_triple (look triples key) (look gone key))
+  touching_left = record {
+    each = λ t.
+        let of_left = Contains-look (without same_triple triples gone) key t in
+        let of_all = Contains-look triples key t in
+        let of_gone = Contains-look gone key t in
+        let parts = Contains-left (look triples key) (look gone key) t in (
+          λ c.
+              let here = of_left.0 c in
+              let was = (Contains-left triples gone t).0 here.0 in
+              parts.1 (of_all.1 (was.0, here.1), λ d. was.1 (of_gone.0 d).0),
+          λ c.
+              let here = of_all.0 (parts.0 c).0 in
+              let stays = λ (d : Contains gone t). (parts.0 c).1 (of_gone.1 (d, here.1)) in
+              of_left.1 ((Contains-left triples gone t).1 (here.0, stays), here.1),
+        );
+  }
+
+  pub length-touching : IsDistinct same_triple triples → IsDistinct same_triple gone
+      → All (Contains triples) gone
+      → length (look (without same_triple triples gone) key) + length (look gone key)
+      ≡ length (look triples key)
+  length-touching one other held =
+      let touching = λ (t : Triple). is_touching t key in
+      let all = IsDistinct-filter touching same_triple triples one in
+      let out = IsDistinct-filter touching same_triple gone other in
+      let left = IsDistinct-filter touching same_triple (without same_triple triples gone)
+      (left_distinct triples gone one) in
+      let apart = left_distinct (look triples key) (look gone key) all in
+      let found = All_of_each (Contains (look triples key)) (look gone key) (λ t c.
+      let here = (Contains-look gone key t).0 c in
+      (Contains-look triples key t).1 (each_of_All (Contains triples) gone held t here.0, here.1)) in
+      ap (λ n. n + length (look gone key)) (length-same (look (without same_triple triples gone) key)
+      (without same_triple (look triples key) (look gone key)) touching_left left apart)
+      ∙ length-without (look triples key) (look gone key) all out found
 
 module _ (g : Graph) (added removed : List Triple) where
   pub Contains-patched : (t : Triple) → Contains (patched g added removed).triples t

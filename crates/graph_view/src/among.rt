@@ -1,5 +1,5 @@
 //! Which of some triples touch a key.
-ghost use Rattle.std.specs.Prelude.{◌≡◌, map, IfOk};
+ghost use Rattle.std.specs.Prelude.{◌≡◌, map, length, IfOk};
 ghost use Rattle.graph_view.specs.Key.{look};
 
 use crate::{Key, touches};
@@ -37,4 +37,11 @@ pub fn subjects_among(alloc: Global, triples: &[Triple], key: &Key) -> Result<Ve
         .filter(|t| touches(t, key))
         .map(|t| t.s)
         .collect(alloc)
+}
+
+/// How many triples touch the key, in one pass over them. It takes no memory.
+pub(crate) fn count_among(triples: &[Triple], key: &Key) -> u64
+    ensures { result ≡ length (look triples.now key.now) }
+{
+    triples.iter().filter(|t| touches(t, key)).count() as u64
 }

@@ -4,6 +4,7 @@ ghost use Rattle.std.proofs.lemmas.Map.Keys.{IsDistinct-prop};
 ghost use Rattle.shx_term.specs.Triple.{same_triple};
 ghost use Rattle.graph_view.specs.Graph.{IsKnownTriple};
 
+use crate::among::count_among;
 use crate::{GraphView, Key, Reads, objects_among, subjects_among, triples_among};
 use shx_term::{Id, Memory, Pool, Triple};
 use std::alloc::Global;
@@ -45,6 +46,10 @@ impl<'a> GraphView for Lent<'a> {
 
     fn contains(&self, t: &Triple) -> bool {
         self.triples.contains(t)
+    }
+
+    fn count_up_to(&self, key: &Key, most: u64) -> u64 {
+        count_among(self.triples, key).min(most)
     }
 
     fn objects(&self, alloc: Global, s: Id, p: Id, reads: &mut Reads) -> Result<Vec<Id>, Memory> {

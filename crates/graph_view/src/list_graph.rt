@@ -3,7 +3,7 @@ ghost use Rattle.graph_view.specs.ListGraph.{plain_graph};
 ghost use Rattle.graph_view.specs.Patched.{patched, IsPatch};
 
 use crate::triple_set::{insert_all, remove_all};
-use crate::{GraphEdit, GraphView, Lent, Reads, StoreFault};
+use crate::{GraphEdit, GraphView, Key, Lent, Reads, StoreFault};
 use indexmap::IndexSet;
 use shx_term::{Id, Memory, Pool, PoolFault, Term, Triple};
 use std::alloc::Global;
@@ -92,6 +92,10 @@ impl GraphView for ListGraph {
 
     fn contains(&self, t: &Triple) -> bool {
         self.triples.contains(t)
+    }
+
+    fn count_up_to(&self, key: &Key, most: u64) -> u64 {
+        self.lent().count_up_to(key, most)
     }
 
     fn objects(&self, alloc: Global, s: Id, p: Id, reads: &mut Reads) -> Result<Vec<Id>, Memory> {

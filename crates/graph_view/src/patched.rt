@@ -5,9 +5,12 @@ ghost use Rattle.shx_term.specs.Triple.{same_triple};
 ghost use Rattle.shx_term.specs.declared.triple.Triple.{Triple};
 ghost use Rattle.graph_view.specs.Agree.{Agree};
 ghost use Rattle.graph_view.specs.Graph.{Graph, AllKnown};
+ghost use Rattle.graph_view.specs.declared.key.Key.{Key};
+ghost use Rattle.graph_view.specs.Key.{look};
 ghost use Rattle.graph_view.specs.Patched.{without, patched, IsPatch, IsBeside};
 ghost use Rattle.graph_view.specs.Valid.{IsValidTriple, IsValidView};
 
+use crate::among::count_among;
 use crate::changed::changed;
 use crate::{GraphView, Key, Reads, objects_among, subjects_among, triples_among};
 use shx_term::{Id, Memory, Pool, Triple};
@@ -30,6 +33,9 @@ pub struct Patched<'a, V: GraphView> {
         (patched (V.graph base.now) added.now removed.now).triples } by { IsDistinct-prop same_triple _ },
     ghost all_held: { length (without same_triple (V.graph base.now).triples removed.now) + length removed.now
         ≡ length (V.graph base.now).triples },
+    ghost held_by_key: { (key : Key)
+        → length (look (without same_triple (V.graph base.now).triples removed.now) key)
+        + length (look removed.now key) ≡ length (look (V.graph base.now).triples key) },
     ghost countable: { length (patched (V.graph base.now) added.now removed.now).triples < 2 ^ 64 },
 }
 
@@ -67,6 +73,15 @@ impl<'a, V: GraphView> GraphView for Patched<'a, V> {
 
     fn contains(&self, t: &Triple) -> bool {
         self.added.contains(t) || (self.base.contains(t) && !self.removed.contains(t))
+    }
+
+    fn count_up_to(&self, key: &Key, most: u64) -> u64 {
+        // No more than the whole graph holds, which is countable.
+        let _ = self.base.len();
+        let gone = count_among(self.removed, key);
+        let held = self.base.count_up_to(key, most.saturating_add(gone));
+        let new = count_among(self.added, key);
+        (held - gone).saturating_add(new).min(most)
     }
 
     fn objects(&self, alloc: Global, s: Id, p: Id, reads: &mut Reads) -> Result<Vec<Id>, Memory> {

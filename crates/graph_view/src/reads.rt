@@ -13,8 +13,8 @@ use std::marker::Model;
 
 /// The keys that were read, each once. Contracts see them as a list, and speak of its members alone.
 ///
-/// Up to 16 keys take 12 bytes each in one allocation, and are searched; more are found by hash. Once they are
-/// packed, up to 64 are searched.
+/// Up to 16 keys take 12 bytes each in one allocation, and are searched; more are found by hash. Once they
+/// are packed, up to 64 are searched.
 #[derive(Drop)]
 pub struct Reads {
     keys: Keys,

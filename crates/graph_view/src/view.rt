@@ -1,4 +1,4 @@
-ghost use Rattle.std.specs.Prelude.{◌≡◌, ◌<◌, ◌↔◌, ℕ, [], ◌∷◌, Some, length, slice_get, All, Contains};
+ghost use Rattle.std.specs.Prelude.{◌≡◌, ◌<◌, ◌↔◌, ℕ, [], ◌∷◌, Some, length, slice_get, min, All, Contains};
 ghost use Rattle.std.specs.Prelude.{IsTrue, IfOk, OnOk};
 ghost use Rattle.std.specs.List.{IsDistinct};
 ghost use Rattle.shx_term.specs.Triple.{same_triple};
@@ -8,6 +8,7 @@ ghost use Rattle.graph_view.specs.Agree.{Agree};
 ghost use Rattle.graph_view.specs.Graph.{Graph, IsKnownTriple, AllKnown, HasTerms};
 ghost use Rattle.graph_view.specs.Graph.{objects_of, subjects_of, triples_of, triples_with};
 ghost use Rattle.shx_term.specs.Members.{Adds};
+ghost use Rattle.graph_view.specs.Key.{look};
 ghost use Rattle.graph_view.specs.Valid.{IsValidView};
 
 use crate::{Key, Reads};
@@ -39,6 +40,10 @@ pub trait GraphView {
     /// Whether the triple is held. It takes no memory.
     fn contains(&self, t: &Triple) -> bool
         ensures { IsTrue result ↔ Contains (graph self.now).triples t.now };
+
+    /// How many triples touch the key, or `most` where more do. It takes no memory.
+    fn count_up_to(&self, key: &Key, most: u64) -> u64
+        ensures { result ≡ min (length (look (graph self.now).triples key.now)) most };
 
     /// The objects of a subject and predicate, in term order. It reads `Out(s, p)`.
     fn objects(&self, alloc: Global, s: Id, p: Id, reads: &mut Reads) -> Result<Vec<Id>, Memory>

@@ -1,5 +1,5 @@
 -- Which nodes a path relates (SHACL, section 2.3.1; SPARQL 1.1, section 9.3), and what is read to find them.
-use Rattle.std.specs.Prelude.{◌≡◌, ℕ, List, [], ◌∷◌, Contains, ◌⊎◌}
+use Rattle.std.specs.Prelude.{◌≡◌, ℕ, List, Contains, ◌⊎◌}
 use Rattle.shx_term.specs.Chains.{Chain, Longer}
 use Rattle.shx_term.specs.declared.triple.Triple.{Triple}
 use Rattle.graph_view.specs.declared.key.Key.{Key}

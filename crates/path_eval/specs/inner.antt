@@ -1,5 +1,6 @@
 -- Words of contracts inside the crate, and the laws that its types cite; no caller needs them.
 pub mod Course
+pub mod HeldStates
 pub mod Laid
 pub mod Laying
 pub mod Reached

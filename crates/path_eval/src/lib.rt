@@ -12,6 +12,7 @@
 //! | `course.rt` | a whole path, laid part behind part: a closure ends at its own place |
 //! | `rows.rt` | edges by the places that they begin at |
 //! | `search.rt` | the search over states, and one step along a predicate |
+//! | `held.rt` | `Held`: a set of states, a few side by side and more by hash |
 //! | `states.rt` | `States`: the states that a search has met |
 //! | `laws.rt` | what a path relates and reads, and that nothing else matters to it |
 //! | `instance_laws.rt` | what an instance is, and what it depends on |
@@ -25,6 +26,7 @@
 mod course;
 mod direction;
 mod edge;
+mod held;
 mod instance_laws;
 mod instance_values;
 mod laws;

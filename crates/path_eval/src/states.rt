@@ -3,7 +3,7 @@ ghost use Rattle.path_eval.specs.inner.Reached.{Joins};
 ghost use Rattle.path_eval.specs.inner.States.{state_at};
 
 use crate::edge::State;
-use indexmap::IndexSet;
+use crate::held::Held;
 use shx_term::{Id, Memory};
 use std::alloc::Global;
 use std::marker::Model;
@@ -11,16 +11,21 @@ use std::marker::Model;
 /// The states that a search has met, each once, in the order in which they were first met.
 #[derive(Drop)]
 pub(crate) struct States {
-    states: IndexSet<State>,
+    held: Held,
 }
 
 impl Model for States {
     ghost use Rattle.std.specs.Prelude.{List};
+    ghost use Rattle.std.specs.List.{IsDistinct};
     ghost use Rattle.path_eval.specs.declared.edge.State.{State};
+    ghost use Rattle.path_eval.specs.inner.HeldStates.{held_states};
+    ghost use Rattle.path_eval.specs.inner.StateLaws.{same_state};
 
     ghost Value = { List State };
 
-    ghost view = { λ a. a.states.keys };
+    ghost view = { λ a. held_states a.held };
+
+    ghost invariant = { λ a. IsDistinct same_state (held_states a.held) };
 }
 
 impl States {
@@ -29,7 +34,7 @@ impl States {
         ensures { result ≡ [] }
     {
         States {
-            states: IndexSet::new(alloc),
+            held: Held::new(alloc),
         }
     }
 
@@ -37,8 +42,7 @@ impl States {
     pub(crate) fn add(&mut self, state: State) -> Result<(), Memory>
         ensures { OnOk result (Joins self.old (state ∷ []) self.new) }
     {
-        self.states.insert(state)?;
-        Ok(())
+        self.held.insert(state)
     }
 
     /// Adds these nodes at a place, but for those that are there.
@@ -55,7 +59,7 @@ impl States {
     pub(crate) fn as_slice(&self) -> &[State]
         ensures { result.now ≡ self.now }
     {
-        self.states.as_slice()
+        self.held.as_slice()
     }
 
     /// The nodes at a place.
@@ -63,7 +67,7 @@ impl States {
         ensures { IfOk result (λ found. found.items
             ≡ map (λ t. t.node) (filter (λ t. t.place == place) self.now)) }
     {
-        self.states
+        self.held
             .as_slice()
             .iter()
             .filter(|t| t.place == place)

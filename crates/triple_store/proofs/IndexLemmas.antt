@@ -1,13 +1,14 @@
 -- Indexes as lists of triples: what their entries hold, their order, what is added and removed, and ranges.
 use Rattle.std.specs.Prelude.{◌≡◌, ℕ, Bool, true, false, not, ◌&&◌, ◌==◌, List, [], ◌∷◌, map, filter, All}
-use Rattle.std.specs.Prelude.{if◌then◌else◌, Contains, ◌↔◌}
+use Rattle.std.specs.Prelude.{if◌then◌else◌, Contains, ◌↔◌, length, take, min}
 use Rattle.std.specs.BTreeSet.{BTreeSet, IsFromIterResult}
 use Rattle.std.specs.Cmp.{IsEquivalence, eq_by_cmp_equiv}
 use Rattle.std.specs.List.{list_any, AllByRecursion}
 use Rattle.std.specs.List.Sorted.{IsStrictlySortedBy}
 use Rattle.std.specs.Ordering.{eq_by_cmp}
 use Rattle.std.specs.declared.cmp.Ordering.TheVariants.{Less}
-use Rattle.std.proofs.Common.{refl, sym, ap, ◌∙◌, subst, inl, inr, true≢false}
+use Rattle.std.proofs.Common.{refl, sym, ap, ◌∙◌, subst, inl, inr, true≢false, arith}
+use Rattle.std.proofs.lemmas.List.{length-map, length-take}
 use Rattle.std.proofs.lemmas.Map.Views.{tells_apart}
 use Rattle.shx_term.specs.declared.triple.Triple.{Triple}
 use Rattle.shx_term.proofs.MemberLemmas.{Contains-head, Contains-tail, Contains-map, Contains-from_map}
@@ -34,6 +35,12 @@ same_entry_exact = tells_apart entry_cmp_exact
 
 Contains-entry : (es : List Entry) (e : Entry) → (list_any (same_entry e) es ≡ true) ↔ Contains es e
 Contains-entry = Contains-test same_entry same_entry_equiv same_entry_exact
+
+-- how many are taken up to a bound, by a list of what they stand for
+pub taken_count : {A B : Type 0} (f : A → B) (xs : List A) (ys : List B) (most n : ℕ)
+    → n ≡ length (take most xs) → map f xs ≡ ys → n ≡ min (length ys) most
+taken_count f xs ys most n taken same =
+    omega (arith, taken, length-take most xs, length-map xs f, ap length same)
 
 module _ (a : Arrangement) where
   -- a triple is there where its entry is

@@ -1,11 +1,11 @@
 -- Indexes of some triples: as one is added or removed, taken back, and what they give under a number or two.
-use Rattle.std.specs.Prelude.{◌≡◌, ℕ, true, ◌&&◌, ◌==◌, List, [], ◌∷◌, map, filter}
+use Rattle.std.specs.Prelude.{◌≡◌, ℕ, Bool, true, ◌&&◌, ◌==◌, List, [], ◌∷◌, map, filter}
 use Rattle.std.specs.Prelude.{length, All, Contains, ◌≤◌}
 use Rattle.std.specs.List.{IsDistinct, list_any}
 use Rattle.std.specs.Cmp.{both_ways}
 use Rattle.std.specs.List.Sorted.{IsStrictlySortedBy}
 use Rattle.std.specs.Ordering.{eq_by_cmp}
-use Rattle.std.proofs.Common.{refl, sym, ◌∙◌, subst, inl, inr}
+use Rattle.std.proofs.Common.{refl, sym, ap, ◌∙◌, subst, inl, inr}
 use Rattle.std.proofs.lemmas.Map.Keys.{IsDistinct-from_sorted}
 use Rattle.std.proofs.lemmas.Map.Made.{length-le_from_is_member}
 use Rattle.std.proofs.lemmas.Map.Views.{tells_apart}
@@ -23,6 +23,7 @@ use Rattle.graph_view.proofs.PatchedLemmas.{Contains-left}
 use Rattle.shx_term.proofs.SetLemmas.{SameMembers-sym, SameMembers-filter, SameMembers-map}
 use Rattle.graph_view.proofs.TripleSetLemmas.{triple_held}
 use Rattle.graph_view.proofs.SameGraphLemmas.{SameMembers-also, SameMembers-without}
+use Rattle.graph_view.proofs.SameGraphLemmas.{IsDistinct-filter, length-same}
 use Rattle.triple_store.proofs.ArrangementLemmas.{arranged_order}
 use Rattle.triple_store.specs.inner.Arrangement.{entry_of, arranged_cmp}
 use Rattle.triple_store.specs.inner.Index.{Arranged, IsArranged, IsIndex, AreIndexes, AreInOrder}
@@ -139,6 +140,34 @@ module _ {triples : List Triple} {a : Arrangement} (index : Arranged) (is : IsIn
       (map (third_of index) (led_by_pair index first second)))
       is.arranged
       (SameMembers-map (third_of index) (filter p triples) (filter p index.triples) found)
+
+  pub held_once : IsDistinct same_triple index.triples
+  held_once =
+      IsDistinct-arranged index
+      (subst (λ b. IsStrictlySortedBy (arranged_cmp b) index.triples) (sym is.arranged) is.lists.sorted)
+
+  -- so under a first number, or a first and a second, there are as many
+  module _ (distinct : IsDistinct same_triple triples) where
+    as_many : (p : Triple → Bool) → length (filter p index.triples) ≡ length (filter p triples)
+    as_many p =
+        length-same (filter p index.triples) (filter p triples)
+        (SameMembers-filter p index.triples triples (IsIndex-holds is))
+        (IsDistinct-filter p same_triple index.triples held_once)
+        (IsDistinct-filter p same_triple triples distinct)
+
+    pub led_as_many : (first : ℕ) → length (led_by index first)
+        ≡ length (led_by (record { arrangement = a; triples = triples }) first)
+    led_as_many first =
+        as_many (λ t. (entry_of index.arrangement t).first == first)
+        ∙ ap (λ b. length (filter (λ t. (entry_of b t).first == first) triples)) is.arranged
+
+    pub led_pair_as_many : (first second : ℕ) → length (led_by_pair index first second)
+        ≡ length (led_by_pair (record { arrangement = a; triples = triples }) first second)
+    led_pair_as_many first second =
+        as_many (λ t. ((entry_of index.arrangement t).first == first)
+        && ((entry_of index.arrangement t).second == second))
+        ∙ ap (λ b. length (filter (λ t. ((entry_of b t).first == first)
+        && ((entry_of b t).second == second)) triples)) is.arranged
 
 -- distinct triples of a list are at most as many as the list is long
 pub length-collected : (triples held : List Triple) → SameMembers triples held → IsDistinct same_triple held

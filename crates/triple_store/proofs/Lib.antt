@@ -1,4 +1,5 @@
 pub mod ArrangementLemmas
+pub mod DealingLemmas
 pub mod IndexLemmas
 pub mod IndexesLemmas
 pub mod RangeLemmas

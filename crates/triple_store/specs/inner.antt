@@ -1,3 +1,4 @@
 -- Words of the inside: what is proved of public calls can be believed without them.
 pub mod Arrangement
+pub mod Dealing
 pub mod Index

@@ -1,4 +1,4 @@
-ghost use Rattle.std.specs.Prelude.{◌≡◌, ◌↔◌, [], ◌+◌, map, length, Contains, if◌then◌else◌};
+ghost use Rattle.std.specs.Prelude.{◌≡◌, ◌↔◌, [], ◌+◌, map, length, min, Contains, if◌then◌else◌};
 ghost use Rattle.std.specs.Prelude.{IsTrue, IfOk, OnOk, OnErr};
 ghost use Rattle.std.specs.Bool.{OnFalse};
 ghost use Rattle.graph_view.specs.Graph.{HasAlso, IsWithout};
@@ -138,5 +138,25 @@ impl Index {
             .range(low..=high)
             .map(|entry| entry.third)
             .collect(alloc)
+    }
+
+    /// How many triples have this first number, up to a bound. It takes no memory, logarithmic time, and as
+    /// many steps as it counts.
+    pub(crate) fn count_under(&self, first: Id, most: usize) -> usize
+        ensures { result ≡ min (length (led_by self.now first)) most }
+    {
+        let low = Entry::new(first, 0, 0);
+        let high = Entry::new(first, Id::MAX, Id::MAX);
+        self.entries.range(low..=high).take(most).count()
+    }
+
+    /// How many triples have this first and second number, up to a bound. It takes no memory, logarithmic
+    /// time, and as many steps as it counts.
+    pub(crate) fn count_under_pair(&self, first: Id, second: Id, most: usize) -> usize
+        ensures { result ≡ min (length (led_by_pair self.now first second)) most }
+    {
+        let low = Entry::new(first, second, 0);
+        let last = Entry::new(first, second, Id::MAX);
+        self.entries.range(low..=last).take(most).count()
     }
 }

@@ -35,9 +35,10 @@ impl Store {
         ensures limit { IfOk result (λ store. store.limit ≡ graph.limit) }
         ensures same { IfOk result (λ store. SameGraph (plain_graph graph) (plain_graph store)) }
     {
-        let _ = graph.pool();
+        let terms = graph.pool().len() as usize;
         let limit = graph.limit();
-        let indexes = Indexes::from_triples(alloc, graph.triples())?;
+        let triples = Vec::from_slice(alloc, graph.triples())?;
+        let indexes = Indexes::from_triples(alloc, terms, triples)?;
         prove!(indexes.len() as u64 == graph.len());
         let pool = graph.into_pool();
         Ok(Store {
@@ -47,22 +48,25 @@ impl Store {
         })
     }
 
-    /// The graph of these triples, each once, over the terms of a pool. It takes time `O(n log n)` in the
-    /// number of triples, by one sort for each index, and memory for the triples once more while it sorts.
+    /// The graph of these triples, each once, over the terms of a pool. It takes linear time in the number of
+    /// triples and of terms, and `O(n log n)` in that of triples where there are many more terms. Until it
+    /// returns it takes memory for the triples once more, and beside that either four bytes for each term or
+    /// what a sort of the triples takes.
     pub fn from_triples(
         alloc: Global,
         pool: Pool,
-        triples: &[Triple],
+        triples: Vec<Triple>,
         limit: u64,
     ) -> Result<Store, Memory>
-        requires known { All (IsKnownTriple pool.terms) triples.now }
-        requires few { length triples.now ≤ limit }
+        requires known { All (IsKnownTriple pool.terms) triples.items }
+        requires few { length triples.items ≤ limit }
         ensures pool { IfOk result (λ store. store.pool ≡ pool) }
         ensures limit { IfOk result (λ store. store.limit ≡ limit) }
         ensures holds { IfOk result (λ store.
-            SameGraph (graph_of pool.terms triples.now) (plain_graph store)) }
+            SameGraph (graph_of pool.terms triples.items) (plain_graph store)) }
     {
-        let indexes = Indexes::from_triples(alloc, triples)?;
+        let terms = pool.len() as usize;
+        let indexes = Indexes::from_triples(alloc, terms, triples)?;
         // They are distinct.
         let _ = indexes.len();
         Ok(Store {
@@ -103,6 +107,11 @@ impl GraphView for Store {
     /// It takes logarithmic time.
     fn contains(&self, t: &Triple) -> bool {
         self.indexes.contains(t)
+    }
+
+    /// It takes logarithmic time, and as many steps as it counts.
+    fn count_up_to(&self, key: &Key, most: u64) -> u64 {
+        self.indexes.count_up_to(key, most as usize) as u64
     }
 
     fn objects(&self, alloc: Global, s: Id, p: Id, reads: &mut Reads) -> Result<Vec<Id>, Memory> {

@@ -5,7 +5,9 @@ use Rattle.std.specs.List.{list_any}
 use Rattle.std.specs.Option.{option_to_list}
 use Rattle.shx_term.specs.declared.triple.Triple.{Triple}
 use Rattle.shx_term.specs.declared.vocabulary.TheConstants.{RDF_TYPE, RDFS_SUB_CLASS_OF}
-use Rattle.graph_view.specs.Graph.{Graph, objects_of, subjects_of}
+use Rattle.graph_view.specs.declared.key.Key.TheVariants.{Out, In}
+use Rattle.graph_view.specs.Graph.{Graph}
+use Rattle.graph_view.specs.Key.{look}
 use Rattle.comp_core.specs.Rows.{is_empty}
 use Rattle.path_eval.specs.declared.direction.Direction.TheVariants.{Backward}
 use Rattle.path_eval.specs.Instances.{instance_route, is_instance}
@@ -57,8 +59,8 @@ nodes_told g targets changed = flat_map (told_by g targets) changed
 abbrev pub is_node_of : Graph → ℕ → Target → Bool
 is_node_of g node (target.Node other) = nat_eq other node
 is_node_of g node (target.Class class) = is_instance g node class
-is_node_of g node (target.SubjectsOf p) = not (is_empty (objects_of g node p))
-is_node_of g node (target.ObjectsOf p) = not (is_empty (subjects_of g p node))
+is_node_of g node (target.SubjectsOf p) = not (is_empty (look g.triples (Out node p)))
+is_node_of g node (target.ObjectsOf p) = not (is_empty (look g.triples (In p node)))
 
 abbrev pub is_node_of_any : Graph → List Target → ℕ → Bool
 is_node_of_any g targets node = list_any (is_node_of g node) targets

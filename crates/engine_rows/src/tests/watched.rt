@@ -54,6 +54,10 @@ impl GraphView for Watched {
         self.graph.contains(t)
     }
 
+    fn count_up_to(&self, key: &Key, most: u64) -> u64 {
+        self.graph.count_up_to(key, most)
+    }
+
     fn objects(&self, alloc: Global, s: Id, p: Id, reads: &mut Reads) -> Result<Vec<Id>, Memory> {
         self.allow(&Key::Out(s, p))?;
         self.graph.objects(alloc, s, p, reads)

@@ -23,4 +23,5 @@ returns g c =
     Adds-same _ _ (class_reads view class)
     (Adds-then (path_reads view Forward subclass_route class)
     (flat_map type_keys (nodes_reached view Forward subclass_route class)) reads
-    (rw (all, c.deref-subclass-items.ensures.value, found.values, c.requires.below) at c.loop-subclass.invariant))
+    (rw (all, c.deref-subclass-items.ensures.value, found.values, c.requires.below)
+    at c.loop-subclass.invariant))

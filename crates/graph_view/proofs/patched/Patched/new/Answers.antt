@@ -1,5 +1,5 @@
 use Rattle.graph_view.specs.Graph.{IsKnownTriple}
-use Rattle.graph_view.proofs.PatchedLemmas.{All-patched, IsDistinct-patched, length-without}
+use Rattle.graph_view.proofs.PatchedLemmas.{All-patched, IsDistinct-patched, length-without, length-touching}
 use Rattle.graph_view.proofs.patched.Patched.new.Goals as goal
 
 pub invariant_of-result : goal.invariant_of-result
@@ -14,5 +14,7 @@ invariant_of-result g c =
           c.requires.patch.added_absent;
       all_held = length-without graph.triples removed c.len.ensures.distinct c.requires.patch.removed_once
           c.requires.patch.removed_held;
+      held_by_key = λ key. length-touching graph.triples removed key c.len.ensures.distinct
+          c.requires.patch.removed_once c.requires.patch.removed_held;
       countable = c.requires.countable;
     }

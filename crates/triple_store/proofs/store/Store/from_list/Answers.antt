@@ -9,7 +9,8 @@ pub prove-unreachable-requires : goal.prove-unreachable-requires
 prove-unreachable-requires c =
     let triples = c.args.graph.triples in
     let indexes = c.in_ok-indexes.indexes in
-    let same = subst (λ ts. SameMembers ts indexes) c.triples.ensures c.in_ok-indexes.ensures in
+    let same = subst (λ ts. SameMembers ts indexes) (c.in_ok-triples.ensures.items ∙ c.triples.ensures)
+    c.in_ok-indexes.ensures in
     let count = length-same triples indexes same c.len-2.ensures.distinct c.len.ensures.distinct in
     c.if-prove.true (c.len.ensures.count ∙ sym count ∙ sym c.len-2.ensures.count)
 
@@ -17,7 +18,8 @@ pub invariant_of-result : goal.invariant_of-result
 invariant_of-result c =
     let graph = c.args.graph in
     let indexes = c.in_ok-indexes.indexes in
-    let same = subst (λ ts. SameMembers ts indexes) c.triples.ensures c.in_ok-indexes.ensures in (
+    let same = subst (λ ts. SameMembers ts indexes) (c.in_ok-triples.ensures.items ∙ c.triples.ensures)
+    c.in_ok-indexes.ensures in (
       All_of_each (IsKnownTriple c.into_pool-pool.result.terms) indexes (λ u k.
           subst (λ pool. IsKnownTriple pool.terms u) (sym c.into_pool-pool.ensures)
           (each_of_All (IsKnownTriple graph.pool.terms) graph.triples c.pool.ensures.known u
@@ -38,6 +40,7 @@ returns-clause-same c =
     let indexes = c.in_ok-indexes.indexes in
     record {
       terms = ap (λ pool. pool.terms) (sym c.into_pool-pool.ensures);
-      triples = subst (λ ts. SameMembers ts indexes) c.triples.ensures c.in_ok-indexes.ensures;
+      triples = subst (λ ts. SameMembers ts indexes) (c.in_ok-triples.ensures.items ∙ c.triples.ensures)
+          c.in_ok-indexes.ensures;
       count = sym c.len-2.ensures.count ∙ sym c.if-prove.false ∙ c.len.ensures.count;
     }

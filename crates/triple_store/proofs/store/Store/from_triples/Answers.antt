@@ -9,7 +9,7 @@ use Rattle.triple_store.proofs.store.Store.from_triples.Goals as goal
 pub invariant_of-result : goal.invariant_of-result
 invariant_of-result c =
     let known = IsKnownTriple c.args.pool.terms in
-    let triples = c.args.triples.now in
+    let triples = c.args.triples.items in
     let held = c.in_ok-indexes.indexes in
     let same = c.in_ok-indexes.ensures in
     let few = length-collected triples held same c.len.ensures.distinct in (
@@ -23,5 +23,5 @@ pub returns-clause-holds : goal.returns-clause-holds
 returns-clause-holds c =
     let terms = c.args.pool.terms in
     let g : Graph = record { terms = terms; triples = c.in_ok-indexes.indexes } in
-    SameGraph-graph_of terms c.args.triples.now g refl (SameMembers-sym c.in_ok-indexes.ensures)
+    SameGraph-graph_of terms c.args.triples.items g refl (SameMembers-sym c.in_ok-indexes.ensures)
     c.len.ensures.distinct

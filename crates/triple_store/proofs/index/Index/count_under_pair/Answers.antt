@@ -1,0 +1,26 @@
+use Rattle.std.specs.Prelude.{filter, min}
+use Rattle.std.proofs.Common.{◌∙◌, ap, rules}
+use Rattle.std.proofs.lemmas.Iterator.{YieldsList-from_take}
+use Rattle.std.proofs.lemmas.Iterator.Consumers.{YieldsList-at, YieldsList-from_rest, count_from_yields_List}
+use Rattle.std.proofs.lemmas.List.{length-map}
+use Rattle.triple_store.proofs.IndexLemmas.{taken_count, thirds_at}
+use Rattle.triple_store.proofs.RangeLemmas.{is_between}
+use Rattle.triple_store.specs.declared.arrangement.Entry.{Entry}
+use Rattle.triple_store.proofs.index.Index.count_under_pair.Goals as goal
+
+pub returns : goal.returns
+returns c =
+    let a = c.self.inside.arrangement in
+    let entries = c.self.inside.entries.keys in
+    let low = c.new.ensures.start ∙ c.new-low.ensures in
+    let high = c.new.ensures.end ∙ c.new-last.ensures in
+    let ranged =
+    c.range.ensures.between (search rules) ∙ (λ i. filter (is_between (low i) (high i)) entries) in
+    let counted =
+    count_from_yields_List c.take.result c.count.result c.count.ensures.ran
+    (YieldsList-from_take c.args.most (YieldsList-at c.take.ensures.source (YieldsList-from_rest _ ranged))
+    c.take.ensures.count) in
+    let thirds = thirds_at a entries c.args.first c.args.second c.self.invariant in
+    rw (← c.self.view_is)
+    (taken_count (λ (e : Entry). e.third) _ _ c.args.most c.count.result counted thirds
+    ∙ ap (λ n. min n c.args.most) (length-map _ _))

@@ -10,6 +10,7 @@
 //! | `tests/edits.rt` | graphs that go through the steps of `tests/edits/rows.rt` |
 //! | `tests/changes.rt` | changes of `tests/changes/rows.rt`, looked through and made |
 //! | `tests/graphs.rt` | what the plain graph alone has |
+//! | `tests/dealt.rt` | stores that are made of few and of many triples at once |
 //! | `tests/many.rt` | many edits of one store, in time |
 //!
 //! It stands on `graph_view`, `triple_store` and `shx_term`, on `due_view` for what is read, and on

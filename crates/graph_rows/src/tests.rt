@@ -1,5 +1,6 @@
 mod changes;
 mod cuts;
+mod dealt;
 mod edits;
 mod graphs;
 mod keys;

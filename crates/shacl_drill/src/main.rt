@@ -29,7 +29,7 @@ mod top;
 use program_words::read_words;
 use shacl_run::Status;
 use shx_outside::{RegexHost, StdSink};
-use shx_term::{Steps, Text};
+use shx_term::{Steps, TermKeys, Text};
 use std::marker::Brand;
 use std::process::ExitCode;
 use std::sync::ledger::{Blank, Ledger};
@@ -43,14 +43,19 @@ fn main(rt: HostRuntime) -> ExitCode {
     ExitCode::from(status.number())
 }
 
+// Where the system gives no random bytes for the keys of terms, nothing is begun.
 fn drill_out(rt: &HostRuntime, words: &[Text]) -> Status {
-    drill_counted::<HostRuntime, Brand, Brand>(rt, words, Blank::new(1), Blank::new(1))
+    let Ok(keys) = TermKeys::drawn(rt) else {
+        return Status::Memory;
+    };
+    drill_counted::<HostRuntime, Brand, Brand>(rt, words, keys, Blank::new(1), Blank::new(1))
 }
 
 // Drills into standard output, with counters of its own.
 fn drill_counted<R: Print + AllocGlobal, L: Ledger, M: Ledger>(
     rt: &R,
     words: &[Text],
+    keys: TermKeys,
     steps: Blank,
     nested: Blank,
 ) -> Status
@@ -70,6 +75,7 @@ fn drill_counted<R: Print + AllocGlobal, L: Ledger, M: Ledger>(
         words,
         &mut out,
         &mut patterns,
+        keys,
         &mut nested,
         &mut steps,
     )

@@ -4,7 +4,7 @@ ghost use Rattle.std.specs.Prelude.{◌≡◌};
 use crate::top::drill;
 use shacl_run::Status;
 use shx_outside::{Memory, MemorySink, RegexHost};
-use shx_term::{Steps, Text};
+use shx_term::{Steps, TermKeys, Text};
 use std::alloc::Global;
 use std::marker::Brand;
 use std::str;
@@ -31,7 +31,16 @@ fn drill_counted<L: Ledger, M: Ledger>(
     let mut steps: Steps<L> = Steps::open(steps);
     let mut nested: Steps<M> = Steps::open(nested);
     let mut patterns = RegexHost::new();
-    drill(alloc, words, sink, &mut patterns, &mut nested, &mut steps)
+    let keys = TermKeys::of([0; 16]);
+    drill(
+        alloc,
+        words,
+        sink,
+        &mut patterns,
+        keys,
+        &mut nested,
+        &mut steps,
+    )
 }
 
 fn words_of(alloc: Global, texts: &[&str]) -> Result<Vec<Text>, Memory> {

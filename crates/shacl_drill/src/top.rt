@@ -12,7 +12,7 @@ use crate::tally::Tally;
 use crate::texts::{named_texts, run_words};
 use shacl_run::{Status, run};
 use shx_outside::{HonestInputs, MemorySink, PatternHost, Sink};
-use shx_term::{Limits, Memory, Steps, Text};
+use shx_term::{Limits, Memory, Steps, TermKeys, Text};
 use std::alloc::Global;
 use std::sync::ledger::Ledger;
 
@@ -31,6 +31,7 @@ pub fn drill<O: Sink, P: PatternHost, L: Ledger, M: Ledger>(
     words: &[Text],
     out: &mut O,
     patterns: &mut P,
+    keys: TermKeys,
     nested: &mut Steps<M>,
     steps: &mut Steps<L>,
 ) -> Status
@@ -43,7 +44,7 @@ pub fn drill<O: Sink, P: PatternHost, L: Ledger, M: Ledger>(
         return tell_usage(out);
     };
     let mut sink = MemorySink::new(alloc, PIECE, Vec::new(alloc));
-    match run_over(alloc, size, &mut sink, patterns, nested, steps) {
+    match run_over(alloc, size, &mut sink, patterns, keys, nested, steps) {
         Ok(ended) => tell(size, ended, sink.bytes(), out),
         Err(_) => Status::Memory,
     }
@@ -64,6 +65,7 @@ fn run_over<P: PatternHost, L: Ledger, M: Ledger>(
     size: u64,
     sink: &mut MemorySink,
     patterns: &mut P,
+    keys: TermKeys,
     nested: &mut Steps<M>,
     steps: &mut Steps<L>,
 ) -> Result<Status, Memory>
@@ -84,6 +86,7 @@ fn run_over<P: PatternHost, L: Ledger, M: Ledger>(
         sink,
         patterns,
         &limits,
+        keys,
         nested,
         steps,
     ))

@@ -18,7 +18,7 @@ use program::run_program;
 use program_words::read_words;
 use shacl_run::Status;
 use shx_outside::{FileInputs, RegexHost, StdSink};
-use shx_term::{Steps, Text};
+use shx_term::{Steps, TermKeys, Text};
 use std::marker::Brand;
 use std::process::ExitCode;
 use std::rt::Files;
@@ -32,14 +32,19 @@ fn main(rt: HostRuntime) -> ExitCode {
     ExitCode::from(status.number())
 }
 
+// Where the system gives no random bytes for the keys of terms, nothing is begun.
 fn run_on_files(rt: &HostRuntime, words: &[Text]) -> Status {
-    run_counted::<HostRuntime, Brand, Brand>(rt, words, Blank::new(1), Blank::new(1))
+    let Ok(keys) = TermKeys::drawn(rt) else {
+        return Status::Memory;
+    };
+    run_counted::<HostRuntime, Brand, Brand>(rt, words, keys, Blank::new(1), Blank::new(1))
 }
 
 // Runs over files and standard output, with counters of its own.
 fn run_counted<R: Files + Print + AllocGlobal, L: Ledger, M: Ledger>(
     rt: &R,
     words: &[Text],
+    keys: TermKeys,
     steps: Blank,
     nested: Blank,
 ) -> Status
@@ -61,6 +66,7 @@ fn run_counted<R: Files + Print + AllocGlobal, L: Ledger, M: Ledger>(
         &mut host,
         &mut out,
         &mut patterns,
+        keys,
         &mut nested,
         &mut steps,
     )

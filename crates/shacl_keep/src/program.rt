@@ -6,7 +6,7 @@ ghost use Rattle.shacl_run.specs.RunClauses.{IsRun, PatternsAreAdmittedBy};
 
 use shacl_run::{Status, run};
 use shx_outside::{Inputs, PatternHost, Sink};
-use shx_term::{Limits, Steps, Text};
+use shx_term::{Limits, Steps, TermKeys, Text};
 use std::alloc::Global;
 use std::sync::ledger::Ledger;
 
@@ -18,6 +18,7 @@ pub fn run_program<H: Inputs, O: Sink, P: PatternHost, L: Ledger, M: Ledger>(
     host: &mut H,
     out: &mut O,
     patterns: &mut P,
+    keys: TermKeys,
     nested: &mut Steps<M>,
     steps: &mut Steps<L>,
 ) -> Status
@@ -29,5 +30,7 @@ pub fn run_program<H: Inputs, O: Sink, P: PatternHost, L: Ledger, M: Ledger>(
         (outside (H.state host.new) (O.state out.new) (P.state patterns.new) nested.new steps.new) result }
 {
     let limits = Limits::program();
-    run(alloc, words, host, out, patterns, &limits, nested, steps)
+    run(
+        alloc, words, host, out, patterns, &limits, keys, nested, steps,
+    )
 }

@@ -65,7 +65,7 @@ pub fn judge<P: PatternHost>(
         Ok(document) => document,
         Err(refusal) => return Err(Unopened::of(refusal, pool)),
     };
-    let graph = StoredGraph::from_triples(alloc, pool, &document.triples, limits.triples)?;
+    let graph = StoredGraph::from_triples(alloc, pool, document.triples, limits.triples)?;
     let passed_over = sparql_count(alloc, &graph)?;
     // Its triples are distinct.
     let _ = graph.len();

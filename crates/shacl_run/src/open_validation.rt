@@ -22,6 +22,7 @@ use crate::validation::Validation;
 use edit_engine::plans_stay_known;
 use shx_term::{IriText, Limits, Memory, Scope};
 use std::alloc::Global;
+use std::mem;
 use text_output::Format;
 use ttl_read::Document;
 
@@ -90,8 +91,8 @@ fn validation_over(
         plan,
         passed_over,
     } = accepted;
-    let graph = StoredGraph::from_triples(alloc, pool, &document.triples, limit)?;
-    document.triples = Vec::new(alloc);
+    let triples = mem::replace(&mut document.triples, Vec::new(alloc));
+    let graph = StoredGraph::from_triples(alloc, pool, triples, limit)?;
     Ok(Validation {
         graph,
         document,

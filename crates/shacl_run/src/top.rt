@@ -27,7 +27,7 @@ use crate::unopened::Unopened;
 use command_words::{Asked, read_words, word_texts};
 use report_write::{Answer, Format, write_answer};
 use shx_outside::{Inputs, PatternHost, Sink};
-use shx_term::{Limits, Pool, Steps, Text};
+use shx_term::{Limits, Pool, Steps, TermKeys, Text};
 use std::alloc::Global;
 use std::sync::ledger::Ledger;
 
@@ -35,6 +35,8 @@ use std::sync::ledger::Ledger;
 /// the fault of a text, and then answers a script line by line. The report is kept current: an edit evaluates
 /// the pairs that it touches and no others. `steps` counts the evaluations of shapes at their target nodes;
 /// `nested` is not ticked so far.
+///
+/// The terms are found by a hash under `keys`; nothing that a run writes or answers depends on them.
 ///
 /// A text is read in pieces, and past its limit one byte is taken and no more. A report is put in few large
 /// pieces. The answer to a line is put before the next line is waited for.
@@ -45,6 +47,7 @@ pub fn run<H: Inputs, O: Sink, P: PatternHost, L: Ledger, M: Ledger>(
     out: &mut O,
     patterns: &mut P,
     limits: &Limits,
+    keys: TermKeys,
     nested: &mut Steps<M>,
     steps: &mut Steps<L>,
 ) -> Status
@@ -56,7 +59,9 @@ pub fn run<H: Inputs, O: Sink, P: PatternHost, L: Ledger, M: Ledger>(
         (outside (H.state host.old) (O.state out.old) (P.state patterns.old) nested.old steps.old)
         (outside (H.state host.new) (O.state out.new) (P.state patterns.new) nested.new steps.new) result }
 {
-    match run_words(alloc, words, host, out, patterns, limits, nested, steps) {
+    match run_words(
+        alloc, words, host, out, patterns, limits, keys, nested, steps,
+    ) {
         Ok(status) => status,
         Err(stop) => stop.status(),
     }
@@ -69,6 +74,7 @@ fn run_words<H: Inputs, O: Sink, P: PatternHost, L: Ledger, M: Ledger>(
     out: &mut O,
     patterns: &mut P,
     limits: &Limits,
+    keys: TermKeys,
     nested: &mut Steps<M>,
     steps: &mut Steps<L>,
 ) -> Result<Status, Stop>
@@ -95,7 +101,7 @@ fn run_words<H: Inputs, O: Sink, P: PatternHost, L: Ledger, M: Ledger>(
     ensures opened { OpensInTurn (H.state host.old) (H.state host.new) (end_status result) }
     ensures within { StaysWithin limits.now (H.state host.old) (H.state host.new) }
 {
-    let pool = Pool::with_vocabulary(alloc, limits.terms)?;
+    let pool = Pool::with_vocabulary(alloc, limits.terms, keys)?;
     let texts = word_texts(alloc, words)?;
     match read_words(alloc, &texts)? {
         Some(asked) => run_files(

@@ -1,6 +1,6 @@
 //! The lines of a text.
 use iri_resolve::is_absolute;
-use shx_term::{Id, IriText, Limits, Memory, Pool, Scope, Triple, spell};
+use shx_term::{Id, IriText, Limits, Memory, Pool, Scope, TermKeys, Triple, spell};
 use std::alloc::{AllocError, Global};
 use ttl_read::{TtlFault, read_document};
 
@@ -13,7 +13,7 @@ pub fn lines_of(alloc: Global, base: &str, text: &[u8]) -> Result<Vec<u8>, Memor
     }
     let base = IriText::new(String::from_str(alloc, base)?);
     let limits = Limits::program();
-    let mut pool = Pool::with_vocabulary(alloc, limits.terms)?;
+    let mut pool = Pool::with_vocabulary(alloc, limits.terms, TermKeys::of([0; 16]))?;
     match read_document(alloc, text, &base, Scope::Data, &limits, &mut pool) {
         Ok(document) => write_triples(&pool, &document.triples, &mut lines)?,
         Err(TtlFault::At { code, at }) => {

@@ -2,7 +2,7 @@
 use super::names::{add_term, shortened};
 use graph_view::{GraphEdit, GraphView, ListGraph, StoreFault};
 use iri_resolve::is_absolute;
-use row_tools::{RowFault, iri_text};
+use row_tools::{RowFault, iri_text, vocabulary_pool};
 use shape_check::{CheckFault, ShapeFault, check, check_shapes};
 use shape_decl::collect;
 use shx_term::{Limits, Memory, Pool, Scope, Triple};
@@ -26,7 +26,7 @@ pub(super) fn graph_of(alloc: Global, text: &str) -> Result<Option<ListGraph>, R
     let base = iri_text(alloc, base)?;
     let text = format!(in alloc; "{PREFIXES}{text}")?;
     let limits = Limits::program();
-    let mut pool = Pool::with_vocabulary(alloc, limits.terms)?;
+    let mut pool = vocabulary_pool(alloc, limits.terms)?;
     match read_document(
         alloc,
         text.as_bytes(),

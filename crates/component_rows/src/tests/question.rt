@@ -3,9 +3,9 @@ use super::answers::FOCUS;
 use super::row::Row;
 use due_view::is_known_triple;
 use graph_view::{GraphEdit, Key, ListGraph, Reads};
-use row_tools::{RowFault, in_three, term};
+use row_tools::{RowFault, in_three, term, vocabulary_pool};
 use shx_term::vocabulary::VOCABULARY_LEN;
-use shx_term::{Id, Pool, Triple};
+use shx_term::{Id, Triple};
 use std::alloc::Global;
 
 /// A result that is due: its value and its predicate, where it has them.
@@ -127,7 +127,7 @@ fn insert_all(alloc: Global, graph: &mut ListGraph, cell: &str) -> Result<(), Ro
 
 /// The graph of some triples, with commas between them, and room for the terms of a row.
 pub(super) fn graph_of(alloc: Global, cell: &str) -> Result<ListGraph, RowFault> {
-    let pool = Pool::with_vocabulary(alloc, VOCABULARY_LEN + 40)?;
+    let pool = vocabulary_pool(alloc, VOCABULARY_LEN + 40)?;
     let mut graph = ListGraph::new(alloc, pool, 20);
     insert_all(alloc, &mut graph, cell)?;
     Ok(graph)

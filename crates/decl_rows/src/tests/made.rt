@@ -2,9 +2,9 @@
 
 use super::names::local_name;
 use graph_view::{GraphEdit, GraphView, ListGraph, StoreFault};
-use row_tools::{RowFault, cut, in_three, iri, labelled, literal};
+use row_tools::{RowFault, cut, in_three, iri, labelled, literal, vocabulary_pool};
 use shx_term::vocabulary::vocabulary_rows;
-use shx_term::{Id, Pool, Scope, Term, Triple, XSD_STRING};
+use shx_term::{Id, Scope, Term, Triple, XSD_STRING};
 use std::alloc::Global;
 
 // The number of a term of the vocabulary by its local name.
@@ -71,7 +71,7 @@ fn state_all(alloc: Global, graph: &mut ListGraph, statement: &str) -> Result<()
 
 /// The graph of a text of statements with commas between them; `-` stands for none.
 pub(super) fn graph(alloc: Global, text: &str) -> Result<ListGraph, RowFault> {
-    let pool = Pool::with_vocabulary(alloc, 100)?;
+    let pool = vocabulary_pool(alloc, 100)?;
     let mut graph = ListGraph::new(alloc, pool, 100);
     if text != "-" {
         for statement in text.split(", ") {

@@ -5,9 +5,9 @@ mod others;
 
 use super::seen::text_of;
 use iri_resolve::is_absolute;
-use row_tools::{RowFault, all_met, cut, iri_text, spelled};
+use row_tools::{RowFault, all_met, cut, iri_text, spelled, vocabulary_pool};
 use shx_term::vocabulary::VOCABULARY_LEN;
-use shx_term::{Limits, Pool, Scope};
+use shx_term::{Limits, Scope};
 use std::alloc::Global;
 use std::test::Fail;
 use ttl_read::{Document, Reading, TtlFault, read_document, read_term};
@@ -22,7 +22,7 @@ fn outcome(alloc: Global, stated: &str, text: &str) -> Result<String, RowFault> 
         return Err(RowFault::Unread);
     }
     let base = iri_text(alloc, base)?;
-    let mut pool = Pool::with_vocabulary(alloc, limits.terms)?;
+    let mut pool = vocabulary_pool(alloc, limits.terms)?;
     match read_document(
         alloc,
         stated.as_bytes(),

@@ -1,7 +1,7 @@
 use super::seen::{outcome_in, terms_from, text_of};
-use row_tools::{RowFault, all_blocks_met, all_met, cut, number};
+use row_tools::{RowFault, all_blocks_met, all_met, cut, number, vocabulary_pool};
 use shx_term::vocabulary::VOCABULARY_LEN;
-use shx_term::{Limits, Pool, Scope};
+use shx_term::{Limits, Scope};
 use std::alloc::Global;
 use std::test::Fail;
 
@@ -36,7 +36,7 @@ fn both(alloc: Global, terms: u32) -> Result<String, RowFault> {
         return Err(RowFault::Unread);
     }
     let limits = Limits::program();
-    let mut pool = Pool::with_vocabulary(alloc, terms)?;
+    let mut pool = vocabulary_pool(alloc, terms)?;
     let shapes = outcome_in(alloc, SHAPES, "a:b", Scope::Shapes, &limits, &mut pool)?;
     let data = outcome_in(alloc, DATA, "a:b", Scope::Data, &limits, &mut pool)?;
     Ok(format!(in alloc; "{}{}", shapes.as_str(), data.as_str())?)
@@ -70,7 +70,7 @@ const REFUSED: &str = r##"$→2 at 0
 // The outcome of a text, and the terms that are left of it.
 fn left(alloc: Global, text: &str) -> Result<String, RowFault> {
     let limits = Limits::program();
-    let mut pool = Pool::with_vocabulary(alloc, VOCABULARY_LEN + 4)?;
+    let mut pool = vocabulary_pool(alloc, VOCABULARY_LEN + 4)?;
     let outcome = outcome_in(
         alloc,
         text.as_bytes(),

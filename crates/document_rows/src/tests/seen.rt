@@ -1,7 +1,7 @@
 //! What is seen of a text, as lines.
 
 use iri_resolve::is_absolute;
-use row_tools::{RowFault, iri_text, spelled};
+use row_tools::{RowFault, iri_text, spelled, vocabulary_pool};
 use shx_term::vocabulary::VOCABULARY_LEN;
 use shx_term::{Id, IriText, Limits, Memory, Pool, Scope, Triple};
 use std::alloc::Global;
@@ -37,7 +37,7 @@ pub(super) fn outcome(
     if limits.terms < VOCABULARY_LEN {
         return Err(RowFault::Unread);
     }
-    let mut pool = Pool::with_vocabulary(alloc, limits.terms)?;
+    let mut pool = vocabulary_pool(alloc, limits.terms)?;
     outcome_in(alloc, text, base, Scope::Data, limits, &mut pool)
 }
 

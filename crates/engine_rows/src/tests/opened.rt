@@ -10,7 +10,7 @@ use due_view::{is_known_triple, is_valid};
 use edit_engine::{plans_stay_known, plans_target_shapes_once};
 use graph_view::{GraphEdit, GraphView, ListGraph};
 use iri_resolve::is_absolute;
-use row_tools::{RowFault, iri_text};
+use row_tools::{RowFault, iri_text, vocabulary_pool};
 use shape_check::{CheckFault, check_shapes};
 use shape_compile::{CompileFault, compile};
 use shape_eval::Plan;
@@ -99,7 +99,7 @@ fn shapes_of(alloc: Global, text: &str) -> Result<Shapes, RowFault>
         alloc,
         text,
         Scope::Shapes,
-        Pool::with_vocabulary(alloc, 1_000)?,
+        vocabulary_pool(alloc, 1_000)?,
         1_000,
     )?;
     let plan = compiled(alloc, &graph)?;

@@ -1,7 +1,7 @@
 //! The terms of the tables, and their numbers.
 ghost use Rattle.std.specs.Prelude.{◌<◌, All, IfOk, length};
 
-use row_tools::{RowFault, term};
+use row_tools::{RowFault, term, vocabulary_pool};
 use shx_term::vocabulary::VOCABULARY_LEN;
 use shx_term::{Id, Pool};
 use std::alloc::Global;
@@ -18,7 +18,7 @@ const ROOM: u32 = 80;
 
 /// These terms alone.
 pub(super) fn all_terms(alloc: Global) -> Result<Pool, RowFault> {
-    let mut pool = Pool::with_vocabulary(alloc, VOCABULARY_LEN + ROOM)?;
+    let mut pool = vocabulary_pool(alloc, VOCABULARY_LEN + ROOM)?;
     for word in TERMS.split_whitespace() {
         pool.enter(&term(alloc, word)?)?;
     }

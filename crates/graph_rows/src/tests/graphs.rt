@@ -1,8 +1,7 @@
 use super::letters::graph_of;
 use super::questions::words;
 use graph_view::{GraphEdit, GraphView, ListGraph, StoreFault};
-use row_tools::{RowFault, all_met, cut, number};
-use shx_term::Pool;
+use row_tools::{RowFault, all_met, cut, number, vocabulary_pool};
 use shx_term::vocabulary::VOCABULARY_LEN;
 use std::alloc::Global;
 use std::test::Fail;
@@ -24,7 +23,7 @@ fn is_given_back(alloc: Global, row: &str) -> Result<bool, RowFault> {
     if terms < VOCABULARY_LEN {
         return Err(RowFault::Unread);
     }
-    let pool = Pool::with_vocabulary(alloc, terms)?;
+    let pool = vocabulary_pool(alloc, terms)?;
     let store = Store::from_list(alloc, ListGraph::new(alloc, pool, u64::from(limit)))?;
     let (triples, limit) = (store.len(), store.limit());
     let pool = store.into_pool();

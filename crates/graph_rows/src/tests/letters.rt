@@ -1,9 +1,9 @@
 //! Terms by letters, triples by words of three letters, keys by words with `?` for what is looked up.
 use due_view::is_known_triple;
 use graph_view::{GraphEdit, GraphView, Key, ListGraph};
-use row_tools::{RowFault, cut, term};
+use row_tools::{RowFault, cut, term, vocabulary_pool};
 use shx_term::vocabulary::VOCABULARY_LEN;
-use shx_term::{Id, Pool, Triple};
+use shx_term::{Id, Triple};
 use std::alloc::Global;
 use triple_store::Store;
 
@@ -108,7 +108,7 @@ pub(super) fn graph_of(
     if terms < LETTERS_END {
         return Err(RowFault::Unread);
     }
-    let pool = Pool::with_vocabulary(alloc, terms)?;
+    let pool = vocabulary_pool(alloc, terms)?;
     let mut graph = ListGraph::new(alloc, pool, limit);
     enter_letters(alloc, &mut graph, TERMS)?;
     insert_all(&mut graph, words)?;
@@ -120,7 +120,7 @@ fn store_from(alloc: Global, graph: ListGraph) -> Result<Store, RowFault> {
     // Its numbers have terms.
     let _ = graph.pool();
     let limit = graph.limit();
-    Ok(Store::from_triples(alloc, graph.into_pool(), &triples, limit)?)
+    Ok(Store::from_triples(alloc, graph.into_pool(), triples, limit)?)
 }
 
 /// The store of those words, made of all their triples at once.

@@ -1,9 +1,9 @@
 //! Many edits of one store. None goes over what is held, so that all of them end in time.
 use super::steps::inserted;
 use graph_view::{GraphEdit, GraphView, ListGraph};
-use row_tools::{RowFault, all_met, number};
+use row_tools::{RowFault, all_met, number, vocabulary_pool};
+use shx_term::Triple;
 use shx_term::vocabulary::VOCABULARY_LEN;
-use shx_term::{Pool, Triple};
 use std::alloc::Global;
 use std::test::Fail;
 use triple_store::Store;
@@ -38,7 +38,7 @@ fn gives_up(store: &mut Store, many: u32) -> bool {
 // Whether a store with room for so many triples takes and gives up each of them.
 fn takes_and_gives_up(alloc: Global, row: &str) -> Result<bool, RowFault> {
     let many = number(row)?;
-    let pool = Pool::with_vocabulary(alloc, VOCABULARY_LEN)?;
+    let pool = vocabulary_pool(alloc, VOCABULARY_LEN)?;
     let mut store = Store::from_list(alloc, ListGraph::new(alloc, pool, u64::from(many)))?;
     Ok(takes(&mut store, many)? && gives_up(&mut store, many))
 }

@@ -1,7 +1,8 @@
-//! What is looked up in a graph. A question is a triple, a key, `len`, `terms`, or `all`.
+//! What is looked up in a graph. A question is a triple, a key, `len`, `terms`, or `all`; or a key, `#` and a
+//! number, for how many triples touch the key, up to that number.
 use super::letters::{key_of, letter, triple_of};
 use graph_view::{GraphView, Key, Reads};
-use row_tools::RowFault;
+use row_tools::{RowFault, cut, number};
 use shx_term::vocabulary::VOCABULARY_LEN;
 use shx_term::{Id, Memory, Triple};
 use std::alloc::Global;
@@ -51,11 +52,18 @@ fn look_up<V: GraphView>(alloc: Global, view: &V, key: Key) -> Result<String, Me
     Ok(found)
 }
 
+fn counted<V: GraphView>(alloc: Global, view: &V, question: &str) -> Result<String, RowFault> {
+    let (key, most) = cut(question, "#")?;
+    let count = view.count_up_to(&key_of(key)?, u64::from(number(most)?));
+    Ok(format!(in alloc; "{count}")?)
+}
+
 fn asked<V: GraphView>(alloc: Global, view: &V, question: &str) -> Result<String, RowFault> {
     match question {
         "len" => Ok(format!(in alloc; "{}", view.len())?),
         "all" => Ok(all_of(alloc, view)?),
         "terms" => Ok(format!(in alloc; "{}", view.pool().len())?),
+        _ if question.contains('#') => counted(alloc, view, question),
         _ if question.contains('?') => Ok(look_up(alloc, view, key_of(question)?)?),
         _ => Ok(format!(in alloc; "{}", view.contains(&triple_of(question)?))?),
     }
@@ -87,17 +95,26 @@ fn key_at(number: u32) -> Key {
     }
 }
 
-/// What is looked up under all keys over the letters, and how many triples are held.
+// How many triples touch a key, up to one, to two, and all of them.
+fn counts<V: GraphView>(alloc: Global, view: &V, key: &Key) -> Result<String, Memory> {
+    let one = view.count_up_to(key, 1);
+    let two = view.count_up_to(key, 2);
+    let all = view.count_up_to(key, u64::MAX);
+    format!(in alloc; "{one} {two} {all}")
+}
+
+/// What is looked up and counted under all keys over the letters, and how many triples are held.
 pub(super) fn all_of<V: GraphView>(alloc: Global, view: &V) -> Result<String, Memory> {
     let mut found = format!(in alloc; "{}", view.len())?;
     for number in 0..KEYS {
         found.push('\n')?;
         found.push_str(look_up(alloc, view, key_at(number))?.as_str())?;
+        found.push_str(counts(alloc, view, &key_at(number))?.as_str())?;
     }
     Ok(found)
 }
 
-/// Whether all look-ups give the same in both, and as many triples are held.
+/// Whether all look-ups and counts give the same in both, and as many triples are held.
 pub(super) fn is_same<V: GraphView, W: GraphView>(
     alloc: Global,
     view: &V,

@@ -1,10 +1,10 @@
 //! What a line is read as behind a data text, as a text.
 
 use iri_resolve::is_absolute;
-use row_tools::{RowFault, cut};
+use row_tools::{RowFault, cut, vocabulary_pool};
 use script_lines::{Command, LineFault, read_line};
 use shx_term::vocabulary::VOCABULARY_LEN;
-use shx_term::{Edit, IriText, Limits, Memory, Pool, Scope, TermTriple, spell};
+use shx_term::{Edit, IriText, Limits, Memory, Scope, TermTriple, spell};
 use std::alloc::{AllocError, Global};
 use ttl_read::{Document, TtlFault, read_document};
 
@@ -27,7 +27,7 @@ pub(super) fn outcome(
         return String::from_str(alloc, "no base, or other limits");
     }
     let base = IriText::new(String::from_str(alloc, base)?);
-    let mut pool = Pool::with_vocabulary(alloc, limits.terms)?;
+    let mut pool = vocabulary_pool(alloc, limits.terms)?;
     match read_document(
         alloc,
         stated.as_bytes(),

@@ -1,7 +1,7 @@
 use graph_view::{GraphEdit, GraphView, ListGraph};
-use row_tools::{RowFault, cut, term};
+use row_tools::{RowFault, cut, term, vocabulary_pool};
 use shx_term::vocabulary::{RDF_TYPE, RDFS_SUB_CLASS_OF, VOCABULARY_LEN};
-use shx_term::{Id, Pool, Triple};
+use shx_term::{Id, Triple};
 use std::alloc::Global;
 
 // Each graph by its triples: the letters of subject, predicate and object.
@@ -82,7 +82,7 @@ fn insert_all(graph: &mut ListGraph, words: &str) -> Result<(), RowFault> {
 /// The graph of a name.
 pub(super) fn graph(alloc: Global, name: &str) -> Result<ListGraph, RowFault> {
     let triples = named(GRAPHS, name)?;
-    let pool = Pool::with_vocabulary(alloc, VOCABULARY_LEN + 26)?;
+    let pool = vocabulary_pool(alloc, VOCABULARY_LEN + 26)?;
     let mut graph = ListGraph::new(alloc, pool, 100);
     enter_all(alloc, &mut graph, TERMS)?;
     insert_all(&mut graph, triples)?;

@@ -8,9 +8,9 @@ use path_eval::{
     Path, edits_beside_a_path, equal_paths_have_one_route, paths_depend_on_their_reads,
     paths_lead_to_what_they_relate, values,
 };
-use row_tools::{RowFault, all_met, anonymous, cut, in_three};
+use row_tools::{RowFault, all_met, anonymous, cut, in_three, vocabulary_pool};
 use shx_term::vocabulary::{RDF_REST, VOCABULARY_LEN};
-use shx_term::{Pool, Scope, Triple};
+use shx_term::{Scope, Triple};
 use std::alloc::Global;
 use std::test::Fail;
 
@@ -84,7 +84,7 @@ const CHAIN_LEN: u32 = 2000;
 
 // Blank nodes in a chain, each related to the next.
 fn chain(alloc: Global) -> Result<ListGraph, RowFault> {
-    let pool = Pool::with_vocabulary(alloc, VOCABULARY_LEN + CHAIN_LEN)?;
+    let pool = vocabulary_pool(alloc, VOCABULARY_LEN + CHAIN_LEN)?;
     let mut graph = ListGraph::new(alloc, pool, u64::from(CHAIN_LEN));
     for number in 0..CHAIN_LEN {
         let o = graph.enter(&anonymous(Scope::Data, number))?;

@@ -1,6 +1,6 @@
 //! What our own reader finds in a text that is put.
 use iri_resolve::is_absolute;
-use row_tools::{RowFault, iri_text, spelled};
+use row_tools::{RowFault, iri_text, spelled, vocabulary_pool};
 use shx_term::{Id, Limits, Pool, Scope, Triple};
 use std::alloc::Global;
 use ttl_read::{TtlFault, read_document};
@@ -14,7 +14,7 @@ pub(super) fn triples_in(alloc: Global, text: &str) -> Result<String, RowFault> 
     }
     let base = iri_text(alloc, base)?;
     let limits = Limits::program();
-    let mut pool = Pool::with_vocabulary(alloc, limits.terms)?;
+    let mut pool = vocabulary_pool(alloc, limits.terms)?;
     match read_document(
         alloc,
         text.as_bytes(),

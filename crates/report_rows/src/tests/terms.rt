@@ -1,7 +1,7 @@
 //! The terms of the tables, and their numbers.
 ghost use Rattle.std.specs.Prelude.{◌<◌, IfOk, length};
 
-use row_tools::{RowFault, term};
+use row_tools::{RowFault, term, vocabulary_pool};
 use shx_term::vocabulary::VOCABULARY_LEN;
 use shx_term::{Id, Memory, Pool, Term};
 use std::alloc::Global;
@@ -30,7 +30,7 @@ fn enter_all(alloc: Global, pool: &mut Pool, words: &str) -> Result<(), RowFault
 
 /// A pool of these terms.
 pub(super) fn all_terms(alloc: Global) -> Result<Pool, RowFault> {
-    let mut pool = Pool::with_vocabulary(alloc, VOCABULARY_LEN + ROOM)?;
+    let mut pool = vocabulary_pool(alloc, VOCABULARY_LEN + ROOM)?;
     enter_all(alloc, &mut pool, TERMS)?;
     Ok(pool)
 }

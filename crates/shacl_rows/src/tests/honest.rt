@@ -9,7 +9,7 @@ use super::runs::texts_of;
 use row_tools::RowFault;
 use shacl_run::{Status, run};
 use shx_outside::{HonestInputs, HonestSink, Memory, RegexHost, Roomy};
-use shx_term::{Limits, Steps, Text};
+use shx_term::{Limits, Steps, TermKeys, Text};
 use std::alloc::Global;
 use std::marker::Brand;
 use std::sync::ledger::{Blank, Ledger};
@@ -43,6 +43,7 @@ fn run_honestly<L: Ledger, M: Ledger>(
         sink,
         &mut patterns,
         limits,
+        TermKeys::of([0; 16]),
         &mut nested,
         &mut steps,
     )

@@ -6,7 +6,7 @@ use super::outside::Outside;
 use row_tools::RowFault;
 use shacl_run::{Status, run};
 use shx_outside::{FailingHost, Memory, MemoryInputs, MemorySink, RegexHost};
-use shx_term::{Limits, Steps, Text};
+use shx_term::{Limits, Steps, TermKeys, Text};
 use std::alloc::{AllocError, Global};
 use std::marker::Brand;
 use std::process::Abort;
@@ -92,6 +92,7 @@ fn run_counted<L: Ledger, M: Ledger>(
         sink,
         patterns,
         limits,
+        TermKeys::of([0; 16]),
         &mut nested,
         &mut steps,
     )

@@ -30,6 +30,26 @@ a?? → apb apr apu apt apz apy apx aqb
 x?? → -
 ?p? → apb apr apu apt apz apy apx bpb rpb spb
 ?a? → -
+ap?#0 → 0
+ap?#1 → 1
+ap?#6 → 6
+ap?#7 → 7
+ap?#8 → 7
+bq?#3 → 0
+?pb#0 → 0
+?pb#3 → 3
+?pb#4 → 4
+?pb#9 → 4
+?qy#1 → 0
+a??#0 → 0
+a??#7 → 7
+a??#9 → 8
+x??#2 → 0
+?p?#0 → 0
+?p?#9 → 9
+?p?#10 → 10
+?p?#11 → 10
+?a?#1 → 0
 -bqa → absent
 len → 12
 a?? → apb apr apu apt apz apy apx aqb
@@ -50,6 +70,8 @@ apu → true
 len → 11
 terms → 75
 a?? → apb apu apt apz apy apx aqb
+ap?#9 → 6
+a??#9 → 7
 +apr → new
 a?? → apb apr apu apt apz apy apx aqb
 

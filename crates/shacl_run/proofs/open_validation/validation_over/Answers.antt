@@ -10,7 +10,7 @@ pub returns-clause-stands : goal.returns-clause-stands
 returns-clause-stands c = record {
   valid = valid_stored c.args.accepted.pool.terms c.args.document.triples.items
       (plain_graph c.in_ok-graph.graph)
-      (rw c.deref.ensures.value at c.in_ok-graph.ensures.holds) c.requires.valid;
+      (rw c.replace-triples.ensures.value at c.in_ok-graph.ensures.holds) c.requires.valid;
   known = subst (λ (pool : Pooled). IsKnownPlan pool.terms (plan_of c.args.accepted.plan).shapes)
       (sym c.in_ok-graph.ensures.pool) c.requires.plan;
   refers = c.requires.refers;

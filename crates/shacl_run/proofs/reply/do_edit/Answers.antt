@@ -22,7 +22,8 @@ returns-in-Ok-clause-replies g c = λ manner s is.
 pub returns-in-Err-TooManyTriples-clause-replies : goal.returns-in-Err-TooManyTriples-clause-replies
 returns-in-Err-TooManyTriples-clause-replies g c = λ manner s is.
     let script = c.args.script.now in
-    let same = same_outcome c.same_graphs_are_edited_alike.ensures.outcome manner s script is c.args.edit.now in
+    let same =
+    same_outcome c.same_graphs_are_edited_alike.ensures.outcome manner s script is c.args.edit.now in
     let refused = rw c.in-Err-TooManyTriples.field-0-is at c.in-Err-TooManyTriples.ensures.refused in
     let kept = IsScriptRun-same manner.limits manner.format s script is c.apply.new.self refused.same in
     rw (same ∙ refused.cause_is, refused.steps) (c.refuse_line.ensures.replies manner s c.args.steps.now kept)
@@ -30,7 +31,8 @@ returns-in-Err-TooManyTriples-clause-replies g c = λ manner s is.
 pub returns-in-Err-TooManyTerms-clause-replies : goal.returns-in-Err-TooManyTerms-clause-replies
 returns-in-Err-TooManyTerms-clause-replies g c = λ manner s is.
     let script = c.args.script.now in
-    let same = same_outcome c.same_graphs_are_edited_alike.ensures.outcome manner s script is c.args.edit.now in
+    let same =
+    same_outcome c.same_graphs_are_edited_alike.ensures.outcome manner s script is c.args.edit.now in
     let refused = rw c.in-Err-TooManyTerms.field-0-is at c.in-Err-TooManyTerms.ensures.refused in
     let kept = IsScriptRun-same manner.limits manner.format s script is c.apply.new.self refused.same in
     rw (same ∙ refused.cause_is, refused.steps)

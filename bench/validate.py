@@ -1,11 +1,11 @@
 #!/usr/bin/env python3
-"""Measures whole reports: the shapes of orders.ttl over the data that orders.py makes, in seconds and peak
-memory, beside Apache Jena's `shacl validate` where it is installed, whose results are counted and compared.
-Run it at the top of the repository, on a quiet machine.
+"""Measures whole reports: the shapes of orders.ttl over the data that orders.py makes, or those of people.ttl
+over that of people.py, in seconds and peak memory, beside Apache Jena's `shacl validate` where it is
+installed, whose results are counted and compared. Run it at the top of the repository, on a quiet machine.
 
-    bench/validate.py [COUNT ..]
+    bench/validate.py [orders|people] [COUNT ..]
                         data of about so many triples (10000, 100000 and 1000000 where no count is given)
-    bench/validate.py --program WORD .. -- [COUNT ..]
+    bench/validate.py --program WORD .. -- [orders|people] [COUNT ..]
                         the same by another program, which takes SHAPES and DATA behind these words
 
 Jena is the command `shacl` of its own distribution, or what Debian's package libapache-jena-java holds.
@@ -22,10 +22,11 @@ import time
 import zipfile
 
 import orders
+import people
 
 HERE = os.path.dirname(os.path.abspath(__file__))
 PROGRAM = os.path.join(HERE, "..", "crates", "shacl_keep", "out", "shacl_keep")
-SHAPES = os.path.join(HERE, "orders.ttl")
+KINDS = {"orders": orders, "people": people}
 JARS = "/usr/share/java"
 # Libraries of Debian that pass what is logged on to each other.
 LOGGERS = re.compile(r"log4j|slf4j-(jdk14|android|jcl|simple)|slf4j-provider|jul-to|jcl-over|osgi")
@@ -89,6 +90,8 @@ def main():
     if words[:1] == ["--program"]:
         end = words.index("--")
         program, words = words[1:end], words[end + 1 :]
+    kind = words.pop(0) if words and words[0] in KINDS else "orders"
+    shapes = os.path.join(HERE, kind + ".ttl")
     with tempfile.TemporaryDirectory() as folder:
         data = os.path.join(folder, "data.ttl")
         out = os.path.join(folder, "out")
@@ -98,11 +101,11 @@ def main():
         print("|---" * 10 + "|")
         for count in [int(word) for word in words] or [10_000, 100_000, 1_000_000]:
             with open(data, "w", encoding="utf-8") as written:
-                written.writelines(orders.text(count))
-            ours = measured(run([*program, SHAPES, data], out))
+                written.writelines(KINDS[kind].text(count))
+            ours = measured(run([*program, shapes, data], out))
             row = f"{count} | {os.path.getsize(data) / 1e6:.1f} | {ours} | {our_results(out)}"
             if other:
-                asked = [*other, "validate", "--text", "--shapes", SHAPES, "--data", data]
+                asked = [*other, "validate", "--text", "--shapes", shapes, "--data", data]
                 row += f" | {measured(run(asked, out))} | {their_results(out)}"
             else:
                 row += " | | | |"

@@ -118,8 +118,9 @@ fn are_iri_texts(alloc: Global, a: &str, b: &str, order: &str) -> Result<bool, R
     let first = iri_text(alloc, a)?;
     let copy = first.copy(alloc)?;
     let second = IriText::from_str(alloc, b)?;
-    let kept = copy.as_str() == a && copy == first && is_order_of(order, &first, &second);
-    Ok(kept && is_order_of(order, &first.interned(), &second.copy(alloc)?))
+    let kept = copy.as_str() == a && copy == first && (first == second) == (order == "equal");
+    let (first, second) = (Term::Iri(first.interned()), Term::Iri(second.copy(alloc)?));
+    Ok(kept && is_order_of(order, &first, &second))
 }
 
 fn are_labels(alloc: Global, a: &str, b: &str, order: &str) -> Result<bool, RowFault> {

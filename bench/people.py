@@ -15,7 +15,7 @@ e:Employee rdfs:subClassOf e:Person . e:Manager rdfs:subClassOf e:Person . e:Sta
 """
 KINDS = ("Person", "Employee", "Employee", "Manager")
 # Triples of ten persons, their addresses, and a company, on average.
-OF_TEN = 149.9
+OF_TEN = 150.3
 
 
 def person(i, count):

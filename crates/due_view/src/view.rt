@@ -1,6 +1,6 @@
 ghost use Rattle.std.specs.Prelude.{◌≡◌, Contains, OnOk};
 
-use graph_view::{GraphView, Key, Reads};
+use graph_view::{GraphView, Key, Notes, Reads};
 use shx_term::{Id, Memory, Pool, Triple};
 use std::alloc::{AllocError, Global};
 
@@ -58,22 +58,44 @@ impl<'a, V: GraphView> GraphView for DueView<'a, V> {
         self.base.count_up_to(key, most)
     }
 
-    fn objects(&self, alloc: Global, s: Id, p: Id, reads: &mut Reads) -> Result<Vec<Id>, Memory> {
+    fn objects<N: Notes>(
+        &self,
+        alloc: Global,
+        s: Id,
+        p: Id,
+        reads: &mut N,
+    ) -> Result<Vec<Id>, Memory> {
         self.allow(&Key::Out(s, p))?;
         self.base.objects(alloc, s, p, reads)
     }
 
-    fn subjects(&self, alloc: Global, p: Id, o: Id, reads: &mut Reads) -> Result<Vec<Id>, Memory> {
+    fn subjects<N: Notes>(
+        &self,
+        alloc: Global,
+        p: Id,
+        o: Id,
+        reads: &mut N,
+    ) -> Result<Vec<Id>, Memory> {
         self.allow(&Key::In(p, o))?;
         self.base.subjects(alloc, p, o, reads)
     }
 
-    fn triples_of(&self, alloc: Global, s: Id, reads: &mut Reads) -> Result<Vec<Triple>, Memory> {
+    fn triples_of<N: Notes>(
+        &self,
+        alloc: Global,
+        s: Id,
+        reads: &mut N,
+    ) -> Result<Vec<Triple>, Memory> {
         self.allow(&Key::Subject(s))?;
         self.base.triples_of(alloc, s, reads)
     }
 
-    fn triples_with(&self, alloc: Global, p: Id, reads: &mut Reads) -> Result<Vec<Triple>, Memory> {
+    fn triples_with<N: Notes>(
+        &self,
+        alloc: Global,
+        p: Id,
+        reads: &mut N,
+    ) -> Result<Vec<Triple>, Memory> {
         self.allow(&Key::Predicate(p))?;
         self.base.triples_with(alloc, p, reads)
     }

@@ -2,6 +2,7 @@ pub mod Agree
 pub mod Graph
 pub mod Key
 pub mod ListGraph
+pub mod Notes
 pub mod Patched
 pub mod Reads
 pub mod SameGraph

@@ -1,2 +1,3 @@
 pub mod HeldKeys
 pub mod KeyLaws
+pub mod NotesLaws

@@ -5,7 +5,7 @@ ghost use Rattle.shx_term.specs.Triple.{same_triple};
 ghost use Rattle.graph_view.specs.Graph.{IsKnownTriple};
 
 use crate::among::count_among;
-use crate::{GraphView, Key, Reads, objects_among, subjects_among, triples_among};
+use crate::{GraphView, Key, Notes, objects_among, subjects_among, triples_among};
 use shx_term::{Id, Memory, Pool, Triple};
 use std::alloc::Global;
 
@@ -52,28 +52,50 @@ impl<'a> GraphView for Lent<'a> {
         count_among(self.triples, key).min(most)
     }
 
-    fn objects(&self, alloc: Global, s: Id, p: Id, reads: &mut Reads) -> Result<Vec<Id>, Memory> {
+    fn objects<N: Notes>(
+        &self,
+        alloc: Global,
+        s: Id,
+        p: Id,
+        reads: &mut N,
+    ) -> Result<Vec<Id>, Memory> {
         let key = Key::Out(s, p);
         let found = objects_among(alloc, self.triples, &key)?;
         reads.add(key)?;
         Ok(self.pool.in_order(found))
     }
 
-    fn subjects(&self, alloc: Global, p: Id, o: Id, reads: &mut Reads) -> Result<Vec<Id>, Memory> {
+    fn subjects<N: Notes>(
+        &self,
+        alloc: Global,
+        p: Id,
+        o: Id,
+        reads: &mut N,
+    ) -> Result<Vec<Id>, Memory> {
         let key = Key::In(p, o);
         let found = subjects_among(alloc, self.triples, &key)?;
         reads.add(key)?;
         Ok(self.pool.in_order(found))
     }
 
-    fn triples_of(&self, alloc: Global, s: Id, reads: &mut Reads) -> Result<Vec<Triple>, Memory> {
+    fn triples_of<N: Notes>(
+        &self,
+        alloc: Global,
+        s: Id,
+        reads: &mut N,
+    ) -> Result<Vec<Triple>, Memory> {
         let key = Key::Subject(s);
         let found = triples_among(alloc, self.triples, &key)?;
         reads.add(key)?;
         Ok(self.pool.triples_in_order(found))
     }
 
-    fn triples_with(&self, alloc: Global, p: Id, reads: &mut Reads) -> Result<Vec<Triple>, Memory> {
+    fn triples_with<N: Notes>(
+        &self,
+        alloc: Global,
+        p: Id,
+        reads: &mut N,
+    ) -> Result<Vec<Triple>, Memory> {
         let key = Key::Predicate(p);
         let found = triples_among(alloc, self.triples, &key)?;
         reads.add(key)?;

@@ -5,6 +5,7 @@
 //! |---|---|
 //! | `key.rt` | `Key`: the part of a graph that a look-up reads, with an order; `touches`, `keys_of` |
 //! | `reads.rt` | `Reads`: a set of keys, and whether a triple touches one of them |
+//! | `notes.rt` | `Notes`: what takes the keys that are read, as `Reads`, or keeps nothing of them |
 //! | `keys.rt` | the two forms of such a set, for a few keys and for many |
 //! | `view.rt` | `GraphView`: look-ups, each of which adds its key to the reads; what they tell; `term_of` |
 //! | `edit.rt` | `GraphEdit`: a graph that takes terms and triples, and gives them up; what edits spare |
@@ -31,6 +32,7 @@ mod keys;
 mod laws;
 mod lent;
 mod list_graph;
+mod notes;
 mod patched;
 mod reads;
 mod triple_set;
@@ -42,6 +44,7 @@ pub use key::{Key, keys_of, touches};
 pub use laws::{agreement_keeps, edits_are_patches, valid_views_stay};
 pub use lent::Lent;
 pub use list_graph::ListGraph;
+pub use notes::{Notes, Unnoted};
 pub use patched::{Patched, patches_agree};
 pub use reads::Reads;
 pub use view::{GraphView, look_ups_agree, look_ups_give_what_is_held, term_of};

@@ -3,7 +3,7 @@ ghost use Rattle.graph_view.specs.ListGraph.{plain_graph};
 ghost use Rattle.graph_view.specs.Patched.{patched, IsPatch};
 
 use crate::triple_set::{insert_all, remove_all};
-use crate::{GraphEdit, GraphView, Key, Lent, Reads, StoreFault};
+use crate::{GraphEdit, GraphView, Key, Lent, Notes, StoreFault};
 use indexmap::IndexSet;
 use shx_term::{Id, Memory, Pool, PoolFault, Term, Triple};
 use std::alloc::Global;
@@ -98,19 +98,41 @@ impl GraphView for ListGraph {
         self.lent().count_up_to(key, most)
     }
 
-    fn objects(&self, alloc: Global, s: Id, p: Id, reads: &mut Reads) -> Result<Vec<Id>, Memory> {
+    fn objects<N: Notes>(
+        &self,
+        alloc: Global,
+        s: Id,
+        p: Id,
+        reads: &mut N,
+    ) -> Result<Vec<Id>, Memory> {
         self.lent().objects(alloc, s, p, reads)
     }
 
-    fn subjects(&self, alloc: Global, p: Id, o: Id, reads: &mut Reads) -> Result<Vec<Id>, Memory> {
+    fn subjects<N: Notes>(
+        &self,
+        alloc: Global,
+        p: Id,
+        o: Id,
+        reads: &mut N,
+    ) -> Result<Vec<Id>, Memory> {
         self.lent().subjects(alloc, p, o, reads)
     }
 
-    fn triples_of(&self, alloc: Global, s: Id, reads: &mut Reads) -> Result<Vec<Triple>, Memory> {
+    fn triples_of<N: Notes>(
+        &self,
+        alloc: Global,
+        s: Id,
+        reads: &mut N,
+    ) -> Result<Vec<Triple>, Memory> {
         self.lent().triples_of(alloc, s, reads)
     }
 
-    fn triples_with(&self, alloc: Global, p: Id, reads: &mut Reads) -> Result<Vec<Triple>, Memory> {
+    fn triples_with<N: Notes>(
+        &self,
+        alloc: Global,
+        p: Id,
+        reads: &mut N,
+    ) -> Result<Vec<Triple>, Memory> {
         self.lent().triples_with(alloc, p, reads)
     }
 }

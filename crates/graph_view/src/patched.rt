@@ -12,7 +12,7 @@ ghost use Rattle.graph_view.specs.Valid.{IsValidTriple, IsValidView};
 
 use crate::among::count_among;
 use crate::changed::changed;
-use crate::{GraphView, Key, Reads, objects_among, subjects_among, triples_among};
+use crate::{GraphView, Key, Notes, objects_among, subjects_among, triples_among};
 use shx_term::{Id, Memory, Pool, Triple};
 use std::alloc::Global;
 
@@ -84,7 +84,13 @@ impl<'a, V: GraphView> GraphView for Patched<'a, V> {
         (held - gone).saturating_add(new).min(most)
     }
 
-    fn objects(&self, alloc: Global, s: Id, p: Id, reads: &mut Reads) -> Result<Vec<Id>, Memory> {
+    fn objects<N: Notes>(
+        &self,
+        alloc: Global,
+        s: Id,
+        p: Id,
+        reads: &mut N,
+    ) -> Result<Vec<Id>, Memory> {
         let key = Key::Out(s, p);
         let found = self.base.objects(alloc, s, p, reads)?;
         let gone = objects_among(alloc, self.removed, &key)?;
@@ -92,7 +98,13 @@ impl<'a, V: GraphView> GraphView for Patched<'a, V> {
         changed(self.base.pool(), found, &gone, &new)
     }
 
-    fn subjects(&self, alloc: Global, p: Id, o: Id, reads: &mut Reads) -> Result<Vec<Id>, Memory> {
+    fn subjects<N: Notes>(
+        &self,
+        alloc: Global,
+        p: Id,
+        o: Id,
+        reads: &mut N,
+    ) -> Result<Vec<Id>, Memory> {
         let key = Key::In(p, o);
         let found = self.base.subjects(alloc, p, o, reads)?;
         let gone = subjects_among(alloc, self.removed, &key)?;
@@ -100,7 +112,12 @@ impl<'a, V: GraphView> GraphView for Patched<'a, V> {
         changed(self.base.pool(), found, &gone, &new)
     }
 
-    fn triples_of(&self, alloc: Global, s: Id, reads: &mut Reads) -> Result<Vec<Triple>, Memory> {
+    fn triples_of<N: Notes>(
+        &self,
+        alloc: Global,
+        s: Id,
+        reads: &mut N,
+    ) -> Result<Vec<Triple>, Memory> {
         let key = Key::Subject(s);
         let found = self.base.triples_of(alloc, s, reads)?;
         let gone = triples_among(alloc, self.removed, &key)?;
@@ -108,7 +125,12 @@ impl<'a, V: GraphView> GraphView for Patched<'a, V> {
         changed(self.base.pool(), found, &gone, &new)
     }
 
-    fn triples_with(&self, alloc: Global, p: Id, reads: &mut Reads) -> Result<Vec<Triple>, Memory> {
+    fn triples_with<N: Notes>(
+        &self,
+        alloc: Global,
+        p: Id,
+        reads: &mut N,
+    ) -> Result<Vec<Triple>, Memory> {
         let key = Key::Predicate(p);
         let found = self.base.triples_with(alloc, p, reads)?;
         let gone = triples_among(alloc, self.removed, &key)?;

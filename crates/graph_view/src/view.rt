@@ -11,7 +11,7 @@ ghost use Rattle.shx_term.specs.Members.{Adds};
 ghost use Rattle.graph_view.specs.Key.{look};
 ghost use Rattle.graph_view.specs.Valid.{IsValidView};
 
-use crate::{Key, Reads};
+use crate::{Key, Notes};
 use shx_term::{Id, Memory, Pool, Term, Triple};
 use std::alloc::Global;
 
@@ -46,28 +46,50 @@ pub trait GraphView {
         ensures { result ≡ min (length (look (graph self.now).triples key.now)) most };
 
     /// The objects of a subject and predicate, in term order. It reads `Out(s, p)`.
-    fn objects(&self, alloc: Global, s: Id, p: Id, reads: &mut Reads) -> Result<Vec<Id>, Memory>
+    fn objects<N: Notes>(
+        &self,
+        alloc: Global,
+        s: Id,
+        p: Id,
+        reads: &mut N,
+    ) -> Result<Vec<Id>, Memory>
         ensures objects { IfOk result (λ found. found.items ≡ objects_of (graph self.now) s p) }
         ensures known { IfOk result (λ found. HasTerms (graph self.now) found.items) }
-        ensures reads { OnOk result (Adds reads.old reads.new (Key.Out s p ∷ [])) };
+        ensures reads { OnOk result (N.notes reads.old reads.new (Key.Out s p ∷ [])) };
 
     /// The subjects of a predicate and object, in term order. It reads `In(p, o)`.
-    fn subjects(&self, alloc: Global, p: Id, o: Id, reads: &mut Reads) -> Result<Vec<Id>, Memory>
+    fn subjects<N: Notes>(
+        &self,
+        alloc: Global,
+        p: Id,
+        o: Id,
+        reads: &mut N,
+    ) -> Result<Vec<Id>, Memory>
         ensures subjects { IfOk result (λ found. found.items ≡ subjects_of (graph self.now) p o) }
         ensures known { IfOk result (λ found. HasTerms (graph self.now) found.items) }
-        ensures reads { OnOk result (Adds reads.old reads.new (Key.In p o ∷ [])) };
+        ensures reads { OnOk result (N.notes reads.old reads.new (Key.In p o ∷ [])) };
 
     /// The triples of a subject, by predicate and object in term order. It reads `Subject(s)`.
-    fn triples_of(&self, alloc: Global, s: Id, reads: &mut Reads) -> Result<Vec<Triple>, Memory>
+    fn triples_of<N: Notes>(
+        &self,
+        alloc: Global,
+        s: Id,
+        reads: &mut N,
+    ) -> Result<Vec<Triple>, Memory>
         ensures triples { IfOk result (λ found. found.items ≡ triples_of (graph self.now) s) }
         ensures known { IfOk result (λ found. All (IsKnownTriple (graph self.now).terms) found.items) }
-        ensures reads { OnOk result (Adds reads.old reads.new (Key.Subject s ∷ [])) };
+        ensures reads { OnOk result (N.notes reads.old reads.new (Key.Subject s ∷ [])) };
 
     /// The triples of a predicate, by subject and object in term order. It reads `Predicate(p)`.
-    fn triples_with(&self, alloc: Global, p: Id, reads: &mut Reads) -> Result<Vec<Triple>, Memory>
+    fn triples_with<N: Notes>(
+        &self,
+        alloc: Global,
+        p: Id,
+        reads: &mut N,
+    ) -> Result<Vec<Triple>, Memory>
         ensures triples { IfOk result (λ found. found.items ≡ triples_with (graph self.now) p) }
         ensures known { IfOk result (λ found. All (IsKnownTriple (graph self.now).terms) found.items) }
-        ensures reads { OnOk result (Adds reads.old reads.new (Key.Predicate p ∷ [])) };
+        ensures reads { OnOk result (N.notes reads.old reads.new (Key.Predicate p ∷ [])) };
 }
 
 /// The term of a number in a valid view. It takes no memory, and constant time.

@@ -4,7 +4,7 @@ ghost use Rattle.graph_view.specs.ListGraph.{plain_graph};
 ghost use Rattle.graph_view.specs.SameGraph.{SameGraph};
 
 use crate::indexes::Indexes;
-use graph_view::{GraphEdit, GraphView, Key, ListGraph, Reads, StoreFault};
+use graph_view::{GraphEdit, GraphView, Key, ListGraph, Notes, StoreFault};
 use shx_term::{Id, Memory, Pool, PoolFault, Term, Triple};
 use std::alloc::Global;
 use std::marker::Model;
@@ -114,25 +114,47 @@ impl GraphView for Store {
         self.indexes.count_up_to(key, most as usize) as u64
     }
 
-    fn objects(&self, alloc: Global, s: Id, p: Id, reads: &mut Reads) -> Result<Vec<Id>, Memory> {
+    fn objects<N: Notes>(
+        &self,
+        alloc: Global,
+        s: Id,
+        p: Id,
+        reads: &mut N,
+    ) -> Result<Vec<Id>, Memory> {
         let found = self.indexes.objects(alloc, s, p)?;
         reads.add(Key::Out(s, p))?;
         Ok(self.pool.in_order(found))
     }
 
-    fn subjects(&self, alloc: Global, p: Id, o: Id, reads: &mut Reads) -> Result<Vec<Id>, Memory> {
+    fn subjects<N: Notes>(
+        &self,
+        alloc: Global,
+        p: Id,
+        o: Id,
+        reads: &mut N,
+    ) -> Result<Vec<Id>, Memory> {
         let found = self.indexes.subjects(alloc, p, o)?;
         reads.add(Key::In(p, o))?;
         Ok(self.pool.in_order(found))
     }
 
-    fn triples_of(&self, alloc: Global, s: Id, reads: &mut Reads) -> Result<Vec<Triple>, Memory> {
+    fn triples_of<N: Notes>(
+        &self,
+        alloc: Global,
+        s: Id,
+        reads: &mut N,
+    ) -> Result<Vec<Triple>, Memory> {
         let found = self.indexes.triples_of(alloc, s)?;
         reads.add(Key::Subject(s))?;
         Ok(self.pool.triples_in_order(found))
     }
 
-    fn triples_with(&self, alloc: Global, p: Id, reads: &mut Reads) -> Result<Vec<Triple>, Memory> {
+    fn triples_with<N: Notes>(
+        &self,
+        alloc: Global,
+        p: Id,
+        reads: &mut N,
+    ) -> Result<Vec<Triple>, Memory> {
         let found = self.indexes.triples_with(alloc, p)?;
         reads.add(Key::Predicate(p))?;
         Ok(self.pool.triples_in_order(found))

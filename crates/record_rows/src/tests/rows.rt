@@ -1,5 +1,6 @@
 //! Steps and a question about what is recorded after them, with the answer, a row each. A reader is the
-//! number of a shape, or those of a shape and of a node; a key is a triple with a line for what it leaves open.
+//! number of a shape, or those of a shape and of a node; a key is a triple with a line for what it leaves
+//! open.
 use super::steps::is_answered;
 use row_tools::all_met;
 use std::test::Fail;

@@ -8,7 +8,7 @@ use Rattle.graph_view.proofs.LookUpLemmas.{HasTerms-objects_of}
 use Rattle.triple_store.proofs.store.StoreGraphView.objects.Goals as goal
 
 pub returns-clause-objects : goal.returns-clause-objects
-returns-clause-objects c =
+returns-clause-objects g c =
     let wanted = map (λ t. t.o) (look c.self.inside.indexes (Out c.args.s c.args.p)) in
     rw (← c.self.view_is)
     (c.in_order.ensures
@@ -16,7 +16,7 @@ returns-clause-objects c =
     c.in_ok-found.ensures.each))
 
 pub returns-clause-known : goal.returns-clause-known
-returns-clause-known c =
+returns-clause-known g c =
     let inside = c.self.inside in
     let graph : Graph = record { terms = inside.pool.terms; triples = inside.indexes } in
     let due : c.in_order.result.items ≡ objects_of graph c.args.s c.args.p =

@@ -8,7 +8,7 @@ use Rattle.graph_view.proofs.LookUpLemmas.{HasTerms-subjects_of}
 use Rattle.triple_store.proofs.store.StoreGraphView.subjects.Goals as goal
 
 pub returns-clause-subjects : goal.returns-clause-subjects
-returns-clause-subjects c =
+returns-clause-subjects g c =
     let wanted = map (λ t. t.s) (look c.self.inside.indexes (In c.args.p c.args.o)) in
     rw (← c.self.view_is)
     (c.in_order.ensures
@@ -16,7 +16,7 @@ returns-clause-subjects c =
     c.in_ok-found.ensures.each))
 
 pub returns-clause-known : goal.returns-clause-known
-returns-clause-known c =
+returns-clause-known g c =
     let inside = c.self.inside in
     let graph : Graph = record { terms = inside.pool.terms; triples = inside.indexes } in
     let due : c.in_order.result.items ≡ subjects_of graph c.args.p c.args.o =

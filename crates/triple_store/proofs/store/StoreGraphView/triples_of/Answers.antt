@@ -8,14 +8,14 @@ use Rattle.graph_view.proofs.LookUpLemmas.{All-ordered}
 use Rattle.triple_store.proofs.store.StoreGraphView.triples_of.Goals as goal
 
 pub returns-clause-triples : goal.returns-clause-triples
-returns-clause-triples c =
+returns-clause-triples g c =
     let wanted = look c.self.inside.indexes (Subject c.args.s) in
     rw (← c.self.view_is)
     (c.triples_in_order.ensures
     ∙ sym (triples_same c.self.inside.pool.terms wanted c.in_ok-found.found.items c.in_ok-found.ensures))
 
 pub returns-clause-known : goal.returns-clause-known
-returns-clause-known c =
+returns-clause-known g c =
     let inside = c.self.inside in
     let graph : Graph = record { terms = inside.pool.terms; triples = inside.indexes } in
     let due : c.triples_in_order.result.items ≡ triples_of graph c.args.s =

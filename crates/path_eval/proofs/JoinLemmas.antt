@@ -4,15 +4,14 @@ use Rattle.std.specs.Prelude.{if◌then◌else◌, ◌==◌}
 use Rattle.std.specs.List.{list_any}
 use Rattle.std.proofs.Common.{refl, sym, ap, ◌∙◌, subst, inl, inr, get_or, append_assoc, append-nil}
 use Rattle.std.proofs.lemmas.Grind.{flat_map-append}
-use Rattle.std.proofs.lemmas.List.{take_more, map_push, get_or_default}
+use Rattle.std.proofs.lemmas.List.{take_more, map_push}
 use Rattle.std.proofs.lemmas.Bool.{eqb-true}
 use Rattle.std.proofs.lemmas.List.Elements.{Contains-append_left, Contains-append_right}
 use Rattle.std.proofs.lemmas.List.Elements.{Contains-append_cases}
 use Rattle.shx_term.proofs.MemberLemmas.{Contains-insert, Contains-one, none_in_empty}
 use Rattle.indexmap.specs.IndexSet.{insert_key}
 use Rattle.graph_view.specs.declared.key.Key.{Key}
-use Rattle.shx_term.specs.Members.{Adds}
-use Rattle.shx_term.proofs.SetLemmas.{Adds-take_item}
+use Rattle.graph_view.specs.Notes.{IsNoting}
 use Rattle.path_eval.specs.declared.edge.State.{State}
 use Rattle.path_eval.specs.inner.Reached.{Joins}
 use Rattle.path_eval.specs.inner.StateLaws.{same_state, same_state_equiv, same_state_exact}
@@ -67,6 +66,14 @@ module _ {X : Type 0} where
   }
 
 module _ {A X : Type 0} where
+  -- of one element more, what is made of it is more
+  pub flat_map-more : (f : A → List X) (xs : List A) (i : ℕ) (d : A) → i < length xs
+      → flat_map f (take (i + 1) xs) ≡ flat_map f (take i xs) ++ f (get_or xs i d)
+  flat_map-more f xs i d inside =
+      let x = get_or xs i d in
+      ap (flat_map f) (take_more xs i d inside) ∙ flat_map-append f (take i xs) (x ∷ [])
+      ∙ ap (λ ys. flat_map f (take i xs) ++ ys) (append-nil (f x))
+
   -- a step of a loop that adds the image of one element after the other
   pub Joins-take_image : (f : A → X) (xs : List A) (i : ℕ) (d : A) → i < length xs → {old mid new : List X}
       → Joins old (map f (take i xs)) mid → Joins mid (f (get_or xs i d) ∷ []) new
@@ -83,11 +90,8 @@ module _ {A X : Type 0} where
       → Joins old (flat_map f (take i xs)) mid → Joins mid (f (get_or xs i d)) new
       → Joins old (flat_map f (take (i + 1) xs)) new
   Joins-take_list f xs i d inside {old} {mid} {new} before step =
-      let x = get_or xs i d in
-      subst (λ ys. Joins old ys new)
-      (sym (ap (flat_map f) (take_more xs i d inside) ∙ flat_map-append f (take i xs) (x ∷ [])
-      ∙ ap (λ ys. flat_map f (take i xs) ++ ys) (append-nil (f x))))
-      (Joins-then (flat_map f (take i xs)) (f x) before step)
+      subst (λ ys. Joins old ys new) (sym (flat_map-more f xs i d inside))
+      (Joins-then (flat_map f (take i xs)) (f (get_or xs i d)) before step)
 
 module _ {X : Type 0} where
   -- what is given where numbers are one is nothing where they are not
@@ -99,10 +103,19 @@ module _ {X : Type 0} where
         | false ↦ λ h. Joins-none seen
       ] refl
 
--- a step of a loop that adds the keys of one element after the other
-pub Adds-take_list : {A : Type 0} (f : A → List Key) (xs : List A) (i : ℕ) (d : A) → i < length xs
-    → {old mid new : List Key} → Adds old mid (flat_map f (take i xs)) → Adds mid new (f (get_or xs i d))
-    → Adds old new (flat_map f (take (i + 1) xs))
-Adds-take_list f xs i d inside before step =
-    let x = get_or xs i d in
-    Adds-take_item f xs i x inside (sym (get_or_default xs i x d inside)) before step
+-- the same of keys that are noted
+module _ {N : Type 0} {notes : N → N → List Key → Type 0} (laws : IsNoting notes) where
+  pub notes-take_list : {A : Type 0} (f : A → List Key) (xs : List A) (i : ℕ) (d : A) → i < length xs
+      → {old mid new : N} → notes old mid (flat_map f (take i xs)) → notes mid new (f (get_or xs i d))
+      → notes old new (flat_map f (take (i + 1) xs))
+  notes-take_list f xs i d inside {old} {mid} {new} before step =
+      subst (notes old new) (sym (flat_map-more f xs i d inside))
+      (laws.then (flat_map f (take i xs)) (f (get_or xs i d)) before step)
+
+  pub notes-elsewhere : (m n : ℕ) → (m ≡ n → ⊥) → (keys : List Key) (a : N)
+      → notes a a (if m == n then keys else [])
+  notes-elsewhere m n other keys a =
+      elim (m == n) as (λ b. (m == n) ≡ b → notes a a (if b then keys else [])) [
+        | true ↦ λ h. absurd (other (eqb-true m n h))
+        | false ↦ λ h. laws.none a
+      ] refl

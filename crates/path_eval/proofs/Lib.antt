@@ -18,5 +18,6 @@ pub mod SameRouteLemmas
 pub mod SearchLemmas
 pub mod StateLemmas
 pub mod SubLemmas
+pub mod SuperclassLemmas
 pub mod ThroughLemmas
 pub mod ValueLemmas

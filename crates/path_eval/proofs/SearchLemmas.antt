@@ -10,24 +10,24 @@ use Rattle.shx_term.proofs.MemberLemmas.{none_in_empty, Contains-one, Contains-m
 use Rattle.shx_term.proofs.MemberLemmas.{Contains-filter, Contains-from_filter}
 use Rattle.shx_term.proofs.MemberLemmas.{Contains-flat_map, Contains-from_flat_map}
 use Rattle.graph_view.specs.declared.key.Key.{Key}
-use Rattle.shx_term.specs.Members.{Adds}
-use Rattle.shx_term.proofs.SetLemmas.{Adds-none, Adds-then}
+use Rattle.graph_view.specs.Notes.{IsNoting}
 use Rattle.path_eval.specs.declared.edge.State.{State}
-use Rattle.path_eval.specs.inner.Reached.{AddsThose, HasThose, Joins}
+use Rattle.path_eval.specs.inner.Reached.{HasThose, Joins, NotesThose}
 use Rattle.path_eval.specs.inner.States.{IsReached, state_at}
 use Rattle.path_eval.proofs.StateLemmas.{reached_itself, reached_step, reached_keeps}
 
-pub record Searched {X : Type 0} (step : X → List X) (keys : X → List Key) (start : X) (seen : List X)
-    (at : ℕ) (a b : List Key) : Type 0 where
+pub record Searched {X N : Type 0} (notes : N → N → List Key → Type 0) (step : X → List X)
+    (keys : X → List Key) (start : X) (seen : List X) (at : ℕ) (a b : N) : Type 0 where
   pub inside : at ≤ length seen
   pub begins : Contains seen start
   pub reached : (x : X) → Contains seen x → IsReached step start x
   pub followed : (x y : X) → Contains (take at seen) x → Contains (step x) y → Contains seen y
-  pub reads : Adds a b (flat_map keys (take at seen))
+  pub reads : notes a b (flat_map keys (take at seen))
 
-module _ {X : Type 0} (step : X → List X) (keys : X → List Key) (start : X) where
-  pub Searched-start : (seen : List X) (a : List Key) → Joins [] (start ∷ []) seen
-      → Searched step keys start seen 0 a a
+module _ {X N : Type 0} {notes : N → N → List Key → Type 0} (laws : IsNoting notes) (step : X → List X)
+    (keys : X → List Key) (start : X) where
+  pub Searched-start : (seen : List X) (a : N) → Joins [] (start ∷ []) seen
+      → Searched notes step keys start seen 0 a a
   Searched-start seen a joins = record {
     inside = omega arith;
     begins = (joins.each start).1 (inr ((Contains-one start start).1 refl));
@@ -36,12 +36,12 @@ module _ {X : Type 0} (step : X → List X) (keys : X → List Key) (start : X) 
       | inr d ↦ subst (IsReached step start) (sym ((Contains-one start x).0 d)) (reached_itself step start)
     ];
     followed = λ x y c d. absurd (none_in_empty x c);
-    reads = Adds-none a;
+    reads = laws.none a;
   }
 
-  module _ (seen : List X) (at : ℕ) (a b : List Key) (searched : Searched step keys start seen at a b) where
-    pub Searched-step : (x : X) → at < length seen → x ≡ get_or seen at x → (new : List X) (c : List Key)
-        → Joins seen (step x) new → Adds b c (keys x) → Searched step keys start new (at + 1) a c
+  module _ (seen : List X) (at : ℕ) (a b : N) (searched : Searched notes step keys start seen at a b) where
+    pub Searched-step : (x : X) → at < length seen → x ≡ get_or seen at x → (new : List X) (c : N)
+        → Joins seen (step x) new → notes b c (keys x) → Searched notes step keys start new (at + 1) a c
     Searched-step x more here new c joins reads =
         let there : Contains seen x = (at, more, sym here) in
         let front : take (at + 1) new ≡ take at seen ++ x ∷ [] =
@@ -60,17 +60,17 @@ module _ {X : Type 0} (step : X → List X) (keys : X → List Key) (start : X) 
                 | inr last ↦ inr (subst (λ u. Contains (step u) z) ((Contains-one x y).0 last) e)
               ]);
           reads =
-              subst (λ ys. Adds a c (flat_map keys ys)) (sym front)
-              (subst (Adds a c) (sym (flat_map-append keys (take at seen) (x ∷ [])))
-              (Adds-then (flat_map keys (take at seen)) (keys x ++ []) searched.reads
-              (subst (Adds b c) (sym (append-nil (keys x))) reads)));
+              subst (λ ys. notes a c (flat_map keys ys)) (sym front)
+              (subst (notes a c) (sym (flat_map-append keys (take at seen) (x ∷ [])))
+              (laws.then (flat_map keys (take at seen)) (keys x ++ []) searched.reads
+              (subst (notes b c) (sym (append-nil (keys x))) reads)));
         }
 
     -- the same for what was read in a slice, with any default
     pub Searched-next : (slice : List X) (d : X) → slice ≡ seen → at < length slice
-        → (new : List X) (c : List Key)
-        → Joins seen (step (get_or slice at d)) new → Adds b c (keys (get_or slice at d))
-        → Searched step keys start new (at + 1) a c
+        → (new : List X) (c : N)
+        → Joins seen (step (get_or slice at d)) new → notes b c (keys (get_or slice at d))
+        → Searched notes step keys start new (at + 1) a c
     Searched-next slice d same more new c joins reads =
         let x = get_or slice at d in
         let is : x ≡ get_or seen at x =
@@ -91,23 +91,16 @@ module _ {X : Type 0} (step : X → List X) (keys : X → List Key) (start : X) 
         );
       }
 
-      pub Searched-reads : AddsThose a b (λ k. (x : X) × IsReached step start x × Contains (keys x) k)
+      pub Searched-reads : NotesThose notes a b (λ k. (x : X) × IsReached step start x × Contains (keys x) k)
       Searched-reads = record {
-        each = λ k.
-            let reads : Adds a b (flat_map keys seen) =
-            subst (λ ys. Adds a b (flat_map keys ys)) all searched.reads in (
-              λ c. elim ((reads.each k).0 c) [
-                | inl old ↦ inl old
-                | inr new ↦
-                    let found = Contains-from_flat_map keys seen k new in
-                    inr (found.0, searched.reached found.0 found.1, found.2)
-              ],
-              λ h. (reads.each k).1 (elim h [
-                | inl old ↦ inl old
-                | inr new ↦
-                    inr (Contains-flat_map keys seen new.0 k ((Searched-seen.each new.0).1 new.1) new.2)
-              ]),
-            );
+        keys = flat_map keys seen;
+        noted = subst (λ ys. notes a b (flat_map keys ys)) all searched.reads;
+        each = λ k. (
+          λ c.
+              let found = Contains-from_flat_map keys seen k c in
+              (found.0, (Searched-seen.each found.0).0 found.1, found.2),
+          λ h. Contains-flat_map keys seen h.0 k ((Searched-seen.each h.0).1 h.1) h.2,
+        );
       }
 
 -- the nodes of the states at a place

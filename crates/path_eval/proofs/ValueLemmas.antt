@@ -1,6 +1,6 @@
 -- What a search over the places of a path gives is what the path gives.
 use Rattle.std.specs.Prelude.{◌≡◌, ◌<◌, ℕ, List, map, length, All, Contains}
-use Rattle.std.proofs.Common.{ap, ◌∙◌, subst, inl, inr}
+use Rattle.std.proofs.Common.{ap, ◌∙◌, subst}
 use Rattle.std.proofs.lemmas.List.Elements.{All-same, All-weaker, All-contains_itself}
 use Rattle.shx_term.specs.declared.term.Term.{Term}
 use Rattle.shx_term.specs.IdOrder.{in_term_order}
@@ -9,7 +9,7 @@ use Rattle.graph_view.specs.declared.key.Key.{Key}
 use Rattle.graph_view.specs.declared.key.Key.TheVariants.{Out, In}
 use Rattle.graph_view.specs.Key.{look}
 use Rattle.graph_view.specs.Graph.{Graph, AllKnown}
-use Rattle.shx_term.specs.Members.{Adds}
+use Rattle.graph_view.specs.Notes.{IsNoting}
 use Rattle.path_eval.specs.declared.direction.Direction.{Direction}
 use Rattle.path_eval.specs.declared.direction.Direction.TheVariants.{Forward, Backward}
 use Rattle.path_eval.specs.Route.{Route, along}
@@ -17,7 +17,7 @@ use Rattle.path_eval.specs.Values.{nodes_reached, path_reads}
 use Rattle.path_eval.specs.Way.{way, step_to}
 use Rattle.path_eval.specs.declared.edge.Edge.{Edge}
 use Rattle.path_eval.specs.inner.Course.{whole}
-use Rattle.path_eval.specs.inner.Reached.{AddsThose, HasThose}
+use Rattle.path_eval.specs.inner.Reached.{HasThose, NotesThose}
 use Rattle.path_eval.specs.inner.States.{IsLookedUp, IsReached, next_states, state_at}
 use Rattle.path_eval.proofs.MeetsLemmas.{path_known}
 use Rattle.path_eval.proofs.StateLemmas.{states_nodes, states_keys}
@@ -47,18 +47,16 @@ module _ (g : Graph) (known : AllKnown g) (d : Direction) (route : Route) (x : �
       let told = states_nodes g known d route x y in
       (λ c. told.0 ((those.each y).0 c), λ c. (those.each y).1 (told.1 c)))
 
-  pub found_reads : (a b : List Key) → AddsThose a b (IsLookedUp g edges (state_at 0 x))
-      → Adds a b (path_reads g d route x)
-  found_reads a b adds =
-      let those : AddsThose a b (IsLookedUp g (whole d route).edges (state_at 0 x)) =
-      subst (λ es. AddsThose a b (IsLookedUp g es (state_at 0 x))) same adds in
-      record {
+  pub found_reads : {N : Type 0} {notes : N → N → List Key → Type 0} → IsNoting notes → (a b : N)
+      → NotesThose notes a b (IsLookedUp g edges (state_at 0 x)) → notes a b (path_reads g d route x)
+  found_reads {N} {notes} laws a b noted =
+      let those : NotesThose notes a b (IsLookedUp g (whole d route).edges (state_at 0 x)) =
+      subst (λ es. NotesThose notes a b (IsLookedUp g es (state_at 0 x))) same noted in
+      laws.same those.keys (path_reads g d route x) (record {
         each = λ k.
-            let told = states_keys g known d route x k in (
-              λ c. elim ((those.each k).0 c) [ inl old ↦ inl old | inr new ↦ inr (told.0 new) ],
-              λ h. (those.each k).1 (elim h [ inl old ↦ inl old | inr new ↦ inr (told.1 new) ]),
-            );
-      }
+            let told = states_keys g known d route x k in
+            (λ c. told.0 ((those.each k).0 c), λ h. (those.each k).1 (told.1 h));
+      }) those.noted
 
 -- what is given has terms, where the start has one
 pub found_known : (g : Graph) → AllKnown g → (d : Direction) (route : Route) (x : ℕ) (answer : List ℕ)

@@ -1,6 +1,5 @@
 //! SHACL instances.
 ghost use Rattle.std.specs.Prelude.{◌≡◌, ◌<◌, length, IfOk, OnOk};
-ghost use Rattle.shx_term.specs.Members.{Adds};
 ghost use Rattle.graph_view.specs.Graph.{HasTerms};
 ghost use Rattle.path_eval.specs.declared.direction.Direction.{Direction};
 ghost use Rattle.path_eval.specs.Instances.{instance_route, is_instance};
@@ -12,7 +11,7 @@ use crate::Direction;
 use crate::course::START;
 use crate::edge::{Edge, Label};
 use crate::path_values::follow_laid;
-use graph_view::{GraphView, Reads};
+use graph_view::{GraphView, Notes};
 use shx_term::vocabulary::{RDF_TYPE, RDFS_SUB_CLASS_OF};
 use shx_term::{Id, Memory};
 use std::alloc::Global;
@@ -23,17 +22,17 @@ const END: u32 = 1;
 /// The classes of which a node is a SHACL instance, in term order, each once: its types, and the classes of
 /// which these are subclasses. It looks up the types of the node, and each class once, however they lead to
 /// each other. Where memory is refused, some of the keys may have been added to `reads`.
-pub fn classes<V: GraphView>(
+pub fn classes<V: GraphView, N: Notes>(
     alloc: Global,
     view: &V,
     node: Id,
-    reads: &mut Reads,
+    reads: &mut N,
 ) -> Result<Vec<Id>, Memory>
     ensures classes { IfOk result (λ found.
         found.items ≡ nodes_reached (V.graph view.now) Direction.Forward instance_route node) }
     ensures known { IfOk result (λ found. node < length (V.graph view.now).terms
         → HasTerms (V.graph view.now) found.items) }
-    ensures reads { OnOk result (Adds reads.old reads.new
+    ensures reads { OnOk result (N.notes reads.old reads.new
         (path_reads (V.graph view.now) Direction.Forward instance_route node)) }
 {
     follow(alloc, view, Direction::Forward, node, reads)
@@ -41,17 +40,17 @@ pub fn classes<V: GraphView>(
 
 /// The SHACL instances of a class, in term order, each once. It looks up each subclass once, and the nodes of
 /// each. Where memory is refused, some of the keys may have been added to `reads`.
-pub fn instances<V: GraphView>(
+pub fn instances<V: GraphView, N: Notes>(
     alloc: Global,
     view: &V,
     class: Id,
-    reads: &mut Reads,
+    reads: &mut N,
 ) -> Result<Vec<Id>, Memory>
     ensures instances { IfOk result (λ found.
         found.items ≡ nodes_reached (V.graph view.now) Direction.Backward instance_route class) }
     ensures known { IfOk result (λ found. class < length (V.graph view.now).terms
         → HasTerms (V.graph view.now) found.items) }
-    ensures reads { OnOk result (Adds reads.old reads.new
+    ensures reads { OnOk result (N.notes reads.old reads.new
         (path_reads (V.graph view.now) Direction.Backward instance_route class)) }
 {
     follow(alloc, view, Direction::Backward, class, reads)
@@ -60,15 +59,15 @@ pub fn instances<V: GraphView>(
 /// Whether a node is a SHACL instance of a class. It costs what `classes` costs, and adds the same keys, also
 /// where the class is found at once: so what was read does not depend on the class. Where memory is refused,
 /// some of the keys may have been added to `reads`.
-pub fn is_instance<V: GraphView>(
+pub fn is_instance<V: GraphView, N: Notes>(
     alloc: Global,
     view: &V,
     node: Id,
     class: Id,
-    reads: &mut Reads,
+    reads: &mut N,
 ) -> Result<bool, Memory>
     ensures is { IfOk result (λ is. is ≡ is_instance (V.graph view.now) node class) }
-    ensures reads { OnOk result (Adds reads.old reads.new
+    ensures reads { OnOk result (N.notes reads.old reads.new
         (path_reads (V.graph view.now) Direction.Forward instance_route node)) }
 {
     let found = classes(alloc, view, node, reads)?;
@@ -76,18 +75,18 @@ pub fn is_instance<V: GraphView>(
 }
 
 // Along the path of instances in a direction, with no path built.
-fn follow<V: GraphView>(
+fn follow<V: GraphView, N: Notes>(
     alloc: Global,
     view: &V,
     direction: Direction,
     start: Id,
-    reads: &mut Reads,
+    reads: &mut N,
 ) -> Result<Vec<Id>, Memory>
     ensures nodes { IfOk result (λ found.
         found.items ≡ nodes_reached (V.graph view.now) direction instance_route start) }
     ensures known { IfOk result (λ found. start < length (V.graph view.now).terms
         → HasTerms (V.graph view.now) found.items) }
-    ensures reads { OnOk result (Adds reads.old reads.new
+    ensures reads { OnOk result (N.notes reads.old reads.new
         (path_reads (V.graph view.now) direction instance_route start)) }
 {
     let rows: Vec<Vec<Edge>> = Vec::new(alloc);

@@ -6,6 +6,7 @@
 //! | `path_equality.rt` | paths that say the same are equal |
 //! | `path_values.rt` | `values`: the nodes that a path leads to from a node, and the keys that were read |
 //! | `instance_values.rt` | SHACL instances: the classes of a node, the instances of a class, and the test |
+//! | `superclasses.rt` | `Superclasses`: the classes above a class, found once, and the test by them |
 //! | `direction.rt` | `Direction`: a path is followed forward or backward |
 //! | `edge.rt` | `Edge` and `State`: places of a path, and nodes at them |
 //! | `lay.rt` | a path laid as edges between two places |
@@ -38,6 +39,7 @@ mod place_laws;
 mod rows;
 mod search;
 mod states;
+mod superclasses;
 
 pub use direction::Direction;
 pub use instance_laws::{
@@ -49,3 +51,4 @@ pub use path::Path;
 pub use path_equality::equal_paths_have_one_route;
 pub use path_values::values;
 pub use place_laws::{few_states_are_reached, places_lead_where_paths_do};
+pub use superclasses::Superclasses;

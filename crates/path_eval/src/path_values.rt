@@ -1,6 +1,5 @@
 //! The values of a path.
 ghost use Rattle.std.specs.Prelude.{◌≡◌, ◌<◌, length, IfOk, OnOk};
-ghost use Rattle.shx_term.specs.Members.{Adds};
 ghost use Rattle.graph_view.specs.Graph.{HasTerms};
 ghost use Rattle.path_eval.specs.declared.direction.Direction.{Direction};
 ghost use Rattle.path_eval.specs.inner.Course.{whole};
@@ -13,7 +12,7 @@ use crate::edge::{Edge, State};
 use crate::rows::by_place;
 use crate::search::{search, step};
 use crate::{Direction, Path};
-use graph_view::{GraphView, Reads};
+use graph_view::{GraphView, Notes};
 use shx_term::{Id, Memory};
 use std::alloc::Global;
 
@@ -24,18 +23,18 @@ use std::alloc::Global;
 ///
 /// It recurses as deep as the path nests, to lay its edges. Then it takes each place of the path at most once
 /// with each node, however closures nest.
-pub fn values<V: GraphView>(
+pub fn values<V: GraphView, N: Notes>(
     alloc: Global,
     view: &V,
     path: &Path,
     start: Id,
-    reads: &mut Reads,
+    reads: &mut N,
 ) -> Result<Vec<Id>, Memory>
     ensures values { IfOk result (λ found.
         found.items ≡ nodes_reached (V.graph view.now) Direction.Forward (route_of path.now) start) }
     ensures known { IfOk result (λ found. start < length (V.graph view.now).terms
         → HasTerms (V.graph view.now) found.items) }
-    ensures reads { OnOk result (Adds reads.old reads.new
+    ensures reads { OnOk result (N.notes reads.old reads.new
         (path_reads (V.graph view.now) Direction.Forward (route_of path.now) start)) }
 {
     if let Path::Pred(p) = path {
@@ -52,14 +51,14 @@ pub fn values<V: GraphView>(
 
 /// The nodes to which the edges lead, as they are laid for a whole path, in term order. `rows` has the edges
 /// by place.
-pub(crate) fn follow_laid<V: GraphView>(
+pub(crate) fn follow_laid<V: GraphView, N: Notes>(
     alloc: Global,
     view: &V,
     rows: &[Vec<Edge>],
     edges: &[Edge],
     end: u32,
     start: Id,
-    reads: &mut Reads,
+    reads: &mut N,
 ) -> Result<Vec<Id>, Memory>
     requires { IsByPlace rows.now edges.now }
     ensures values { (d : Direction) (route : Route) → edges.now ≡ (whole d route).edges
@@ -71,7 +70,7 @@ pub(crate) fn follow_laid<V: GraphView>(
         → HasTerms (V.graph view.now) found.items) }
     ensures reads { (d : Direction) (route : Route) → edges.now ≡ (whole d route).edges
         → end ≡ (whole d route).end
-        → OnOk result (Adds reads.old reads.new (path_reads (V.graph view.now) d route start)) }
+        → OnOk result (N.notes reads.old reads.new (path_reads (V.graph view.now) d route start)) }
 {
     let pool = view.pool();
     let first = State {

@@ -1,9 +1,8 @@
 //! The search over states.
 ghost use Rattle.std.specs.Prelude.{◌≡◌, [], ◌∷◌, IfOk, OnOk};
-ghost use Rattle.shx_term.specs.Members.{Adds};
 ghost use Rattle.path_eval.specs.Relation.{step_key};
 ghost use Rattle.path_eval.specs.Way.{step_to};
-ghost use Rattle.path_eval.specs.inner.Reached.{AddsThose, HasThose, Joins};
+ghost use Rattle.path_eval.specs.inner.Reached.{HasThose, Joins, NotesThose};
 ghost use Rattle.path_eval.specs.inner.Rows.{IsByPlace};
 ghost use Rattle.path_eval.specs.inner.States.{IsLookedUp, IsReached, goes, looks, next_keys, next_states};
 ghost use Rattle.path_eval.specs.inner.States.{state_at};
@@ -12,21 +11,21 @@ use crate::Direction;
 use crate::edge::{Edge, Label, State};
 use crate::rows::edges_at;
 use crate::states::States;
-use graph_view::{GraphView, Reads};
+use graph_view::{GraphView, Notes};
 use shx_term::{Id, Memory};
 use std::alloc::Global;
 
 /// From a node: its objects, or the subjects of which it is the object.
-pub(crate) fn step<V: GraphView>(
+pub(crate) fn step<V: GraphView, N: Notes>(
     alloc: Global,
     view: &V,
     direction: Direction,
     p: Id,
     node: Id,
-    reads: &mut Reads,
+    reads: &mut N,
 ) -> Result<Vec<Id>, Memory>
     ensures found { IfOk result (λ found. found.items ≡ step_to (V.graph view.now) direction p node) }
-    ensures reads { OnOk result (Adds reads.old reads.new (step_key direction p node ∷ [])) }
+    ensures reads { OnOk result (N.notes reads.old reads.new (step_key direction p node ∷ [])) }
 {
     match direction {
         Direction::Forward => Ok(view.objects(alloc, node, p, reads)?),
@@ -35,16 +34,16 @@ pub(crate) fn step<V: GraphView>(
 }
 
 // Along an edge from a state, if it begins there.
-fn follow_edge<V: GraphView>(
+fn follow_edge<V: GraphView, N: Notes>(
     alloc: Global,
     view: &V,
     edge: Edge,
     state: State,
     seen: &mut States,
-    reads: &mut Reads,
+    reads: &mut N,
 ) -> Result<(), Memory>
     ensures seen { OnOk result (Joins seen.old (goes (V.graph view.now) state edge) seen.new) }
-    ensures reads { OnOk result (Adds reads.old reads.new (looks (V.graph view.now) state edge)) }
+    ensures reads { OnOk result (N.notes reads.old reads.new (looks (V.graph view.now) state edge)) }
 {
     if edge.from != state.place {
         return Ok(());
@@ -66,16 +65,16 @@ fn follow_edge<V: GraphView>(
 }
 
 // Along each edge from a state.
-fn follow_edges<V: GraphView>(
+fn follow_edges<V: GraphView, N: Notes>(
     alloc: Global,
     view: &V,
     edges: &[Edge],
     state: State,
     seen: &mut States,
-    reads: &mut Reads,
+    reads: &mut N,
 ) -> Result<(), Memory>
     ensures seen { OnOk result (Joins seen.old (next_states (V.graph view.now) edges.now state) seen.new) }
-    ensures reads { OnOk result (Adds reads.old reads.new (next_keys (V.graph view.now) edges.now state)) }
+    ensures reads { OnOk result (N.notes reads.old reads.new (next_keys (V.graph view.now) edges.now state)) }
 {
     for edge in edges {
         follow_edge(alloc, view, *edge, state, seen, reads)?;
@@ -84,20 +83,20 @@ fn follow_edges<V: GraphView>(
 }
 
 /// The nodes that are reached at a place, each once, if a node is at another.
-pub(crate) fn search<V: GraphView>(
+pub(crate) fn search<V: GraphView, N: Notes>(
     alloc: Global,
     view: &V,
     rows: &[Vec<Edge>],
     edges: &[Edge],
     start: State,
     end: u32,
-    reads: &mut Reads,
+    reads: &mut N,
 ) -> Result<Vec<Id>, Memory>
     requires { IsByPlace rows.now edges.now }
     ensures nodes { IfOk result (λ nodes. HasThose nodes.items
         (λ y. IsReached (next_states (V.graph view.now) edges.now) start (state_at end y))) }
     ensures reads { OnOk result
-        (AddsThose reads.old reads.new (IsLookedUp (V.graph view.now) edges.now start)) }
+        (NotesThose N.notes reads.old reads.new (IsLookedUp (V.graph view.now) edges.now start)) }
 {
     let mut seen = States::new(alloc);
     seen.add(start)?;

@@ -15,4 +15,5 @@ returns-clause-known g c = λ d route same last.
 pub returns-clause-reads : goal.returns-clause-reads
 returns-clause-reads g c = λ d route same last.
     found_reads (g.V.GraphView.graph c.args.view.now) c.pool-pool.ensures.known d route c.args.start
-    c.args.edges.now c.args.end same last c.args.reads.now c.search.new.reads c.in_ok-nodes.ensures.reads
+    c.args.edges.now c.args.end same last g.met.N.Notes.laws c.args.reads.now c.search.new.reads
+    c.in_ok-nodes.ensures.reads

@@ -1,5 +1,5 @@
 use Rattle.path_eval.specs.inner.States.{goes, looks}
-use Rattle.path_eval.proofs.JoinLemmas.{Joins-take_list, Adds-take_list}
+use Rattle.path_eval.proofs.JoinLemmas.{Joins-take_list, notes-take_list}
 use Rattle.path_eval.proofs.search.follow_edges.Goals as goal
 
 pub loop-edge-preserved : goal.loop-edge-preserved
@@ -10,6 +10,6 @@ loop-edge-preserved g c =
     record {
       seen = Joins-take_list (goes graph c.args.state) edges at _ c.loop-edge-test.true
           c.loop-edge.invariant.seen c.in_ok-follow_edge.ensures.seen;
-      reads = Adds-take_list (looks graph c.args.state) edges at _ c.loop-edge-test.true
+      reads = notes-take_list g.met.N.Notes.laws (looks graph c.args.state) edges at _ c.loop-edge-test.true
           c.loop-edge.invariant.reads c.in_ok-follow_edge.ensures.reads;
     }

@@ -1,5 +1,4 @@
 use Rattle.std.specs.Prelude.{flat_map, take}
-use Rattle.shx_term.specs.Members.{Adds}
 use Rattle.path_eval.specs.inner.Reached.{Joins}
 use Rattle.path_eval.specs.inner.States.{goes, looks}
 use Rattle.path_eval.proofs.search.follow_edges.Given as goal
@@ -10,5 +9,5 @@ invariant-loop-edge g l =
     let done = take l.edge-index l.edges in
     record {
       seen : Joins l.initial.seen (flat_map (goes graph l.state) done) l.seen;
-      reads : Adds l.initial.reads l.reads (flat_map (looks graph l.state) done);
+      reads : g.N.Notes.notes l.initial.reads l.reads (flat_map (looks graph l.state) done);
     }

@@ -1,10 +1,10 @@
 //! Asking about nodes at other shapes.
-ghost use Rattle.std.specs.Prelude.{◌≡◌, ◌++◌, All, flat_map, IfOk, OnOk};
-ghost use Rattle.shx_term.specs.Members.{Adds};
+ghost use Rattle.std.specs.Prelude.{◌≡◌, ◌++◌, All, List, flat_map, IfOk, OnOk};
+ghost use Rattle.graph_view.specs.declared.key.Key.{Key};
+ghost use Rattle.comp_core.specs.declared.pair.Pair.{Pair};
 ghost use Rattle.comp_core.specs.Asking.{pairs_asked, pairs_at, conforming_of};
 
 use crate::{Conform, Pair, ShapeNo};
-use graph_view::Reads;
 use shx_term::{Id, Memory};
 
 /// Appends each node at each of the shapes, by node.
@@ -36,12 +36,13 @@ pub fn conforming<C: Conform>(
     conform: &C,
     shapes: &[ShapeNo],
     node: Id,
-    reads: &mut Reads,
+    reads: &mut C::Noted,
 ) -> Result<usize, Memory>
     requires { All (C.holds conform.now) (pairs_at shapes.now node) }
     ensures count { IfOk result (λ count. count ≡ conforming_of (C.rows_of conform.now) shapes.now node) }
-    ensures reads { OnOk result (Adds reads.old reads.new
-        (flat_map (C.reads_of conform.now) (pairs_at shapes.now node))) }
+    ensures reads { (r : Pair → List Key) → C.tells conform.now r
+        → OnOk result (C.Noted.notes reads.old reads.new
+        (flat_map r (pairs_at shapes.now node))) }
 {
     let mut count = 0;
     for shape in shapes {

@@ -1,5 +1,4 @@
 ghost use Rattle.std.specs.Prelude.{◌≡◌, ℕ, List, ◌++◌, All, OnOk};
-ghost use Rattle.shx_term.specs.Members.{Adds};
 ghost use Rattle.graph_view.specs.declared.key.Key.{Key};
 ghost use Rattle.graph_view.specs.Graph.{Graph, HasTerms};
 ghost use Rattle.graph_view.specs.Valid.{IsValidView};
@@ -9,7 +8,7 @@ ghost use Rattle.comp_core.specs.declared.row.ResultRow.{ResultRow};
 ghost use Rattle.comp_core.specs.Laws.{Agreement, AsksValues};
 
 use crate::{At, Conform, Pair, ResultRow};
-use graph_view::{GraphView, Reads};
+use graph_view::GraphView;
 use shx_term::{Id, Memory};
 use std::alloc::Global;
 
@@ -17,7 +16,13 @@ use std::alloc::Global;
 ///
 /// It is checked in two steps. First `asks` names the pairs of a shape and a node whose results it needs, and
 /// somebody finds these; then `check` finds its own, by the graph and by answers for those pairs.
-pub trait Component {
+pub trait Component<'p> {
+    /// What it finds at one check and knows at the next, over the same graph.
+    type Known;
+
+    /// What is known is right of a graph.
+    ghost knows: { Self.Known → Graph → Type 0 };
+
     /// The numbers whose terms matter to it.
     ghost numbers_of: { Self → List ℕ };
 
@@ -34,25 +39,30 @@ pub trait Component {
     fn asks(&self, values: &[Id], out: &mut Vec<Pair>) -> Result<(), Memory>
         ensures { OnOk result (out.new.items ≡ out.old.items ++ asks_of self.now values.now) };
 
-    /// Appends its results in order, and adds what it reads. No early answer shortens what it reads.
+    /// Appends its results in order, and notes what it reads. Neither an early answer nor what is known
+    /// shortens what it reads.
     fn check<V: GraphView, C: Conform>(
-        &self,
+        &'p self,
         alloc: Global,
         view: &V,
         conform: &C,
+        known: &mut Self::Known,
         at: At,
         values: &[Id],
-        reads: &mut Reads,
+        reads: &mut C::Noted,
         out: &mut Vec<ResultRow>,
     ) -> Result<(), Memory>
         requires valid { IsValidView (V.graph view.now) }
         requires numbers { HasTerms (V.graph view.now) (numbers_of self.now) }
         requires values { HasTerms (V.graph view.now) values.now }
+        requires known { knows known.old (V.graph view.now) }
         requires held { All (C.holds conform.now) (asks_of self.now values.now) }
+        ensures known { knows known.new (V.graph view.now) }
         ensures rows { OnOk result (out.new.items ≡ out.old.items
             ++ hits_of self.now (V.graph view.now) (C.rows_of conform.now) at values.now) }
-        ensures reads { OnOk result (Adds reads.old reads.new
-            (reads_of self.now (V.graph view.now) (C.reads_of conform.now) at values.now)) };
+        ensures reads { (r : Pair → List Key) → C.tells conform.now r
+            → OnOk result (C.Noted.notes reads.old reads.new
+            (reads_of self.now (V.graph view.now) r at values.now)) };
 
     /// Its laws: nothing but what it reads, and what it is told of the pairs that it asks, matters to it; and
     /// it asks of value nodes alone. It does nothing.

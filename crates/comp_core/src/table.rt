@@ -37,14 +37,17 @@ impl AnswerTable {
 }
 
 impl Conform for AnswerTable {
-    ghost use Rattle.std.specs.Prelude.{IsTrue, []};
+    type Noted = Reads;
+
+    ghost use Rattle.std.specs.Prelude.{◌≡◌, IsTrue, []};
+    ghost use Rattle.comp_core.specs.declared.pair.Pair.{Pair};
     ghost use Rattle.comp_core.specs.Table.{has_pair, table_rows};
 
     ghost holds = { λ t p. IsTrue (has_pair t.answers.items p) };
 
     ghost rows_of = { λ t p. table_rows t.answers.items p };
 
-    ghost reads_of = { λ t p. [] };
+    ghost tells = { λ t r. (p : Pair) → r p ≡ [] };
 
     fn conforms(&self, pair: &Pair, _reads: &mut Reads) -> Result<bool, Memory> {
         Ok(self.answered(pair).rows.is_empty())

@@ -1,12 +1,12 @@
 //! To how many of some shapes a value node has to conform.
-ghost use Rattle.std.specs.Prelude.{◌≡◌, ◌++◌, All, OnOk};
-ghost use Rattle.shx_term.specs.Members.{Adds};
+ghost use Rattle.std.specs.Prelude.{◌≡◌, List, ◌++◌, All, OnOk};
+ghost use Rattle.graph_view.specs.declared.key.Key.{Key};
+ghost use Rattle.comp_core.specs.declared.pair.Pair.{Pair};
 ghost use Rattle.comp_core.specs.Asking.{asked_keys, pairs_asked};
 ghost use Rattle.comp_core.specs.Results.{each_unless};
 ghost use Rattle.logic_components.specs.inner.Demands.{is_met, is_met_at};
 
 use comp_core::{At, Conform, Kind, ResultRow, ShapeNo, add_unless, conforming};
-use graph_view::Reads;
 use shx_term::{Id, Memory};
 use std::alloc::Global;
 
@@ -43,14 +43,15 @@ pub(crate) fn check_demand<C: Conform>(
     kind: Kind,
     at: At,
     values: &[Id],
-    reads: &mut Reads,
+    reads: &mut C::Noted,
     out: &mut Vec<ResultRow>,
 ) -> Result<(), Memory>
     requires { All (C.holds conform.now) (pairs_asked shapes.now values.now) }
     ensures rows { OnOk result (out.new.items ≡ out.old.items
         ++ each_unless (is_met_at demand (C.rows_of conform.now) shapes.now) kind at values.now) }
-    ensures reads { OnOk result (Adds reads.old reads.new
-        (asked_keys (C.reads_of conform.now) shapes.now values.now)) }
+    ensures reads { (r : Pair → List Key) → C.tells conform.now r
+        → OnOk result (C.Noted.notes reads.old reads.new
+        (asked_keys r shapes.now values.now)) }
 {
     for v in values {
         let count = conforming(conform, shapes, *v, reads)?;

@@ -4,7 +4,7 @@ ghost use Rattle.std.specs.Prelude.{◌≡◌};
 use crate::demand::{Demand, check_demand};
 use comp_core::kinds::XONE;
 use comp_core::{At, Component, Conform, Pair, ResultRow, ShapeNo, ask_shapes};
-use graph_view::{GraphView, Reads};
+use graph_view::GraphView;
 use shx_term::{Id, Memory};
 use std::alloc::Global;
 
@@ -35,10 +35,14 @@ impl Xone {
     }
 }
 
-impl Component for Xone {
+impl<'p> Component<'p> for Xone {
+    type Known = ();
+
     ghost use Rattle.std.specs.Prelude.{[]};
     ghost use Rattle.comp_core.specs.Asking.{asked_keys, pairs_asked};
     ghost use Rattle.logic_components.specs.Xone.{xone_hits};
+
+    ghost knows = { λ known g. Unit };
 
     ghost numbers_of = { λ c. [] };
 
@@ -53,13 +57,14 @@ impl Component for Xone {
     }
 
     fn check<V: GraphView, C: Conform>(
-        &self,
+        &'p self,
         alloc: Global,
         _view: &V,
         conform: &C,
+        _known: &mut (),
         at: At,
         values: &[Id],
-        reads: &mut Reads,
+        reads: &mut C::Noted,
         out: &mut Vec<ResultRow>,
     ) -> Result<(), Memory> {
         check_demand(

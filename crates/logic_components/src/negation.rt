@@ -4,7 +4,7 @@ ghost use Rattle.std.specs.Prelude.{◌≡◌};
 use crate::demand::{Demand, check_demand};
 use comp_core::kinds::NOT;
 use comp_core::{At, Component, Conform, Pair, ResultRow, ShapeNo, ask_shapes};
-use graph_view::{GraphView, Reads};
+use graph_view::GraphView;
 use shx_term::{Id, Memory};
 use std::alloc::Global;
 
@@ -27,10 +27,14 @@ impl Not {
     }
 }
 
-impl Component for Not {
+impl<'p> Component<'p> for Not {
+    type Known = ();
+
     ghost use Rattle.std.specs.Prelude.{[], ◌∷◌};
     ghost use Rattle.comp_core.specs.Asking.{asked_keys, pairs_asked};
     ghost use Rattle.logic_components.specs.Not.{not_hits};
+
+    ghost knows = { λ known g. Unit };
 
     ghost numbers_of = { λ c. [] };
 
@@ -45,13 +49,14 @@ impl Component for Not {
     }
 
     fn check<V: GraphView, C: Conform>(
-        &self,
+        &'p self,
         alloc: Global,
         _view: &V,
         conform: &C,
+        _known: &mut (),
         at: At,
         values: &[Id],
-        reads: &mut Reads,
+        reads: &mut C::Noted,
         out: &mut Vec<ResultRow>,
     ) -> Result<(), Memory> {
         check_demand(

@@ -2,7 +2,7 @@
 ghost use Rattle.std.specs.Prelude.{◌≡◌};
 
 use comp_core::{At, Component, Conform, Pair, ResultRow, ShapeNo, ask_shapes};
-use graph_view::{GraphView, Reads};
+use graph_view::GraphView;
 use shx_term::{Id, Memory};
 use std::alloc::Global;
 
@@ -25,10 +25,14 @@ impl Property {
     }
 }
 
-impl Component for Property {
+impl<'p> Component<'p> for Property {
+    type Known = ();
+
     ghost use Rattle.std.specs.Prelude.{[], ◌∷◌};
     ghost use Rattle.comp_core.specs.Asking.{asked_keys, pairs_asked};
     ghost use Rattle.logic_components.specs.Property.{property_hits};
+
+    ghost knows = { λ known g. Unit };
 
     ghost numbers_of = { λ c. [] };
 
@@ -44,13 +48,14 @@ impl Component for Property {
 
     /// It appends the results of the value nodes at the shape as they are, by value node.
     fn check<V: GraphView, C: Conform>(
-        &self,
+        &'p self,
         alloc: Global,
         _view: &V,
         conform: &C,
+        _known: &mut (),
         _at: At,
         values: &[Id],
-        reads: &mut Reads,
+        reads: &mut C::Noted,
         out: &mut Vec<ResultRow>,
     ) -> Result<(), Memory> {
         for v in values {

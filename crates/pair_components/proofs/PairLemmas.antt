@@ -1,6 +1,6 @@
 -- Laws of components that hold value nodes to the objects of a predicate.
-use Rattle.std.specs.Prelude.{◌≡◌, ℕ, Bool, List, [], ◌∷◌, Contains}
-use Rattle.std.proofs.Common.{refl, ap, ◌∙◌}
+use Rattle.std.specs.Prelude.{◌≡◌, ℕ, Bool, List, [], ◌∷◌, ◌++◌, Contains}
+use Rattle.std.proofs.Common.{refl, ap, ◌∙◌, append_assoc}
 use Rattle.shx_term.specs.declared.term.Term.{Term}
 use Rattle.shx_term.proofs.MemberLemmas.{Contains-one, flat_map_agree}
 use Rattle.shx_term.proofs.SetLemmas.{SameMembers-itself}
@@ -15,6 +15,7 @@ use Rattle.comp_core.specs.Laws.{Agreement}
 use Rattle.comp_core.specs.Results.{unless}
 use Rattle.comp_core.specs.TermTests.{are_so_at}
 use Rattle.comp_core.proofs.LawLemmas.{value_kept}
+use Rattle.pair_components.specs.Equals.{each_missing}
 use Rattle.pair_components.specs.PairResults.{each_beside, each_pair_unless}
 
 each_pair-agree : (p q : ℕ → ℕ → Bool) (kind : ℕ) (at : At) (ws vs : List ℕ)
@@ -24,6 +25,14 @@ each_pair-agree p q kind at ws vs same =
     flat_map_agree (each_beside p kind at ws) (each_beside q kind at ws) vs
     (λ v i. flat_map_agree (λ w. unless (p v w) kind at v) (λ w. unless (q v w) kind at v) ws
     (λ w j. ap (λ b. unless b kind at v) (same v w i j)))
+
+-- what is missing among the objects, and then what is missing among the value nodes
+pub missing_in_turn : (at : At) (vs others nodes objects : List ℕ) (old mid new : List ResultRow)
+    → others ≡ objects → nodes ≡ objects → mid ≡ old ++ each_missing at others vs
+    → new ≡ mid ++ each_missing at vs nodes
+    → new ≡ old ++ (each_missing at objects vs ++ each_missing at vs objects)
+missing_in_turn at vs others nodes objects old mid new p q first second =
+    rw (second, first, p, q) (append_assoc old (each_missing at objects vs) (each_missing at vs objects))
 
 -- from the law of look-ups
 module _ (look_ups_agree : (g h : Graph) (s p : ℕ) → AllKnown g → Agree g h (λ key. key ≡ Out s p)

@@ -4,7 +4,7 @@ ghost use Rattle.std.specs.Prelude.{◌≡◌};
 use crate::orders::{Order, check_order};
 use comp_core::kinds::LESS_THAN_OR_EQUALS;
 use comp_core::{At, Component, Conform, Pair, ResultRow};
-use graph_view::{GraphView, Reads, look_ups_agree};
+use graph_view::{GraphView, look_ups_agree};
 use shx_term::{Id, Memory};
 use std::alloc::Global;
 
@@ -24,10 +24,14 @@ impl LessThanOrEquals {
     }
 }
 
-impl Component for LessThanOrEquals {
+impl<'p> Component<'p> for LessThanOrEquals {
+    type Known = ();
+
     ghost use Rattle.std.specs.Prelude.{[], ◌∷◌};
     ghost use Rattle.graph_view.specs.declared.key.Key.TheVariants.{Out};
     ghost use Rattle.pair_components.specs.LessThanOrEquals.{less_than_or_equals_hits};
+
+    ghost knows = { λ known g. Unit };
 
     ghost numbers_of = { λ c. [] };
 
@@ -42,13 +46,14 @@ impl Component for LessThanOrEquals {
     }
 
     fn check<V: GraphView, C: Conform>(
-        &self,
+        &'p self,
         alloc: Global,
         view: &V,
         _conform: &C,
+        _known: &mut (),
         at: At,
         values: &[Id],
-        reads: &mut Reads,
+        reads: &mut C::Noted,
         out: &mut Vec<ResultRow>,
     ) -> Result<(), Memory> {
         let objects = view.objects(alloc, at.focus, self.value, reads)?;

@@ -3,7 +3,7 @@ ghost use Rattle.std.specs.Prelude.{◌≡◌};
 
 use crate::triples::check_closed;
 use comp_core::{At, Component, Conform, Lookup, Pair, ResultRow};
-use graph_view::{GraphView, Reads, look_ups_agree};
+use graph_view::{GraphView, look_ups_agree};
 use shx_term::{Id, Memory};
 use std::alloc::Global;
 
@@ -42,9 +42,13 @@ impl Closed {
     }
 }
 
-impl Component for Closed {
+impl<'p> Component<'p> for Closed {
+    type Known = ();
+
     ghost use Rattle.std.specs.Prelude.{[]};
     ghost use Rattle.qualified_shapes.specs.Closed.{closed_hits, closed_reads};
+
+    ghost knows = { λ known g. Unit };
 
     ghost numbers_of = { λ c. [] };
 
@@ -59,13 +63,14 @@ impl Component for Closed {
     }
 
     fn check<V: GraphView, C: Conform>(
-        &self,
+        &'p self,
         alloc: Global,
         view: &V,
         _conform: &C,
+        _known: &mut (),
         at: At,
         values: &[Id],
-        reads: &mut Reads,
+        reads: &mut C::Noted,
         out: &mut Vec<ResultRow>,
     ) -> Result<(), Memory> {
         let permitted = Lookup::new(alloc, &self.permitted)?;

@@ -4,7 +4,7 @@ ghost use Rattle.std.specs.Prelude.{◌≡◌};
 use crate::qualified::{ask_qualified, qualified_count};
 use comp_core::kinds::QUALIFIED_MAX_COUNT;
 use comp_core::{At, Component, Conform, Pair, ResultRow, ShapeNo, add_once_if};
-use graph_view::{GraphView, Reads, term_of};
+use graph_view::{GraphView, term_of};
 use shx_term::{Id, Memory};
 use std::alloc::Global;
 use value_space::is_more;
@@ -44,10 +44,14 @@ impl QualifiedMaxCount {
     }
 }
 
-impl Component for QualifiedMaxCount {
+impl<'p> Component<'p> for QualifiedMaxCount {
+    type Known = ();
+
     ghost use Rattle.std.specs.Prelude.{[], ◌∷◌};
     ghost use Rattle.comp_core.specs.Asking.{asked_keys, pairs_asked};
     ghost use Rattle.qualified_shapes.specs.QualifiedMaxCount.{qualified_max_count_hits};
+
+    ghost knows = { λ known g. Unit };
 
     ghost numbers_of = { λ c. c.value ∷ [] };
 
@@ -62,13 +66,14 @@ impl Component for QualifiedMaxCount {
     }
 
     fn check<V: GraphView, C: Conform>(
-        &self,
+        &'p self,
         alloc: Global,
         view: &V,
         conform: &C,
+        _known: &mut (),
         at: At,
         values: &[Id],
-        reads: &mut Reads,
+        reads: &mut C::Noted,
         out: &mut Vec<ResultRow>,
     ) -> Result<(), Memory> {
         let count = qualified_count(conform, self.shape, &self.siblings, values, reads)?;

@@ -1,11 +1,10 @@
 //! The triples of value nodes, but for those with predicates that are allowed.
 ghost use Rattle.std.specs.Prelude.{◌≡◌, ◌++◌, flat_map, OnOk};
-ghost use Rattle.shx_term.specs.Members.{Adds};
 ghost use Rattle.qualified_shapes.specs.Closed.{closed_at, closed_hit, closed_reads, is_allowed};
 
 use comp_core::kinds::CLOSED;
 use comp_core::{At, Lookup, ResultRow};
-use graph_view::{GraphView, Reads};
+use graph_view::{GraphView, Notes};
 use shx_term::{Id, Memory, Triple};
 use std::alloc::Global;
 
@@ -38,19 +37,19 @@ fn check_triples(
 
 /// Appends a result for each triple of the value nodes whose predicate is not allowed, by value node,
 /// predicate and object. A predicate is looked up, and not compared with all that are allowed.
-pub(crate) fn check_closed<V: GraphView>(
+pub(crate) fn check_closed<V: GraphView, N: Notes>(
     alloc: Global,
     view: &V,
     permitted: &Lookup<'_>,
     ignored: &Lookup<'_>,
     at: At,
     values: &[Id],
-    reads: &mut Reads,
+    reads: &mut N,
     out: &mut Vec<ResultRow>,
 ) -> Result<(), Memory>
     ensures rows { OnOk result (out.new.items ≡ out.old.items
         ++ closed_at permitted.now ignored.now (V.graph view.now) at values.now) }
-    ensures reads { OnOk result (Adds reads.old reads.new (closed_reads values.now)) }
+    ensures reads { OnOk result (N.notes reads.old reads.new (closed_reads values.now)) }
 {
     for v in values {
         let triples = view.triples_of(alloc, *v, reads)?;

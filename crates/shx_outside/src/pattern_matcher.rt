@@ -1,4 +1,4 @@
-ghost use Rattle.std.specs.Prelude.{◌≡◌, IfOk};
+ghost use Rattle.std.specs.Prelude.{◌≡◌, IfOk, IsTrue};
 ghost use Rattle.regex.specs.Strings.{matcher_pattern};
 ghost use Rattle.shx_outside.specs.Patterns.{is_matched};
 ghost use Rattle.shx_outside.specs.inner.Found.{FindsAs};
@@ -31,6 +31,14 @@ impl<'p> PatternMatcher<'p> {
     {
         let matcher = pattern.regex.matcher(alloc)?;
         Ok(PatternMatcher { pattern, matcher })
+    }
+
+    /// Whether it looks for this pattern. It takes no memory, and a comparison of the texts that the patterns
+    /// were built of.
+    pub fn is_of(&self, pattern: &Pattern) -> bool
+        ensures { IsTrue result → self.now ≡ pattern.now }
+    {
+        self.pattern.flags() == pattern.flags() && self.pattern.text() == pattern.text()
     }
 
     /// Whether the pattern has a match in a text. It takes time in proportion to the text.

@@ -4,7 +4,7 @@ ghost use Rattle.std.specs.Prelude.{◌≡◌};
 use crate::condition::{Condition, check_terms};
 use comp_core::kinds::DATATYPE;
 use comp_core::{At, Component, Conform, Pair, ResultRow};
-use graph_view::{GraphView, Reads, term_of};
+use graph_view::{GraphView, term_of};
 use shx_term::{Id, Memory, Term};
 use std::alloc::Global;
 use value_space::matches_datatype;
@@ -44,9 +44,13 @@ impl Condition for Typed<'_> {
     }
 }
 
-impl Component for Datatype {
+impl<'p> Component<'p> for Datatype {
+    type Known = ();
+
     ghost use Rattle.std.specs.Prelude.{[], ◌∷◌};
     ghost use Rattle.value_components.specs.Datatype.{datatype_hits};
+
+    ghost knows = { λ known g. Unit };
 
     ghost numbers_of = { λ c. c.value ∷ [] };
 
@@ -61,13 +65,14 @@ impl Component for Datatype {
     }
 
     fn check<V: GraphView, C: Conform>(
-        &self,
+        &'p self,
         alloc: Global,
         view: &V,
         _conform: &C,
+        _known: &mut (),
         at: At,
         values: &[Id],
-        _reads: &mut Reads,
+        _reads: &mut C::Noted,
         out: &mut Vec<ResultRow>,
     ) -> Result<(), Memory> {
         let typed = Typed {

@@ -3,7 +3,7 @@ ghost use Rattle.std.specs.Prelude.{◌≡◌};
 
 use comp_core::kinds::HAS_VALUE;
 use comp_core::{At, Component, Conform, Pair, ResultRow, add_once_if};
-use graph_view::{GraphView, Reads};
+use graph_view::GraphView;
 use shx_term::{Id, Memory};
 use std::alloc::Global;
 
@@ -23,9 +23,13 @@ impl HasValue {
     }
 }
 
-impl Component for HasValue {
+impl<'p> Component<'p> for HasValue {
+    type Known = ();
+
     ghost use Rattle.std.specs.Prelude.{[]};
     ghost use Rattle.value_components.specs.HasValue.{has_value_hits};
+
+    ghost knows = { λ known g. Unit };
 
     ghost numbers_of = { λ c. [] };
 
@@ -40,13 +44,14 @@ impl Component for HasValue {
     }
 
     fn check<V: GraphView, C: Conform>(
-        &self,
+        &'p self,
         alloc: Global,
         _view: &V,
         _conform: &C,
+        _known: &mut (),
         at: At,
         values: &[Id],
-        _reads: &mut Reads,
+        _reads: &mut C::Noted,
         out: &mut Vec<ResultRow>,
     ) -> Result<(), Memory> {
         let is_missing = !values.contains(&self.value);

@@ -4,7 +4,7 @@ ghost use Rattle.comp_core.specs.TermTests.{is_among};
 
 use comp_core::kinds::IN;
 use comp_core::{At, Component, Conform, Pair, ResultRow, add_unless};
-use graph_view::{GraphView, Reads};
+use graph_view::GraphView;
 use shx_term::{Id, Memory};
 use std::alloc::Global;
 
@@ -42,9 +42,13 @@ impl In {
     }
 }
 
-impl Component for In {
+impl<'p> Component<'p> for In {
+    type Known = ();
+
     ghost use Rattle.std.specs.Prelude.{[]};
     ghost use Rattle.value_components.specs.InList.{in_hits};
+
+    ghost knows = { λ known g. Unit };
 
     ghost numbers_of = { λ c. [] };
 
@@ -59,13 +63,14 @@ impl Component for In {
     }
 
     fn check<V: GraphView, C: Conform>(
-        &self,
+        &'p self,
         alloc: Global,
         _view: &V,
         _conform: &C,
+        _known: &mut (),
         at: At,
         values: &[Id],
-        _reads: &mut Reads,
+        _reads: &mut C::Noted,
         out: &mut Vec<ResultRow>,
     ) -> Result<(), Memory> {
         for v in values {

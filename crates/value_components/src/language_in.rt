@@ -9,7 +9,7 @@ ghost use Rattle.value_components.specs.LanguageIn.{is_spoken, is_range_of};
 use crate::tags::{matches_range, tag_of};
 use comp_core::kinds::LANGUAGE_IN;
 use comp_core::{At, Component, Conform, Pair, ResultRow, add_unless};
-use graph_view::{GraphView, Reads, term_of};
+use graph_view::{GraphView, term_of};
 use shx_term::{Id, Memory, Term, Text};
 use std::alloc::Global;
 
@@ -79,9 +79,13 @@ fn is_spoken<V: GraphView>(view: &V, ranges: &[Id], node: Id) -> bool
     }
 }
 
-impl Component for LanguageIn {
+impl<'p> Component<'p> for LanguageIn {
+    type Known = ();
+
     ghost use Rattle.std.specs.Prelude.{[]};
     ghost use Rattle.value_components.specs.LanguageIn.{language_in_hits};
+
+    ghost knows = { λ known g. Unit };
 
     ghost numbers_of = { λ c. c.members.items };
 
@@ -96,13 +100,14 @@ impl Component for LanguageIn {
     }
 
     fn check<V: GraphView, C: Conform>(
-        &self,
+        &'p self,
         alloc: Global,
         view: &V,
         _conform: &C,
+        _known: &mut (),
         at: At,
         values: &[Id],
-        _reads: &mut Reads,
+        _reads: &mut C::Noted,
         out: &mut Vec<ResultRow>,
     ) -> Result<(), Memory> {
         for v in values {

@@ -11,6 +11,7 @@
 //! | `max_exclusive.rt`, `max_inclusive.rt` | `MaxExclusive`, `MaxInclusive` |
 //! | `min_length.rt`, `max_length.rt` | `MinLength`, `MaxLength` |
 //! | `pattern.rt`, `matches.rt` | `Pattern`: sh:pattern with sh:flags; the one loop over its value nodes |
+//! | `pattern_component.rt` | its check, with a matcher that is made once |
 //! | `language_in.rt` | `LanguageIn`: sh:languageIn |
 //! | `unique_lang.rt` | `UniqueLang`: sh:uniqueLang |
 //! | `has_value.rt`, `in_list.rt` | `HasValue`, `In` |
@@ -43,6 +44,7 @@ mod min_inclusive;
 mod min_length;
 mod node_kind;
 mod pattern;
+mod pattern_component;
 mod tags;
 mod texts;
 mod unique_lang;

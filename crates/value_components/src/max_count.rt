@@ -3,7 +3,7 @@ ghost use Rattle.std.specs.Prelude.{◌≡◌};
 
 use comp_core::kinds::MAX_COUNT;
 use comp_core::{At, Component, Conform, Pair, ResultRow, add_once_if};
-use graph_view::{GraphView, Reads, term_of};
+use graph_view::{GraphView, term_of};
 use shx_term::{Id, Memory};
 use std::alloc::Global;
 use value_space::is_more;
@@ -24,9 +24,13 @@ impl MaxCount {
     }
 }
 
-impl Component for MaxCount {
+impl<'p> Component<'p> for MaxCount {
+    type Known = ();
+
     ghost use Rattle.std.specs.Prelude.{[], ◌∷◌};
     ghost use Rattle.value_components.specs.MaxCount.{max_count_hits};
+
+    ghost knows = { λ known g. Unit };
 
     ghost numbers_of = { λ c. c.value ∷ [] };
 
@@ -41,13 +45,14 @@ impl Component for MaxCount {
     }
 
     fn check<V: GraphView, C: Conform>(
-        &self,
+        &'p self,
         alloc: Global,
         view: &V,
         _conform: &C,
+        _known: &mut (),
         at: At,
         values: &[Id],
-        _reads: &mut Reads,
+        _reads: &mut C::Noted,
         out: &mut Vec<ResultRow>,
     ) -> Result<(), Memory> {
         let too_many = is_more(values.len(), term_of(view, self.value));

@@ -3,7 +3,7 @@ ghost use Rattle.std.specs.Prelude.{◌≡◌};
 
 use comp_core::kinds::MIN_COUNT;
 use comp_core::{At, Component, Conform, Pair, ResultRow, add_once_if};
-use graph_view::{GraphView, Reads, term_of};
+use graph_view::{GraphView, term_of};
 use shx_term::{Id, Memory};
 use std::alloc::Global;
 use value_space::is_fewer;
@@ -24,9 +24,13 @@ impl MinCount {
     }
 }
 
-impl Component for MinCount {
+impl<'p> Component<'p> for MinCount {
+    type Known = ();
+
     ghost use Rattle.std.specs.Prelude.{[], ◌∷◌};
     ghost use Rattle.value_components.specs.MinCount.{min_count_hits};
+
+    ghost knows = { λ known g. Unit };
 
     ghost numbers_of = { λ c. c.value ∷ [] };
 
@@ -41,13 +45,14 @@ impl Component for MinCount {
     }
 
     fn check<V: GraphView, C: Conform>(
-        &self,
+        &'p self,
         alloc: Global,
         view: &V,
         _conform: &C,
+        _known: &mut (),
         at: At,
         values: &[Id],
-        _reads: &mut Reads,
+        _reads: &mut C::Noted,
         out: &mut Vec<ResultRow>,
     ) -> Result<(), Memory> {
         let too_few = is_fewer(values.len(), term_of(view, self.value));

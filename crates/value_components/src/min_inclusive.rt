@@ -4,7 +4,7 @@ ghost use Rattle.std.specs.Prelude.{◌≡◌};
 use crate::bounds::{Side, check_bound};
 use comp_core::kinds::MIN_INCLUSIVE;
 use comp_core::{At, Component, Conform, Pair, ResultRow};
-use graph_view::{GraphView, Reads};
+use graph_view::GraphView;
 use shx_term::{Id, Memory};
 use std::alloc::Global;
 
@@ -24,9 +24,13 @@ impl MinInclusive {
     }
 }
 
-impl Component for MinInclusive {
+impl<'p> Component<'p> for MinInclusive {
+    type Known = ();
+
     ghost use Rattle.std.specs.Prelude.{[], ◌∷◌};
     ghost use Rattle.value_components.specs.MinInclusive.{min_inclusive_hits};
+
+    ghost knows = { λ known g. Unit };
 
     ghost numbers_of = { λ c. c.value ∷ [] };
 
@@ -41,13 +45,14 @@ impl Component for MinInclusive {
     }
 
     fn check<V: GraphView, C: Conform>(
-        &self,
+        &'p self,
         alloc: Global,
         view: &V,
         _conform: &C,
+        _known: &mut (),
         at: At,
         values: &[Id],
-        _reads: &mut Reads,
+        _reads: &mut C::Noted,
         out: &mut Vec<ResultRow>,
     ) -> Result<(), Memory> {
         check_bound(

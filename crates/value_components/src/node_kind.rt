@@ -5,7 +5,7 @@ ghost use Rattle.value_components.specs.NodeKind.{kinds_of};
 use crate::condition::{Condition, check_terms};
 use comp_core::kinds::NODE_KIND;
 use comp_core::{At, Component, Conform, Pair, ResultRow};
-use graph_view::{GraphView, Reads};
+use graph_view::GraphView;
 use shx_term::vocabulary::{
     SH_BLANK_NODE, SH_BLANK_NODE_OR_IRI, SH_BLANK_NODE_OR_LITERAL, SH_IRI, SH_IRI_OR_LITERAL,
     SH_LITERAL,
@@ -60,9 +60,13 @@ impl Condition for NodeKind {
     }
 }
 
-impl Component for NodeKind {
+impl<'p> Component<'p> for NodeKind {
+    type Known = ();
+
     ghost use Rattle.std.specs.Prelude.{[]};
     ghost use Rattle.value_components.specs.NodeKind.{node_kind_hits};
+
+    ghost knows = { λ known g. Unit };
 
     ghost numbers_of = { λ c. [] };
 
@@ -77,13 +81,14 @@ impl Component for NodeKind {
     }
 
     fn check<V: GraphView, C: Conform>(
-        &self,
+        &'p self,
         alloc: Global,
         view: &V,
         _conform: &C,
+        _known: &mut (),
         at: At,
         values: &[Id],
-        _reads: &mut Reads,
+        _reads: &mut C::Noted,
         out: &mut Vec<ResultRow>,
     ) -> Result<(), Memory> {
         check_terms(alloc, view, self, NODE_KIND, at, values, out)

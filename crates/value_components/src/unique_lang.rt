@@ -10,7 +10,7 @@ ghost use Rattle.value_components.specs.inner.Told.{told, kept};
 use crate::tags::tag_of;
 use comp_core::kinds::UNIQUE_LANG;
 use comp_core::{At, Component, Conform, Pair, ResultRow, add_once_if};
-use graph_view::{GraphView, Reads, term_of};
+use graph_view::{GraphView, term_of};
 use indexmap::IndexSet;
 use shx_term::{Id, Memory, Text};
 use std::alloc::Global;
@@ -63,9 +63,13 @@ fn repeated<V: GraphView>(alloc: Global, view: &V, values: &[Id]) -> Result<usiz
     Ok(again.len())
 }
 
-impl Component for UniqueLang {
+impl<'p> Component<'p> for UniqueLang {
+    type Known = ();
+
     ghost use Rattle.std.specs.Prelude.{[]};
     ghost use Rattle.value_components.specs.UniqueLang.{unique_lang_hits};
+
+    ghost knows = { λ known g. Unit };
 
     ghost numbers_of = { λ c. [] };
 
@@ -80,13 +84,14 @@ impl Component for UniqueLang {
     }
 
     fn check<V: GraphView, C: Conform>(
-        &self,
+        &'p self,
         alloc: Global,
         view: &V,
         _conform: &C,
+        _known: &mut (),
         at: At,
         values: &[Id],
-        _reads: &mut Reads,
+        _reads: &mut C::Noted,
         out: &mut Vec<ResultRow>,
     ) -> Result<(), Memory> {
         for _ in 0..repeated(alloc, view, values)? {

@@ -2,8 +2,8 @@ use Rattle.std.proofs.Common.{arith}
 use Rattle.std.specs.Prelude.{flat_map}
 use Rattle.std.proofs.lemmas.Grind.{common_steps}
 use Rattle.shx_term.proofs.MemberLemmas.{All_part}
-use Rattle.shx_term.proofs.SetLemmas.{Adds-take_more}
 use Rattle.comp_core.specs.Asking.{pairs_at}
+use Rattle.comp_core.proofs.NotingLemmas.{noted_more}
 use Rattle.logic_components.proofs.demand.check_demand.Goals as goal
 
 pub conforming-requires : goal.conforming-requires
@@ -14,8 +14,8 @@ conforming-requires g c =
 pub loop-v-preserved : goal.loop-v-preserved
 loop-v-preserved g c = record {
   rows = grind (arith, common_steps);
-  reads = Adds-take_more
-      (λ v. flat_map (g.C.Conform.reads_of c.args.conform.now) (pairs_at c.args.shapes.now v))
-      c.args.values.now c.loop-v.v-index 0 c.loop-v-test.true c.loop-v.invariant.reads
-      c.in_ok-count.ensures.reads;
+  reads = λ r told.
+      noted_more g.met.C.Noted.Notes.laws (λ v. flat_map r (pairs_at c.args.shapes.now v))
+      c.args.values.now c.loop-v.v-index 0 c.loop-v-test.true (c.loop-v.invariant.reads r told)
+      (c.in_ok-count.ensures.reads r told);
 }

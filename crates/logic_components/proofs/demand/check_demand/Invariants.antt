@@ -1,6 +1,7 @@
 use Rattle.std.proofs.Common.{◌≡◌, ◌++◌}
-use Rattle.std.specs.Prelude.{take}
-use Rattle.shx_term.specs.Members.{Adds}
+use Rattle.std.specs.Prelude.{List, take}
+use Rattle.graph_view.specs.declared.key.Key.{Key}
+use Rattle.comp_core.specs.declared.pair.Pair.{Pair}
 use Rattle.comp_core.specs.Asking.{asked_keys}
 use Rattle.comp_core.specs.Results.{each_unless}
 use Rattle.logic_components.specs.inner.Demands.{is_met_at}
@@ -12,6 +13,6 @@ invariant-loop-v g l = record {
       ≡ l.fn.out.items
       ++ each_unless (is_met_at l.demand (g.C.Conform.rows_of l.conform) l.shapes) l.kind l.at
       (take l.v-index l.values);
-  reads : Adds l.fn.reads l.reads
-      (asked_keys (g.C.Conform.reads_of l.conform) l.shapes (take l.v-index l.values));
+  reads : (r : Pair → List Key) → g.C.Conform.tells l.conform r
+      → g.C.Noted.Notes.notes l.fn.reads l.reads (asked_keys r l.shapes (take l.v-index l.values));
 }

@@ -1,7 +1,7 @@
 use Rattle.std.proofs.Common.{arith}
+use Rattle.std.specs.Prelude.{flat_map}
 use Rattle.std.proofs.lemmas.Grind.{common_steps}
 use Rattle.shx_term.proofs.MemberLemmas.{All_head, All_tail}
-use Rattle.shx_term.proofs.SetLemmas.{Adds-then}
 use Rattle.comp_core.specs.Asking.{conforms, pair_of, pairs_at}
 use Rattle.comp_core.proofs.CountLemmas.{none_counted}
 use Rattle.qualified_shapes.proofs.qualified.qualifies.Goals as goal
@@ -26,8 +26,14 @@ returns-then-is_own-clause-answer g c =
 
 pub returns-then-is_own-clause-reads : goal.returns-then-is_own-clause-reads
 returns-then-is_own-clause-reads g c =
-    Adds-then _ _ c.in_ok-is_own.ensures.reads c.in_ok-others.ensures.reads
+    λ r told.
+    g.met.C.Noted.Notes.laws.then (r (pair_of c.args.node c.args.shape))
+    (flat_map r (pairs_at c.args.siblings.now c.args.node)) (c.in_ok-is_own.ensures.reads r told)
+    (c.in_ok-others.ensures.reads r told)
 
 pub returns-else-is_own-clause-reads : goal.returns-else-is_own-clause-reads
 returns-else-is_own-clause-reads g c =
-    Adds-then _ _ c.in_ok-is_own.ensures.reads c.in_ok-others.ensures.reads
+    λ r told.
+    g.met.C.Noted.Notes.laws.then (r (pair_of c.args.node c.args.shape))
+    (flat_map r (pairs_at c.args.siblings.now c.args.node)) (c.in_ok-is_own.ensures.reads r told)
+    (c.in_ok-others.ensures.reads r told)

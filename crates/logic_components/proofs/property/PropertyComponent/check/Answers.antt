@@ -2,8 +2,8 @@ use Rattle.std.proofs.Common.{append-nil, arith, get_or}
 use Rattle.std.proofs.lemmas.Grind.{common_steps}
 use Rattle.std.specs.Prelude.{[], ◌∷◌, flat_map}
 use Rattle.shx_term.proofs.MemberLemmas.{All_head, All_part}
-use Rattle.shx_term.proofs.SetLemmas.{Adds-take_more}
 use Rattle.comp_core.specs.Asking.{pair_of, pairs_at}
+use Rattle.comp_core.proofs.NotingLemmas.{noted_more}
 use Rattle.logic_components.proofs.property.PropertyComponent.check.Goals as goal
 
 pub results-requires : goal.results-requires
@@ -18,8 +18,8 @@ results-requires g c =
 pub loop-v-preserved : goal.loop-v-preserved
 loop-v-preserved g c = record {
   rows = grind (arith, common_steps);
-  reads = Adds-take_more
-      (λ v. flat_map (g.C.Conform.reads_of c.args.conform.now) (pairs_at (c.args.self.now.shape ∷ []) v))
-      c.args.values.now c.loop-v.v-index 0 c.loop-v-test.true c.loop-v.invariant.reads
-      (rw append-nil c.in_ok-results.ensures.reads);
+  reads = λ r told.
+      noted_more g.met.C.Noted.Notes.laws (λ v. flat_map r (pairs_at (c.args.self.now.shape ∷ []) v))
+      c.args.values.now c.loop-v.v-index 0 c.loop-v-test.true (c.loop-v.invariant.reads r told)
+      (rw append-nil (c.in_ok-results.ensures.reads r told));
 }

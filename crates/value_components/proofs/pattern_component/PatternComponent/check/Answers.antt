@@ -1,8 +1,7 @@
-use Rattle.shx_term.proofs.SetLemmas.{Adds-none}
-use Rattle.value_components.proofs.pattern.PatternComponent.check.Goals as goal
+use Rattle.value_components.proofs.pattern_component.PatternComponent.check.Goals as goal
 
 pub returns-clause-rows : goal.returns-clause-rows
 returns-clause-rows g c = rw c.in_ok-matcher.ensures at c.in_ok-check_texts.ensures
 
 pub returns-clause-reads : goal.returns-clause-reads
-returns-clause-reads g c = Adds-none c.args._reads.now
+returns-clause-reads g c = g.met.C.Noted.Notes.laws.none c.args.reads.now

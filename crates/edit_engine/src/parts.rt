@@ -4,6 +4,7 @@ ghost use Rattle.std.specs.List.{IsDistinct};
 ghost use Rattle.std.specs.Option.{option_to_list};
 ghost use Rattle.graph_view.specs.Patched.{IsPatch, patched};
 ghost use Rattle.graph_view.specs.Valid.{IsValidView};
+ghost use Rattle.shape_eval.specs.Known.{IsKnownOf};
 ghost use Rattle.shape_eval.specs.Plan.{IsKnownPlan};
 ghost use Rattle.shape_eval.specs.Planned.{plan_of};
 ghost use Rattle.shape_eval.specs.Report.{at_shape};
@@ -19,7 +20,7 @@ use comp_core::{Pair, ShapeNo};
 use graph_view::{GraphView, Reads};
 use indexmap::IndexSet;
 use read_records::Reader;
-use shape_eval::{Plan, eval_pair, eval_target};
+use shape_eval::{Known, PairAnswer, Plan, eval_pair, eval_target};
 use shx_term::{Id, Memory, Steps, Triple};
 use std::alloc::Global;
 use std::sync::ledger::Ledger;
@@ -170,11 +171,12 @@ impl Renewal {
         ensures steps { OnOk result (steps.new
             ≡ steps.old + length (pairs_staying touched.now self.old.leaving.keys)) }
     {
+        let mut known = Known::new(alloc);
         for reader in touched {
             if let Reader::OfPair(pair) = reader
                 && !self.leaving.contains(pair)
             {
-                let evaluated = evaluate(alloc, view, plan, *pair, steps)?;
+                let evaluated = evaluate(alloc, view, plan, &mut known, *pair, steps)?;
                 self.evaluated.push(evaluated)?;
             }
         }
@@ -198,8 +200,9 @@ impl Renewal {
         ensures targets { SameTargets self.old self.new }
         ensures steps { OnOk result (steps.new ≡ steps.old + length self.old.entering.items) }
     {
+        let mut known = Known::new(alloc);
         for pair in &self.entering {
-            let evaluated = evaluate(alloc, view, plan, *pair, steps)?;
+            let evaluated = evaluate(alloc, view, plan, &mut known, *pair, steps)?;
             self.evaluated.push(evaluated)?;
         }
         Ok(())
@@ -207,21 +210,26 @@ impl Renewal {
 }
 
 // Evaluates a pair, which counts a step.
-fn evaluate<V: GraphView, L: Ledger>(
+fn evaluate<'p, V: GraphView, L: Ledger>(
     alloc: Global,
     view: &V,
-    plan: &Plan,
+    plan: &'p Plan,
+    known: &mut Known<'p>,
     pair: Pair,
     steps: &mut Steps<L>,
 ) -> Result<Evaluated, Memory>
     requires valid { IsValidView (V.graph view.now) }
     requires plan { IsKnownPlan (V.graph view.now).terms (plan_of plan.now).shapes }
-    requires known { IsKnownPair (plan_of plan.now).shapes (V.graph view.now) pair }
+    requires pair { IsKnownPair (plan_of plan.now).shapes (V.graph view.now) pair }
+    requires known { IsKnownOf known.old (V.graph view.now) }
+    ensures known { IsKnownOf known.new (V.graph view.now) }
     ensures pair { IfOk result (λ found. found.pair ≡ pair) }
     ensures right { IfOk result (IsRight (plan_of plan.now).shapes (V.graph view.now)) }
     ensures step { steps.new ≡ steps.old + 1 }
 {
-    let mut answer = eval_pair(alloc, view, plan, pair.shape, pair.node, steps)?;
+    let mut answer: PairAnswer<Reads> = eval_pair(
+        alloc, view, plan, known, pair.shape, pair.node, steps,
+    )?;
     answer.reads.pack(alloc)?;
     Ok(Evaluated { pair, answer })
 }

@@ -14,7 +14,7 @@ pub(crate) struct TargetReads {
 #[derive(Drop)]
 pub(crate) struct Evaluated {
     pub pair: Pair,
-    pub answer: PairAnswer,
+    pub answer: PairAnswer<Reads>,
 }
 
 /// What is to be kept from now on in the place of what is.

@@ -3,6 +3,7 @@ ghost use Rattle.std.specs.Prelude.{◌≡◌, ◌+◌, ◌<◌, ◌++◌, flat_
 ghost use Rattle.graph_view.specs.Valid.{IsValidView};
 ghost use Rattle.shx_term.specs.declared.limits.Limits.{Limits as LimitsOf};
 ghost use Rattle.text_output.specs.declared.format.Format.{Format};
+ghost use Rattle.shape_eval.specs.Known.{IsKnownOf};
 ghost use Rattle.shape_eval.specs.Plan.{IsKnownPlan};
 ghost use Rattle.shape_eval.specs.Planned.{plan_of};
 ghost use Rattle.shape_eval.specs.Report.{at_shape, pairs, report};
@@ -15,8 +16,8 @@ ghost use Rattle.shacl_run.specs.inner.Validation.{IsValidation, Stands};
 use crate::validation::Validation;
 use comp_core::{ResultRow, ShapeNo};
 use edit_engine::same_graphs_answer_alike;
-use graph_view::{GraphView, Reads};
-use shape_eval::{Plan, eval_pair, eval_target};
+use graph_view::{GraphView, Notes, Unnoted};
+use shape_eval::{Known, PairAnswer, Plan, eval_pair, eval_target};
 use shx_term::{Memory, Steps};
 use std::alloc::Global;
 use std::sync::ledger::Ledger;
@@ -55,17 +56,19 @@ fn evaluate<V: GraphView, L: Ledger>(
         ≡ steps.old + length (pairs (plan_of plan.now) (V.graph view.now))) }
 {
     let mut rows = Vec::new(alloc);
+    let mut known = Known::new(alloc);
     for shape in plan.targeted() {
-        add_shape(alloc, view, plan, *shape, steps, &mut rows)?;
+        add_shape(alloc, view, plan, &mut known, *shape, steps, &mut rows)?;
     }
     Ok(rows)
 }
 
 // Adds the results of a shape at each of its target nodes.
-fn add_shape<V: GraphView, L: Ledger>(
+fn add_shape<'p, V: GraphView, L: Ledger>(
     alloc: Global,
     view: &V,
-    plan: &Plan,
+    plan: &'p Plan,
+    known: &mut Known<'p>,
     shape: ShapeNo,
     steps: &mut Steps<L>,
     rows: &mut Vec<ResultRow>,
@@ -73,15 +76,19 @@ fn add_shape<V: GraphView, L: Ledger>(
     requires valid { IsValidView (V.graph view.now) }
     requires plan { IsKnownPlan (V.graph view.now).terms (plan_of plan.now).shapes }
     requires shape { shape < length (plan_of plan.now).shapes }
+    requires known { IsKnownOf known.old (V.graph view.now) }
+    ensures known { IsKnownOf known.new (V.graph view.now) }
     ensures rows { OnOk result (rows.new.items ≡ rows.old.items
         ++ flat_map (results (plan_of plan.now).shapes (V.graph view.now))
         (map (at_shape shape) (target_nodes (plan_of plan.now).shapes (V.graph view.now) shape))) }
     ensures steps { OnOk result (steps.new ≡ steps.old
         + length (target_nodes (plan_of plan.now).shapes (V.graph view.now) shape)) }
 {
-    let nodes = eval_target(alloc, view, plan, shape, &mut Reads::new(alloc))?;
+    let nodes = eval_target(alloc, view, plan, shape, &mut Unnoted::new(alloc))?;
     for node in &nodes {
-        let mut found = eval_pair(alloc, view, plan, shape, *node, steps)?;
+        let mut found: PairAnswer<Unnoted> = eval_pair(
+            alloc, view, plan, known, shape, *node, steps,
+        )?;
         rows.append(&mut found.rows)?;
     }
     Ok(())

@@ -18,7 +18,7 @@ pub enum Status {
     InputFault,
     /// The output failed.
     WriteFault,
-    /// An allocation was refused.
+    /// An allocation was refused, or the host gave no random bytes for the keys of the terms.
     Memory,
     /// Some lines of the script were refused.
     LinesRefused,

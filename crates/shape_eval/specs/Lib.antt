@@ -1,4 +1,5 @@
 pub mod Constraint
+pub mod Known
 pub mod Laws
 pub mod Plan
 pub mod Planned

@@ -1,32 +1,34 @@
 //! One shape, checked at a node.
-ghost use Rattle.std.specs.Prelude.{◌≡◌, ◌<◌, All, flat_map, length, IfOk, OnOk};
-ghost use Rattle.shx_term.specs.Members.{Adds};
+ghost use Rattle.std.specs.Prelude.{◌≡◌, ◌<◌, All, List, flat_map, length, IfOk, OnOk};
+ghost use Rattle.graph_view.specs.declared.key.Key.{Key};
 ghost use Rattle.graph_view.specs.Graph.{HasTerms};
 ghost use Rattle.graph_view.specs.Valid.{IsValidView};
+ghost use Rattle.comp_core.specs.declared.pair.Pair.{Pair};
 ghost use Rattle.shape_eval.specs.Constraint.{constraint_numbers};
+ghost use Rattle.shape_eval.specs.Known.{IsKnownOf};
 ghost use Rattle.shape_eval.specs.Results.{hits_of_each, reads_of_each, value_nodes, value_reads};
 ghost use Rattle.shape_eval.specs.inner.Answers.{asked_pairs};
 
-use crate::Constraint;
+use crate::{Constraint, Known};
 use comp_core::{At, Component, Conform, Pair, ResultRow};
-use graph_view::{GraphView, Reads};
+use graph_view::{GraphView, Notes};
 use path_eval::{Path, values};
 use shx_term::{Id, Memory};
 use std::alloc::Global;
 
 /// The value nodes at a node (SHACL, section 3.4): of a property shape those to which its path leads, of a
 /// node shape the node itself.
-pub(crate) fn find_values<V: GraphView>(
+pub(crate) fn find_values<V: GraphView, N: Notes>(
     alloc: Global,
     view: &V,
     path: &Option<Path>,
     node: Id,
-    reads: &mut Reads,
+    reads: &mut N,
 ) -> Result<Vec<Id>, Memory>
     requires { node < length (V.graph view.now).terms }
     ensures values { IfOk result (λ found. found.items ≡ value_nodes (V.graph view.now) path.now node) }
     ensures known { IfOk result (λ found. HasTerms (V.graph view.now) found.items) }
-    ensures reads { OnOk result (Adds reads.old reads.new (value_reads (V.graph view.now) path.now node)) }
+    ensures reads { OnOk result (N.notes reads.old reads.new (value_reads (V.graph view.now) path.now node)) }
 {
     match path {
         None => {
@@ -54,27 +56,31 @@ pub(crate) fn asked_by(
 }
 
 /// The results of constraints, constraint by constraint, over answers for all that they ask.
-pub(crate) fn check_each<V: GraphView, C: Conform>(
+pub(crate) fn check_each<'p, V: GraphView, C: Conform>(
     alloc: Global,
     view: &V,
     conform: &C,
-    constraints: &[Constraint],
+    known: &mut Known<'p>,
+    constraints: &'p [Constraint],
     at: At,
     values: &[Id],
-    reads: &mut Reads,
+    reads: &mut C::Noted,
 ) -> Result<Vec<ResultRow>, Memory>
     requires valid { IsValidView (V.graph view.now) }
     requires numbers { HasTerms (V.graph view.now) (flat_map constraint_numbers constraints.now) }
     requires values { HasTerms (V.graph view.now) values.now }
+    requires known { IsKnownOf known.old (V.graph view.now) }
     requires held { All (C.holds conform.now) (asked_pairs constraints.now values.now) }
+    ensures known { IsKnownOf known.new (V.graph view.now) }
     ensures rows { IfOk result (λ rows. rows.items
         ≡ hits_of_each (V.graph view.now) (C.rows_of conform.now) constraints.now at values.now) }
-    ensures reads { OnOk result (Adds reads.old reads.new
-        (reads_of_each (V.graph view.now) (C.reads_of conform.now) constraints.now at values.now)) }
+    ensures reads { (r : Pair → List Key) → C.tells conform.now r
+        → OnOk result (C.Noted.notes reads.old reads.new
+        (reads_of_each (V.graph view.now) r constraints.now at values.now)) }
 {
     let mut rows = Vec::new(alloc);
     for constraint in constraints {
-        constraint.check(alloc, view, conform, at, values, reads, &mut rows)?;
+        constraint.check(alloc, view, conform, known, at, values, reads, &mut rows)?;
     }
     Ok(rows)
 }

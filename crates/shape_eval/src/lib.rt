@@ -13,6 +13,7 @@
 //! | `answering.rt` | the pairs that a pair asks are answered first, and then its constraints are checked |
 //! | `checking.rt` | the constraints of a shape, checked at a node over answers that are held |
 //! | `table.rt` | the answers that are held while one pair is evaluated |
+//! | `known.rt`, `matchers.rt` | `Known`: what one evaluation finds and the next knows |
 //! | `laws.rt` | results and target nodes depend on what is read for them alone; their numbers have terms |
 //!
 //! It stands on the four crates of components, on `path_eval` for value nodes and instances, and on
@@ -25,7 +26,9 @@ mod answering;
 mod checking;
 mod constraint;
 mod constraint_component;
+mod known;
 mod laws;
+mod matchers;
 mod pairs;
 mod plan;
 mod planning;
@@ -35,6 +38,7 @@ mod target;
 mod targets;
 
 pub use constraint::Constraint;
+pub use known::Known;
 pub use laws::{
     edits_beside_a_pair, levels_do_not_matter, reads_have_terms, results_depend_on_reads,
     results_have_terms, targets_depend_on_reads,

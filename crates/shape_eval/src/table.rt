@@ -6,20 +6,20 @@ ghost use Rattle.shape_eval.specs.inner.Answers.{Holds, HoldsAlso, answer_in};
 
 use crate::PairAnswer;
 use comp_core::{Conform, Pair, ResultRow};
-use graph_view::Reads;
+use graph_view::Notes;
 use indexmap::IndexMap;
 use shx_term::Memory;
 use std::alloc::Global;
 
 /// The answers for some pairs, found by hash.
 #[derive(Drop)]
-pub(crate) struct Table {
-    answers: IndexMap<Pair, PairAnswer>,
+pub(crate) struct Table<N: Notes> {
+    answers: IndexMap<Pair, PairAnswer<N>>,
 }
 
-impl Table {
+impl<N: Notes> Table<N> {
     /// No answers. It takes no memory.
-    pub(crate) fn new(alloc: Global) -> Table
+    pub(crate) fn new(alloc: Global) -> Table<N>
         ensures { IsEmpty result.answers }
     {
         Table {
@@ -35,7 +35,7 @@ impl Table {
     }
 
     /// Adds the answer for a pair.
-    pub(crate) fn add(&mut self, pair: Pair, answer: PairAnswer) -> Result<(), Memory>
+    pub(crate) fn add(&mut self, pair: Pair, answer: PairAnswer<N>) -> Result<(), Memory>
         ensures { OnOk result (HoldsAlso self.old self.new pair answer) }
     {
         self.answers.insert(pair, answer)?;
@@ -43,7 +43,7 @@ impl Table {
     }
 
     // The answer for a pair.
-    fn answer(&self, pair: &Pair) -> &PairAnswer
+    fn answer(&self, pair: &Pair) -> &PairAnswer<N>
         requires { Holds self.now pair.now }
         ensures { answer_in self.now pair.now ≡ Some result.now }
     {
@@ -54,16 +54,18 @@ impl Table {
     }
 }
 
-impl Conform for Table {
-    ghost use Rattle.shape_eval.specs.inner.Answers.{Holds, held_rows, held_reads};
+impl<N: Notes> Conform for Table<N> {
+    type Noted = N;
+
+    ghost use Rattle.shape_eval.specs.inner.Answers.{Holds, Tells, held_rows};
 
     ghost holds = { Holds };
 
     ghost rows_of = { held_rows };
 
-    ghost reads_of = { held_reads };
+    ghost tells = { Tells N.has };
 
-    fn conforms(&self, pair: &Pair, reads: &mut Reads) -> Result<bool, Memory> {
+    fn conforms(&self, pair: &Pair, reads: &mut N) -> Result<bool, Memory> {
         let answer = self.answer(pair);
         reads.add_all(&answer.reads)?;
         Ok(answer.rows.is_empty())
@@ -73,7 +75,7 @@ impl Conform for Table {
         &self,
         alloc: Global,
         pair: &Pair,
-        reads: &mut Reads,
+        reads: &mut N,
         out: &mut Vec<ResultRow>,
     ) -> Result<(), Memory> {
         let answer = self.answer(pair);

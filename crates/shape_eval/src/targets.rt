@@ -1,6 +1,5 @@
 //! The target nodes of a shape.
 ghost use Rattle.std.specs.Prelude.{◌≡◌, ◌<◌, length, IfOk, OnOk};
-ghost use Rattle.shx_term.specs.Members.{Adds};
 ghost use Rattle.graph_view.specs.Graph.{HasTerms};
 ghost use Rattle.shape_eval.specs.Planned.{plan_of};
 ghost use Rattle.shape_eval.specs.Plan.{IsKnownPlan, target_number};
@@ -8,26 +7,26 @@ ghost use Rattle.shape_eval.specs.Targets.{nodes_of_target, reads_of_target, tar
 
 use crate::{Plan, Target};
 use comp_core::ShapeNo;
-use graph_view::{GraphView, Reads};
+use graph_view::{GraphView, Notes};
 use path_eval::instances;
 use shx_term::{Id, Memory};
 use std::alloc::Global;
 
 /// The target nodes of a shape (SHACL, section 2.1.3) in term order, each once. It adds the keys that are
 /// read for them, and no others. It costs a look-up for each target, the instances of each class, and a sort.
-pub fn eval_target<V: GraphView>(
+pub fn eval_target<V: GraphView, N: Notes>(
     alloc: Global,
     view: &V,
     plan: &Plan,
     shape: ShapeNo,
-    reads: &mut Reads,
+    reads: &mut N,
 ) -> Result<Vec<Id>, Memory>
     requires plan { IsKnownPlan (V.graph view.now).terms (plan_of plan.now).shapes }
     requires shape { shape < length (plan_of plan.now).shapes }
     ensures nodes { IfOk result (λ found.
         found.items ≡ target_nodes (plan_of plan.now).shapes (V.graph view.now) shape) }
     ensures known { IfOk result (λ found. HasTerms (V.graph view.now) found.items) }
-    ensures reads { OnOk result (Adds reads.old reads.new
+    ensures reads { OnOk result (N.notes reads.old reads.new
         (target_reads (plan_of plan.now).shapes (V.graph view.now) shape)) }
 {
     let mut found = Vec::new(alloc);
@@ -39,16 +38,16 @@ pub fn eval_target<V: GraphView>(
 }
 
 // The nodes of one target.
-fn nodes_of_target<V: GraphView>(
+fn nodes_of_target<V: GraphView, N: Notes>(
     alloc: Global,
     view: &V,
     target: Target,
-    reads: &mut Reads,
+    reads: &mut N,
 ) -> Result<Vec<Id>, Memory>
     requires { target_number target < length (V.graph view.now).terms }
     ensures nodes { IfOk result (λ found. found.items ≡ nodes_of_target (V.graph view.now) target) }
     ensures known { IfOk result (λ found. HasTerms (V.graph view.now) found.items) }
-    ensures reads { OnOk result (Adds reads.old reads.new (reads_of_target (V.graph view.now) target)) }
+    ensures reads { OnOk result (N.notes reads.old reads.new (reads_of_target (V.graph view.now) target)) }
 {
     match target {
         Target::Node(node) => Ok(vec![in alloc; node]?),

@@ -3,7 +3,6 @@ use Rattle.std.specs.Prelude.{◌≡◌, ℕ, cond, List, [], Option, Some, None
 use Rattle.std.specs.Prelude.{flat_map, length}
 use Rattle.std.specs.Option.{is_some}
 use Rattle.indexmap.specs.IndexMap.{get}
-use Rattle.shx_term.specs.Members.{SameMembers}
 use Rattle.graph_view.specs.declared.key.Key.{Key}
 use Rattle.graph_view.specs.Graph.{Graph, AllKnown}
 use Rattle.comp_core.specs.declared.pair.Pair.{Pair}
@@ -20,41 +19,40 @@ use Rattle.shape_eval.specs.Results.{pair_reads, results, shape_reads, shape_res
 
 -- ---- what is held
 
-abbrev pub answer_in : Table → Pair → Option PairAnswer
+abbrev pub answer_in : {N : Type 0} → Table N → Pair → Option (PairAnswer N)
 answer_in t p = get same_pair t.answers p
 
-abbrev pub Holds : Table → Pair → Type 0
+abbrev pub Holds : {N : Type 0} → Table N → Pair → Type 0
 Holds t p = IsTrue (is_some (answer_in t p))
 
-abbrev pub rows_in : Option PairAnswer → List ResultRow
+abbrev pub rows_in : {N : Type 0} → Option (PairAnswer N) → List ResultRow
 rows_in None = []
 rows_in (Some answer) = answer.rows.items
 
-abbrev pub reads_in : Option PairAnswer → List Key
-reads_in None = []
-reads_in (Some answer) = answer.reads
-
-abbrev pub held_rows : Table → Pair → List ResultRow
+abbrev pub held_rows : {N : Type 0} → Table N → Pair → List ResultRow
 held_rows t p = rows_in (answer_in t p)
 
-abbrev pub held_reads : Table → Pair → List Key
-held_reads t p = reads_in (answer_in t p)
-
 -- new holds the answer for the pair, and otherwise what old holds
-pub record HoldsAlso (old new : Table) (p : Pair) (answer : PairAnswer) : Type 0 where
+pub record HoldsAlso {N : Type 0} (old new : Table N) (p : Pair) (answer : PairAnswer N) : Type 0 where
   pub each : (q : Pair) → answer_in new q ≡ cond (same_pair p q) (Some answer) (answer_in old q)
 
--- ---- answers as they are defined
+-- ---- answers as they are defined, by what it is for notes to have keys
 
-pub record IsAnswer (shapes : List PlanShape) (g : Graph) (p : Pair) (answer : PairAnswer) : Type 0 where
+-- each answer that is held was read from these keys
+pub record Tells {N : Type 0} (has : N → List Key → Type 0) (t : Table N) (r : Pair → List Key) : Type 0 where
+  pub each : (p : Pair) (answer : PairAnswer N) → answer_in t p ≡ Some answer → has answer.reads (r p)
+
+pub record IsAnswer {N : Type 0} (has : N → List Key → Type 0) (shapes : List PlanShape) (g : Graph)
+    (p : Pair) (answer : PairAnswer N) : Type 0 where
   pub rows : answer.rows.items ≡ results shapes g p
-  pub reads : SameMembers answer.reads (pair_reads shapes g p)
+  pub reads : has answer.reads (pair_reads shapes g p)
 
-pub record IsTable (shapes : List PlanShape) (g : Graph) (t : Table) : Type 0 where
-  pub each : (p : Pair) (answer : PairAnswer) → answer_in t p ≡ Some answer → IsAnswer shapes g p answer
+pub record IsTable {N : Type 0} (has : N → List Key → Type 0) (shapes : List PlanShape) (g : Graph)
+    (t : Table N) : Type 0 where
+  pub each : (p : Pair) (answer : PairAnswer N) → answer_in t p ≡ Some answer → IsAnswer has shapes g p answer
 
 -- all that was held is held
-pub record KeepsHeld (old new : Table) : Type 0 where
+pub record KeepsHeld {N : Type 0} (old new : Table N) : Type 0 where
   pub each : (p : Pair) → Holds old p → Holds new p
 
 -- ---- from the answers at the shapes that are named to the answer of a pair

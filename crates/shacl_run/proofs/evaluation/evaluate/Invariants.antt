@@ -1,5 +1,6 @@
 use Rattle.std.proofs.Common.{◌≡◌, ◌+◌, length, map, take}
 use Rattle.std.specs.Prelude.{flat_map}
+use Rattle.shape_eval.specs.Known.{IsKnownOf}
 use Rattle.shape_eval.specs.Planned.{plan_of}
 use Rattle.shape_eval.specs.Report.{at_shape}
 use Rattle.shape_eval.specs.Results.{results}
@@ -13,6 +14,7 @@ invariant-loop-shape g l =
     let seen =
     flat_map (λ n. map (at_shape n) (target_nodes shapes graph n)) (take l.shape-index l.shape-items) in
     record {
+      known : IsKnownOf l.known graph;
       rows : l.rows.items ≡ flat_map (results shapes graph) seen;
       steps : l.steps ≡ l.fn.steps + length seen;
     }

@@ -3,13 +3,12 @@ use Rattle.std.proofs.Common.{rules, refl, sym, ap, ◌∙◌, subst, arith}
 use Rattle.std.proofs.lemmas.Option.{slice_get_read}
 use Rattle.comp_core.specs.declared.pair.Pair.{Pair}
 use Rattle.shx_term.proofs.MemberLemmas.{each_of_All}
-use Rattle.shx_term.specs.Members.{Adds}
 use Rattle.graph_view.specs.Graph.{HasTerms}
 use Rattle.shape_eval.specs.Constraint.{constraint_numbers}
-use Rattle.shape_eval.specs.Results.{at_of, hits_of_each, reads_of_each, value_nodes, value_reads}
-use Rattle.shape_eval.specs.inner.Answers.{Holds, asked_pairs, held_reads, held_rows}
+use Rattle.shape_eval.specs.Results.{at_of, hits_of_each, pair_reads, reads_of_each, value_nodes}
+use Rattle.shape_eval.specs.inner.Answers.{Holds, asked_pairs, held_rows}
 use Rattle.shape_eval.proofs.AnswerLemmas.{add_answer, add_holds, add_keeps, all_held, asked_at, keeps_then}
-use Rattle.shape_eval.proofs.AnswerLemmas.{more_held, off_answer, on_answer}
+use Rattle.shape_eval.proofs.AnswerLemmas.{more_held, off_answer, on_answer, table_tells}
 use Rattle.shape_eval.proofs.LevelLemmas.{numbers_known}
 use Rattle.shape_eval.proofs.answering.+answer.Goals as goal
 
@@ -21,7 +20,8 @@ returns-then-shape-clause-answer g t c =
     c.requires.plan c.args.pair c.index-shapes-pair.result
     (slice_get_read shapes (length shapes) c.args.pair.shape c.index-shapes-pair.result refl c.requires.shape
     c.index-shapes-pair.is)
-    c.requires.node c.if-shape.true (record { rows = c.new.result; reads = c.new-reads.result })
+    c.requires.node g.met.N.Notes.laws g.N.Notes.has g.met.N.Notes.has_more c.if-shape.true
+    (record { rows = c.new.result; reads = c.new-reads.result })
     c.new.ensures.items c.new-reads.ensures
 
 pub answer-requires : goal.answer-requires
@@ -60,7 +60,8 @@ loop-below-preserved g t c =
     let kept = keeps_then c.loop-below.table c.answer.new.table c.add.new.self c.in_ok-found.ensures.kept
     (add_keeps c.answer.new.table c.add.new.self d found also) in
     record {
-      table = add_answer c.args.shapes.now view c.answer.new.table c.add.new.self d found
+      known = c.in_ok-found.ensures.known;
+      table = add_answer g.N.Notes.has c.args.shapes.now view c.answer.new.table c.add.new.self d found
           c.in_ok-found.ensures.table also c.in_ok-found.ensures.answer;
       kept = keeps_then c.args.table.now c.loop-below.table c.add.new.self c.loop-below.invariant.kept kept;
       held = more_held c.loop-below.table c.add.new.self kept asked i start c.loop-below-test.true
@@ -102,15 +103,15 @@ returns-clause-answer g t c =
     c.requires.plan c.args.pair shape
     (slice_get_read shapes (length shapes) c.args.pair.shape shape refl c.requires.shape
     c.index-shapes-pair.is)
-    c.requires.node c.loop-below.table c.loop-below.invariant.table c.if-shape.false vs values
+    c.requires.node g.met.N.Notes.laws g.N.Notes.has g.met.N.Notes.has_more c.loop-below.table
+    c.loop-below.invariant.table c.if-shape.false vs values
     (subst (λ ks. All (Holds c.loop-below.table) (asked_pairs ks vs)) c.deref-3.ensures.value held)
     (record { rows = c.in_ok-rows.rows; reads = c.check_each.new.reads })
     (c.in_ok-rows.ensures.rows
     ∙ ap (λ ks. hits_of_each view (held_rows c.loop-below.table) ks (at_of c.args.pair) vs)
     c.deref-3.ensures.value)
-    c.find_values.new.reads
-    (subst (λ ks. Adds ks c.find_values.new.reads (value_reads view shape.path c.args.pair.node))
-    c.new-reads.ensures c.in_ok-values.ensures.reads)
-    (subst (λ ks. Adds c.find_values.new.reads c.check_each.new.reads
-    (reads_of_each view (held_reads c.loop-below.table) ks (at_of c.args.pair) vs)) c.deref-3.ensures.value
-    c.in_ok-rows.ensures.reads)
+    c.new-reads.result c.find_values.new.reads c.new-reads.ensures c.in_ok-values.ensures.reads
+    (subst (λ ks. g.N.Notes.notes c.find_values.new.reads c.check_each.new.reads
+    (reads_of_each view (pair_reads shapes view) ks (at_of c.args.pair) vs)) c.deref-3.ensures.value
+    (c.in_ok-rows.ensures.reads (pair_reads shapes view)
+    (table_tells g.N.Notes.has shapes view c.loop-below.table c.loop-below.invariant.table)))

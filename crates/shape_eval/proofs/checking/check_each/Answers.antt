@@ -1,5 +1,8 @@
-use Rattle.std.specs.Prelude.{◌<◌, length}
-use Rattle.shx_term.proofs.SetLemmas.{Adds-take_item}
+use Rattle.std.specs.Prelude.{◌<◌, List, length}
+use Rattle.std.proofs.Common.{subst}
+use Rattle.graph_view.specs.declared.key.Key.{Key}
+use Rattle.comp_core.proofs.NotingLemmas.{noted_more}
+use Rattle.shape_eval.specs.declared.constraint.Constraint.{Constraint}
 use Rattle.shape_eval.specs.Constraint.{constraint_asks, constraint_hits, constraint_numbers}
 use Rattle.shape_eval.specs.Constraint.{constraint_reads}
 use Rattle.shape_eval.proofs.ItemLemmas.{part_at, flat_map-take_item}
@@ -24,13 +27,15 @@ loop-constraint-preserved g c =
     let item = c.constraint-item.result in
     let constraints = c.args.constraints.now in
     record {
+      known = c.in_ok-check.ensures.known;
       rows = flat_map-take_item
           (λ k. constraint_hits k view (g.C.Conform.rows_of c.args.conform.now) c.args.at c.args.values.now)
           constraints i item c.loop-constraint-test.true c.constraint-item.is c.loop-constraint.rows.items
           c.check.new.out.items c.loop-constraint.invariant.rows c.in_ok-check.ensures.rows;
-      reads = Adds-take_item
-          (λ k. constraint_reads k view (g.C.Conform.reads_of c.args.conform.now) c.args.at c.args.values.now)
-          constraints i item c.loop-constraint-test.true c.constraint-item.is
-          c.loop-constraint.invariant.reads
-          c.in_ok-check.ensures.reads;
+      reads = λ r told.
+          let keys : Constraint → List Key = λ k. constraint_reads k view r c.args.at c.args.values.now in
+          noted_more g.met.C.Noted.Notes.laws keys constraints i item c.loop-constraint-test.true
+          (c.loop-constraint.invariant.reads r told)
+          (subst (λ k. g.C.Noted.Notes.notes c.loop-constraint.reads c.check.new.reads (keys k))
+          c.constraint-item.is (c.in_ok-check.ensures.reads r told));
     }

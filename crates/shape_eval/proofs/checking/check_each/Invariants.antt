@@ -1,15 +1,17 @@
-use Rattle.std.proofs.Common.{◌≡◌}
+use Rattle.std.proofs.Common.{◌≡◌, List}
 use Rattle.std.specs.Prelude.{take}
-use Rattle.shx_term.specs.Members.{Adds}
+use Rattle.graph_view.specs.declared.key.Key.{Key}
+use Rattle.comp_core.specs.declared.pair.Pair.{Pair}
+use Rattle.shape_eval.specs.Known.{IsKnownOf}
 use Rattle.shape_eval.specs.Results.{hits_of_each, reads_of_each}
 use Rattle.shape_eval.proofs.checking.check_each.Given as goal
 
 abbrev pub invariant-loop-constraint : goal.invariant-loop-constraint
 invariant-loop-constraint g l = record {
+  known : IsKnownOf l.known (g.V.GraphView.graph l.view);
   rows : l.rows.items
       ≡ hits_of_each (g.V.GraphView.graph l.view) (g.C.Conform.rows_of l.conform)
       (take l.constraint-index l.constraints) l.at l.values;
-  reads : Adds l.fn.reads l.reads
-      (reads_of_each (g.V.GraphView.graph l.view) (g.C.Conform.reads_of l.conform)
-      (take l.constraint-index l.constraints) l.at l.values);
+  reads : (r : Pair → List Key) → g.C.Conform.tells l.conform r → g.C.Noted.Notes.notes l.fn.reads l.reads
+      (reads_of_each (g.V.GraphView.graph l.view) r (take l.constraint-index l.constraints) l.at l.values);
 }

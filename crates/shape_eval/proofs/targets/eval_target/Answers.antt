@@ -1,7 +1,7 @@
 use Rattle.std.specs.Prelude.{◌++◌, get_or}
 use Rattle.std.proofs.Common.{◌∙◌, ap}
 use Rattle.std.proofs.lemmas.List.{get_or_default}
-use Rattle.shx_term.proofs.SetLemmas.{Adds-take_more}
+use Rattle.comp_core.proofs.NotingLemmas.{noted_more}
 use Rattle.shape_eval.specs.declared.target.Target.TheVariants as target
 use Rattle.shape_eval.specs.Planned.{plan_of}
 use Rattle.shape_eval.specs.Targets.{nodes_of_target, reads_of_target}
@@ -28,7 +28,7 @@ loop-target-preserved g c =
           c.extend_from_slice.new.self.items c.loop-target.invariant.nodes
           (c.in_ok-extend_from_slice.ensures.items
           ∙ ap (λ ys. c.loop-target.found.items ++ ys) (c.deref.ensures.value ∙ c.in_ok-nodes.ensures.nodes));
-      reads = Adds-take_more (reads_of_target view) targets i (target.Node 0) inside
+      reads = noted_more g.met.N.Notes.laws (reads_of_target view) targets i (target.Node 0) inside
           c.loop-target.invariant.reads c.in_ok-nodes.ensures.reads;
       known = known_with view c.loop-target.found.items c.in_ok-nodes.nodes.items
           c.extend_from_slice.new.self.items c.loop-target.invariant.known c.in_ok-nodes.ensures.known

@@ -1,6 +1,5 @@
 use Rattle.std.proofs.Common.{◌≡◌}
 use Rattle.std.specs.Prelude.{take, flat_map}
-use Rattle.shx_term.specs.Members.{Adds}
 use Rattle.graph_view.specs.Graph.{HasTerms}
 use Rattle.shape_eval.specs.Targets.{nodes_of_target, reads_of_target}
 use Rattle.shape_eval.proofs.targets.eval_target.Given as goal
@@ -9,7 +8,7 @@ abbrev pub invariant-loop-target : goal.invariant-loop-target
 invariant-loop-target g l = record {
   nodes : l.found.items
       ≡ flat_map (nodes_of_target (g.V.GraphView.graph l.view)) (take l.target-index l.target-items);
-  reads : Adds l.fn.reads l.reads
+  reads : g.N.Notes.notes l.fn.reads l.reads
       (flat_map (reads_of_target (g.V.GraphView.graph l.view)) (take l.target-index l.target-items));
   known : HasTerms (g.V.GraphView.graph l.view) l.found.items;
 }

@@ -5,23 +5,30 @@ use Rattle.edit_engine.proofs.EvaluatesLemmas.{HasEvaluated-more, HasEvaluated-n
 use Rattle.edit_engine.proofs.renewal.Renewal.evaluate_entering.Goals as goal
 
 pub loop-pair-init : goal.loop-pair-init
-loop-pair-init g c = HasEvaluated-none c.args.self.now.evaluated.items c.args.steps.now
+loop-pair-init g c = record {
+  done = HasEvaluated-none c.args.self.now.evaluated.items c.args.steps.now;
+  known = c.new-known.ensures (g.V.GraphView.graph c.args.view.now);
+}
 
 pub loop-pair-preserved : goal.loop-pair-preserved
 loop-pair-preserved g c =
     let pairs = c.deref-pair-items.result.now in
     let at = c.loop-pair.pair-index in
     let zero : Pair = record { shape = 0; node = 0 } in
-    HasEvaluated-more {new = c.push.new.self.items} (get_or pairs at zero) c.in_ok-evaluated.evaluated
-    c.in_ok-evaluated.ensures.pair c.in_ok-evaluated.ensures.right c.in_ok-push.ensures.items
-    c.evaluate.ensures.step (take_more pairs at zero c.loop-pair-test.true) c.loop-pair.invariant
+    record {
+      done = HasEvaluated-more {new = c.push.new.self.items} (get_or pairs at zero)
+          c.in_ok-evaluated.evaluated c.in_ok-evaluated.ensures.pair c.in_ok-evaluated.ensures.right
+          c.in_ok-push.ensures.items c.evaluate.ensures.step (take_more pairs at zero c.loop-pair-test.true)
+          c.loop-pair.invariant.done;
+      known = c.evaluate.ensures.known;
+    }
 
 pub returns-clause-evaluated : goal.returns-clause-evaluated
 returns-clause-evaluated g c =
     let all = take_all c.loop-pair.pair-index c.deref-pair-items.result.now c.loop-pair-test.false in
-    (HasEvaluated-same _ _ (all ∙ c.deref-pair-items.ensures.value) c.loop-pair.invariant).evaluated
+    (HasEvaluated-same _ _ (all ∙ c.deref-pair-items.ensures.value) c.loop-pair.invariant.done).evaluated
 
 pub returns-clause-steps : goal.returns-clause-steps
 returns-clause-steps g c =
     let all = take_all c.loop-pair.pair-index c.deref-pair-items.result.now c.loop-pair-test.false in
-    (HasEvaluated-same _ _ (all ∙ c.deref-pair-items.ensures.value) c.loop-pair.invariant).steps
+    (HasEvaluated-same _ _ (all ∙ c.deref-pair-items.ensures.value) c.loop-pair.invariant.done).steps

@@ -16,8 +16,8 @@ target_kind : (r : Reader) → tag_of the_type r ≡ 0 → reader_kind r ≡ 0
 target_kind (OfTarget n) e = refl
 target_kind (OfPair p) e = absurd (omega (arith, e))
 
-pub evaluate-requires-clause-known : goal.evaluate-requires-clause-known
-evaluate-requires-clause-known g c =
+pub evaluate-requires-clause-pair : goal.evaluate-requires-clause-pair
+evaluate-requires-clause-pair g c =
     holds_of_staying c.args.touched.now c.args.self.now.leaving.keys c.loop-reader.reader-index (OfTarget 0)
     c.loop-reader-test.true c.in-OfPair.pair c.in-OfPair.is
     (IsKnownPair c.args.plan.now.shapes.items (g.V.GraphView.graph c.args.view.now)) c.requires.known
@@ -27,6 +27,7 @@ evaluate-requires-clause-known g c =
 pub loop-reader-init : goal.loop-reader-init
 loop-reader-init g c = record {
   done = HasEvaluated-none c.args.self.now.evaluated.items c.args.steps.now;
+  known = c.new-known.ensures (g.V.GraphView.graph c.args.view.now);
   others = record { targets = refl; entering = refl; leaving = refl };
 }
 
@@ -40,31 +41,36 @@ loop-reader-preserved g c =
     let taken = pairs_staying (take at readers) leaving in
     let more = pairs_staying (take (at + 1) readers) leaving in
     elim c.match-reader.branch [
-      | goal.in-OfPair+then-not-contains+in_ok-evaluated+in_ok-push w ↦ rw (w.self-is, w.steps-is) (record {
-        done = HasEvaluated-more {new = w.push.new.self.items} w.in-OfPair.pair w.in_ok-evaluated.evaluated
-            w.in_ok-evaluated.ensures.pair w.in_ok-evaluated.ensures.right w.in_ok-push.ensures.items
-            w.evaluate.ensures.step (staying-pair readers leaving at (OfTarget 0) inside w.in-OfPair.pair
-            w.in-OfPair.is (among_at_first _ _ w.in-OfPair.pair _ _ before.others.leaving w.contains.ensures
-            w.if-not-contains.true)) before.done;
-        others = record {
-          targets = before.others.targets;
-          entering = before.others.entering;
-          leaving = before.others.leaving;
-        };
-      })
+      | goal.in-OfPair+then-not-contains+in_ok-evaluated+in_ok-push w ↦
+          rw (w.self-is, w.steps-is, w.known-is) (record {
+            done = HasEvaluated-more {new = w.push.new.self.items} w.in-OfPair.pair w.in_ok-evaluated.evaluated
+                w.in_ok-evaluated.ensures.pair w.in_ok-evaluated.ensures.right w.in_ok-push.ensures.items
+                w.evaluate.ensures.step (staying-pair readers leaving at (OfTarget 0) inside w.in-OfPair.pair
+                w.in-OfPair.is (among_at_first _ _ w.in-OfPair.pair _ _ before.others.leaving w.contains.ensures
+                w.if-not-contains.true)) before.done;
+            known = w.evaluate.ensures.known;
+            others = record {
+              targets = before.others.targets;
+              entering = before.others.entering;
+              leaving = before.others.leaving;
+            };
+          })
       | goal.in_default w ↦ elim w.in_default.branch [
-        | goal.in_default-via-in-OfTarget-1 w' ↦ rw (w.self-is, w.steps-is) (record {
+        | goal.in_default-via-in-OfTarget-1 w' ↦ rw (w.self-is, w.steps-is, w.known-is) (record {
           done = HasEvaluated-same taken more
               (staying-target readers leaving at (OfTarget 0) inside (search (rules, target_kind)))
               before.done;
+          known = before.known;
           others = before.others;
         })
-        | goal.in_default-via-in-OfPair+else-not-contains w' ↦ rw (w.self-is, w.steps-is) (record {
-          done = HasEvaluated-same taken more
-              (staying-left readers leaving at (OfTarget 0) inside w'.in-OfPair.pair w'.in-OfPair.is
-              (among_at_first _ _ w'.in-OfPair.pair _ _ before.others.leaving w'.contains.ensures
-              w'.if-not-contains.false)) before.done;
-          others = before.others;
-        })
+        | goal.in_default-via-in-OfPair+else-not-contains w' ↦
+            rw (w.self-is, w.steps-is, w.known-is) (record {
+              done = HasEvaluated-same taken more
+                  (staying-left readers leaving at (OfTarget 0) inside w'.in-OfPair.pair w'.in-OfPair.is
+                  (among_at_first _ _ w'.in-OfPair.pair _ _ before.others.leaving w'.contains.ensures
+                  w'.if-not-contains.false)) before.done;
+              known = before.known;
+              others = before.others;
+            })
       ]
     ]

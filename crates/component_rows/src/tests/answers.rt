@@ -56,21 +56,25 @@ fn are_due(rows: &[ResultRow], kind: Kind, due: &[Due]) -> bool {
 impl<'a, V: GraphView> Asked<'a, V> {
     // Whether a component finds what is due. Where it wants memory for a look-up that is not due, it finds
     // nothing.
-    fn finds<C: Component>(
+    fn finds<'p, C: Component<'p>>(
         &self,
         alloc: Global,
-        component: &C,
+        component: &'p C,
         kind: Kind,
+        known: &mut C::Known,
         reads: &mut Reads,
     ) -> bool
         requires valid { IsValidView (V.graph self.now.view.now) }
+        requires known { C.knows known.old (V.graph self.now.view.now) }
         requires numbers { HasTerms (V.graph self.now.view.now) (C.numbers_of component.now) }
         requires held { All (λ p. IsTrue (has_pair self.now.told.now.answers.items p))
             (C.asks_of component.now self.now.question.now.nodes.items) }
     {
         let nodes = &self.question.nodes;
         let mut rows = Vec::new(alloc);
-        match component.check(alloc, self.view, self.told, AT, nodes, reads, &mut rows) {
+        match component.check(
+            alloc, self.view, self.told, known, AT, nodes, reads, &mut rows,
+        ) {
             Ok(()) => are_due(&rows, kind, &self.question.due),
             Err(_) => false,
         }
@@ -78,19 +82,21 @@ impl<'a, V: GraphView> Asked<'a, V> {
 
     /// Whether a component asks no more than is told and finds the results that are due. What it reads is
     /// noted.
-    pub(super) fn answers<C: Component>(
+    pub(super) fn answers<'p, C: Component<'p>>(
         &self,
         alloc: Global,
-        component: &C,
+        component: &'p C,
         kind: Kind,
+        known: &mut C::Known,
         reads: &mut Reads,
     ) -> Result<bool, RowFault>
         requires valid { IsValidView (V.graph self.now.view.now) }
+        requires known { C.knows known.old (V.graph self.now.view.now) }
         requires numbers { HasTerms (V.graph self.now.view.now) (C.numbers_of component.now) }
     {
         C::laws();
         let mut asked = Vec::new(alloc);
         component.asks(&self.question.nodes, &mut asked)?;
-        Ok(are_told(self.told, &asked) && self.finds(alloc, component, kind, reads))
+        Ok(are_told(self.told, &asked) && self.finds(alloc, component, kind, known, reads))
     }
 }

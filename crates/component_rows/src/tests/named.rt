@@ -15,6 +15,7 @@ use comp_core::kinds::{
 use graph_view::{GraphView, Reads};
 use logic_components::{And, Node, Not, Or, Property, Xone};
 use pair_components::{Disjoint, Equals, LessThan, LessThanOrEquals};
+use path_eval::Superclasses;
 use qualified_shapes::{Closed, QualifiedMaxCount, QualifiedMinCount};
 use row_tools::RowFault;
 use shx_term::Memory;
@@ -34,25 +35,52 @@ fn is_value_answered<V: GraphView>(
 {
     let value = asked.question.value;
     match name {
-        "MinExclusive" => asked.answers(alloc, &MinExclusive::new(value), MIN_EXCLUSIVE, reads),
-        "MinInclusive" => asked.answers(alloc, &MinInclusive::new(value), MIN_INCLUSIVE, reads),
-        "MaxExclusive" => asked.answers(alloc, &MaxExclusive::new(value), MAX_EXCLUSIVE, reads),
-        "MaxInclusive" => asked.answers(alloc, &MaxInclusive::new(value), MAX_INCLUSIVE, reads),
-        "MinCount" => asked.answers(alloc, &MinCount::new(value), MIN_COUNT, reads),
-        "MaxCount" => asked.answers(alloc, &MaxCount::new(value), MAX_COUNT, reads),
-        "MinLength" => asked.answers(alloc, &MinLength::new(value), MIN_LENGTH, reads),
-        "MaxLength" => asked.answers(alloc, &MaxLength::new(value), MAX_LENGTH, reads),
-        "Class" => asked.answers(alloc, &Class::new(value), CLASS, reads),
-        "Datatype" => asked.answers(alloc, &Datatype::new(value), DATATYPE, reads),
-        "NodeKind" => asked.answers(alloc, &NodeKind::new(value), NODE_KIND, reads),
-        "UniqueLang" => asked.answers(alloc, &UniqueLang::new(value), UNIQUE_LANG, reads),
-        "HasValue" => asked.answers(alloc, &HasValue::new(value), HAS_VALUE, reads),
-        "Equals" => asked.answers(alloc, &Equals::new(value), EQUALS, reads),
-        "Disjoint" => asked.answers(alloc, &Disjoint::new(value), DISJOINT, reads),
-        "LessThan" => asked.answers(alloc, &LessThan::new(value), LESS_THAN, reads),
+        "MinExclusive" => asked.answers(
+            alloc,
+            &MinExclusive::new(value),
+            MIN_EXCLUSIVE,
+            &mut (),
+            reads,
+        ),
+        "MinInclusive" => asked.answers(
+            alloc,
+            &MinInclusive::new(value),
+            MIN_INCLUSIVE,
+            &mut (),
+            reads,
+        ),
+        "MaxExclusive" => asked.answers(
+            alloc,
+            &MaxExclusive::new(value),
+            MAX_EXCLUSIVE,
+            &mut (),
+            reads,
+        ),
+        "MaxInclusive" => asked.answers(
+            alloc,
+            &MaxInclusive::new(value),
+            MAX_INCLUSIVE,
+            &mut (),
+            reads,
+        ),
+        "MinCount" => asked.answers(alloc, &MinCount::new(value), MIN_COUNT, &mut (), reads),
+        "MaxCount" => asked.answers(alloc, &MaxCount::new(value), MAX_COUNT, &mut (), reads),
+        "MinLength" => asked.answers(alloc, &MinLength::new(value), MIN_LENGTH, &mut (), reads),
+        "MaxLength" => asked.answers(alloc, &MaxLength::new(value), MAX_LENGTH, &mut (), reads),
+        "Class" => {
+            let known = &mut Superclasses::new(alloc);
+            asked.answers(alloc, &Class::new(value), CLASS, known, reads)
+        },
+        "Datatype" => asked.answers(alloc, &Datatype::new(value), DATATYPE, &mut (), reads),
+        "NodeKind" => asked.answers(alloc, &NodeKind::new(value), NODE_KIND, &mut (), reads),
+        "UniqueLang" => asked.answers(alloc, &UniqueLang::new(value), UNIQUE_LANG, &mut (), reads),
+        "HasValue" => asked.answers(alloc, &HasValue::new(value), HAS_VALUE, &mut (), reads),
+        "Equals" => asked.answers(alloc, &Equals::new(value), EQUALS, &mut (), reads),
+        "Disjoint" => asked.answers(alloc, &Disjoint::new(value), DISJOINT, &mut (), reads),
+        "LessThan" => asked.answers(alloc, &LessThan::new(value), LESS_THAN, &mut (), reads),
         "LessThanOrEquals" => {
             let component = LessThanOrEquals::new(value);
-            asked.answers(alloc, &component, LESS_THAN_OR_EQUALS, reads)
+            asked.answers(alloc, &component, LESS_THAN_OR_EQUALS, &mut (), reads)
         }
         _ => Err(RowFault::Unread),
     }
@@ -73,12 +101,18 @@ fn is_asking_answered<V: GraphView>(
         return is_value_answered(alloc, name, asked, reads);
     };
     match name {
-        "Not" => asked.answers(alloc, &Not::new(value, *first), NOT, reads),
-        "Node" => asked.answers(alloc, &Node::new(value, *first), NODE, reads),
-        "Property" => asked.answers(alloc, &Property::new(value, *first), PROPERTY, reads),
-        "And" => asked.answers(alloc, &And::new(value, shapes), AND, reads),
-        "Or" => asked.answers(alloc, &Or::new(value, shapes), OR, reads),
-        "Xone" => asked.answers(alloc, &Xone::new(value, shapes), XONE, reads),
+        "Not" => asked.answers(alloc, &Not::new(value, *first), NOT, &mut (), reads),
+        "Node" => asked.answers(alloc, &Node::new(value, *first), NODE, &mut (), reads),
+        "Property" => asked.answers(
+            alloc,
+            &Property::new(value, *first),
+            PROPERTY,
+            &mut (),
+            reads,
+        ),
+        "And" => asked.answers(alloc, &And::new(value, shapes), AND, &mut (), reads),
+        "Or" => asked.answers(alloc, &Or::new(value, shapes), OR, &mut (), reads),
+        "Xone" => asked.answers(alloc, &Xone::new(value, shapes), XONE, &mut (), reads),
         _ => is_count_answered(
             alloc,
             name,
@@ -104,11 +138,11 @@ fn is_count_answered<V: GraphView>(
     match name {
         "QualifiedMinCount" => {
             let component = QualifiedMinCount::new(value, shape, siblings);
-            asked.answers(alloc, &component, QUALIFIED_MIN_COUNT, reads)
+            asked.answers(alloc, &component, QUALIFIED_MIN_COUNT, &mut (), reads)
         }
         "QualifiedMaxCount" => {
             let component = QualifiedMaxCount::new(value, shape, siblings);
-            asked.answers(alloc, &component, QUALIFIED_MAX_COUNT, reads)
+            asked.answers(alloc, &component, QUALIFIED_MAX_COUNT, &mut (), reads)
         }
         _ => Err(RowFault::Unread),
     }
@@ -141,10 +175,22 @@ pub(super) fn is_answered<V: GraphView>(
         shapes,
     } = params;
     match name {
-        "In" => asked.answers(alloc, &In::new(value, members), IN, reads),
-        "LanguageIn" => asked.answers(alloc, &LanguageIn::new(value, members), LANGUAGE_IN, reads),
+        "In" => asked.answers(alloc, &In::new(value, members), IN, &mut (), reads),
+        "LanguageIn" => asked.answers(
+            alloc,
+            &LanguageIn::new(value, members),
+            LANGUAGE_IN,
+            &mut (),
+            reads,
+        ),
         "Pattern" => is_pattern_answered(alloc, &members, asked, reads),
-        "Closed" => asked.answers(alloc, &Closed::new(value, members, ignored), CLOSED, reads),
+        "Closed" => asked.answers(
+            alloc,
+            &Closed::new(value, members, ignored),
+            CLOSED,
+            &mut (),
+            reads,
+        ),
         _ if members.is_empty() => is_asking_answered(alloc, name, shapes, asked, reads),
         _ => Err(RowFault::Unread),
     }

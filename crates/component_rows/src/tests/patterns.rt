@@ -60,7 +60,7 @@ pub(super) fn is_pattern_answered<V: GraphView>(
     match RegexHost::new().build(alloc, text.as_str(), flags) {
         Ok(built) => {
             let pattern = Pattern::new(value, text.copy(alloc)?, flags, built);
-            asked.answers(alloc, &pattern, PATTERN, reads)
+            asked.answers(alloc, &pattern, PATTERN, &mut None, reads)
         }
         Err(PatternFault::Memory) => Err(RowFault::Memory),
         Err(_) => Err(RowFault::Unread),

@@ -10,10 +10,10 @@ use super::opened::{Opened, open_texts};
 use super::rows::ROWS;
 use comp_core::{ResultRow, ShapeNo};
 use edit_engine::{Edit, EditFault, Engine};
-use graph_view::{GraphEdit, ListGraph, Reads};
+use graph_view::{GraphEdit, ListGraph, Reads, Unnoted};
 use row_tools::{RowFault, all_blocks_met, cut, in_four};
 use script_lines::{Command, LineFault, read_line};
-use shape_eval::{eval_pair, eval_target};
+use shape_eval::{Known, PairAnswer, eval_pair, eval_target};
 use shx_term::{Id, Limits, Steps};
 use std::alloc::Global;
 use std::marker::Brand;
@@ -40,7 +40,16 @@ fn add_pair<V: GraphEdit, L: Ledger>(
     requires shape { shape < length engine.now.plan.shapes }
     requires node { node < length engine.now.graph.terms }
 {
-    let answer = eval_pair(alloc, engine.view(), engine.plan(), shape, node, steps)?;
+    let mut known = Known::new(alloc);
+    let answer: PairAnswer<Unnoted> = eval_pair(
+        alloc,
+        engine.view(),
+        engine.plan(),
+        &mut known,
+        shape,
+        node,
+        steps,
+    )?;
     anew.pairs = u64::saturating_add(anew.pairs, 1);
     for row in &answer.rows {
         anew.rows.push(row.copy(alloc)?)?;

@@ -8,7 +8,7 @@ ghost use Rattle.edit_engine.specs.MayBeAsked.{MayBeAsked};
 use super::edits::told;
 use super::opened::{Opened, open_texts};
 use edit_engine::Engine;
-use graph_view::{GraphEdit, GraphView, Key, ListGraph, Reads, StoreFault};
+use graph_view::{GraphEdit, GraphView, Key, ListGraph, Notes, StoreFault};
 use row_tools::{RowFault, all_blocks_met, cut, in_four, term};
 use shx_term::{Id, Memory, Pool, PoolFault, Steps, Term, Triple};
 use std::alloc::{AllocError, Global};
@@ -58,22 +58,44 @@ impl GraphView for Watched {
         self.graph.count_up_to(key, most)
     }
 
-    fn objects(&self, alloc: Global, s: Id, p: Id, reads: &mut Reads) -> Result<Vec<Id>, Memory> {
+    fn objects<N: Notes>(
+        &self,
+        alloc: Global,
+        s: Id,
+        p: Id,
+        reads: &mut N,
+    ) -> Result<Vec<Id>, Memory> {
         self.allow(&Key::Out(s, p))?;
         self.graph.objects(alloc, s, p, reads)
     }
 
-    fn subjects(&self, alloc: Global, p: Id, o: Id, reads: &mut Reads) -> Result<Vec<Id>, Memory> {
+    fn subjects<N: Notes>(
+        &self,
+        alloc: Global,
+        p: Id,
+        o: Id,
+        reads: &mut N,
+    ) -> Result<Vec<Id>, Memory> {
         self.allow(&Key::In(p, o))?;
         self.graph.subjects(alloc, p, o, reads)
     }
 
-    fn triples_of(&self, alloc: Global, s: Id, reads: &mut Reads) -> Result<Vec<Triple>, Memory> {
+    fn triples_of<N: Notes>(
+        &self,
+        alloc: Global,
+        s: Id,
+        reads: &mut N,
+    ) -> Result<Vec<Triple>, Memory> {
         self.allow(&Key::Subject(s))?;
         self.graph.triples_of(alloc, s, reads)
     }
 
-    fn triples_with(&self, alloc: Global, p: Id, reads: &mut Reads) -> Result<Vec<Triple>, Memory> {
+    fn triples_with<N: Notes>(
+        &self,
+        alloc: Global,
+        p: Id,
+        reads: &mut N,
+    ) -> Result<Vec<Triple>, Memory> {
         self.allow(&Key::Predicate(p))?;
         self.graph.triples_with(alloc, p, reads)
     }

@@ -12,11 +12,11 @@ use super::rows::{components, nesting, values, worked, wrong};
 use super::terms::id_of;
 use comp_core::Pair;
 use due_view::{DueView, is_known, is_valid};
-use graph_view::{GraphView, ListGraph};
+use graph_view::{GraphView, ListGraph, Reads};
 use row_tools::{RowFault, all_blocks_met, cut, number};
 use shape_eval::{
-    PairAnswer, Plan, edits_beside_a_pair, eval_pair, levels_do_not_matter, reads_have_terms,
-    results_depend_on_reads, results_have_terms, targets_depend_on_reads,
+    Known, PairAnswer, Plan, edits_beside_a_pair, eval_pair, levels_do_not_matter,
+    reads_have_terms, results_depend_on_reads, results_have_terms, targets_depend_on_reads,
 };
 use shx_term::{Pool, Steps};
 use std::alloc::Global;
@@ -39,7 +39,7 @@ fn found<V: GraphView, L: Ledger>(
     plan: &Plan,
     pair: Pair,
     steps: &mut Steps<L>,
-) -> Result<PairAnswer, RowFault>
+) -> Result<PairAnswer<Reads>, RowFault>
     requires valid { IsValidView (V.graph view.now) }
     requires plan { IsKnownPlan (V.graph view.now).terms (plan_of plan.now).shapes }
     ensures { OnOk result (steps.new ≡ steps.old + 1) }
@@ -47,7 +47,8 @@ fn found<V: GraphView, L: Ledger>(
     if pair.shape >= plan.len() || !is_known(view, pair.node) {
         return Err(RowFault::Unread);
     }
-    match eval_pair(alloc, view, plan, pair.shape, pair.node, steps) {
+    let mut known = Known::new(alloc);
+    match eval_pair(alloc, view, plan, &mut known, pair.shape, pair.node, steps) {
         Ok(answer) => Ok(answer),
         Err(_) => Err(RowFault::Unread),
     }

@@ -49,4 +49,20 @@ e:S path=e:p Closed='true'^^boolean,e:q
 | e:a e:p e:b, e:b e:q e:c, e:b e:r e:d, e:b e:r e:c, e:a e:s e:d
 | 0 e:a
 | Closed 0 e:a e:r e:c, Closed 0 e:a e:r e:d
-| e:a e:p, e:b";
+| e:a e:p, e:b
+
+two patterns of one shape
+e:S path=e:p Pattern='^b' Pattern='b$'
+| e:a e:p 'ab', e:a e:p 'ba', e:a e:p 'x'
+| 0 e:a
+| Pattern 0 e:a - 'ab', Pattern 0 e:a - 'x', Pattern 0 e:a - 'ba', Pattern 0 e:a - 'x'
+| e:a e:p
+
+one class of two nodes, which is found once and read for each
+e:S path=e:p Class=e:B Class=e:C
+| e:a e:p e:b, e:a e:p e:c, e:a e:p e:f, e:b rdf:type e:D, e:c rdf:type e:D, e:c rdf:type e:E, \
+e:D rdfs:subClassOf e:C
+| 0 e:a
+| Class 0 e:a - e:b, Class 0 e:a - e:c, Class 0 e:a - e:f, Class 0 e:a - e:f
+| e:a e:p, e:b rdf:type, e:c rdf:type, e:f rdf:type, \
+e:D rdfs:subClassOf, e:C rdfs:subClassOf, e:E rdfs:subClassOf";

@@ -44,10 +44,10 @@ fn found<V: GraphView, L: Ledger>(
     requires plan { IsKnownPlan (V.graph view.now).terms (plan_of plan.now).shapes }
     ensures { OnOk result (steps.new ≡ steps.old + 1) }
 {
+    let mut known = Known::new(alloc);
     if pair.shape >= plan.len() || !is_known(view, pair.node) {
         return Err(RowFault::Unread);
     }
-    let mut known = Known::new(alloc);
     match eval_pair(alloc, view, plan, &mut known, pair.shape, pair.node, steps) {
         Ok(answer) => Ok(answer),
         Err(_) => Err(RowFault::Unread),

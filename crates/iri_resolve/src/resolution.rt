@@ -36,14 +36,21 @@ pub fn resolve(alloc: Global, base: &IriText, reference: &str) -> Result<IriText
     if !is_allowed(reference) {
         return Err(IriFault::NotAllowed);
     }
+    let text = target(alloc, base.as_str(), reference)?;
+    Ok(IriText::new(text))
+}
+
+// The text of what a reference stands for.
+fn target(alloc: Global, base: &str, reference: &str) -> Result<String, AllocError>
+    ensures { IfOk result (λ text. string_bytes text ≡ resolved base.now reference.now) }
+{
     let parts = Reference::split(reference);
     if parts.scheme.is_some() {
-        return Ok(IriText::new(String::from_str(alloc, reference)?));
+        return String::from_str(alloc, reference);
     }
-    let base = base.as_str();
     let mut out = String::with_capacity(alloc, base.len() + reference.len())?;
     push_target(&mut out, &Reference::split(base), &parts)?;
-    Ok(IriText::new(out))
+    Ok(out)
 }
 
 // Writes the target of a reference without scheme (RFC 3986, section 5.3).

@@ -4,9 +4,10 @@ use Rattle.std.proofs.Common.{List, [], ◌∷◌, ◌++◌, length, take, drop,
 use Rattle.std.proofs.Common.{refl, sym, ap, subst, ◌∙◌, inl, inr, arith, append_assoc, length-append}
 use Rattle.std.proofs.Common.{append-nil, take-append-drop, drop-cons}
 use Rattle.std.specs.List.{position_or_len}
-use Rattle.std.proofs.lemmas.Bool.{cases_lt, lt-ltb, eqb-true, cond-true}
+use Rattle.std.proofs.lemmas.Bool.{cases_lt, lt-ltb, le-ltb, eqb-true, cond-true}
 use Rattle.std.proofs.lemmas.Option.{none-some, same_Some}
-use Rattle.std.proofs.lemmas.List.{take_all, length-take, take-append-le, take-take, drop-take, drop-drop}
+use Rattle.std.proofs.lemmas.List.{nil_from_length, take_all, length-take, take-append-le, take-take}
+use Rattle.std.proofs.lemmas.List.{drop-take, drop-drop}
 use Rattle.std.proofs.lemmas.List.{get_or-take, get_or_default}
 use Rattle.std.proofs.lemmas.List.Quantifiers.{position-Some}
 use Rattle.std.proofs.lemmas.List.Sums.{fails_before_first}
@@ -16,10 +17,11 @@ use Rattle.shx_outside.proofs.ToldLemmas.{Took-then}
 use Rattle.text_input.specs.declared.script_reader.Line.{Line}
 use Rattle.text_input.specs.declared.script_reader.Line.TheVariants.{Is, TooLong, End, PastLimit}
 use Rattle.text_input.specs.Lines.{is_line_feed, HasNoFeed, script_lines}
-use Rattle.text_input.specs.ScriptReader.{ReaderState, left_of, TakenLine, Takes}
+use Rattle.text_input.specs.ScriptReader.{ReaderState, left_of, TakenLine, TookEnd, Takes}
 use Rattle.text_input.specs.inner.LineParts.{TookPart, IsCut, IsKept}
 use Rattle.text_input.proofs.LineLemmas.{HasNoFeed-append}
 use Rattle.text_input.proofs.ScriptLineLemmas.{script_lines-first, script_lines-last, script_lines-cut}
+use Rattle.text_input.proofs.ScriptLineLemmas.{script_lines-none}
 use Rattle.text_input.proofs.ScriptLineLemmas.{longer-behind, longer-first}
 
 -- the bytes taken for a line so far
@@ -123,7 +125,7 @@ Pending-front reader None left is = absurd (none-some left is)
 Pending-front reader (Some behind) left is =
     (behind, sym (same_Some (reader.pending ++ behind) left is), refl)
 
-nothing_pending : (reader : ReaderState) (rest : Option (List ℕ)) (left : List ℕ)
+pub nothing_pending : (reader : ReaderState) (rest : Option (List ℕ)) (left : List ℕ)
     → reader.pending ≡ [] → left_of reader rest ≡ Some left → rest ≡ Some left
 nothing_pending reader rest left none is =
     let behind = Pending-front reader rest left is in
@@ -270,6 +272,26 @@ module _ (a rest : Option (List ℕ)) (reader : ReaderState) (budget most : ℕ)
       let taken : 0 < length g.taken = omega (arith, ap length g.keeps, length-take (most + 1) g.taken) in
       line_read a (left_of reader rest) budget reader.budget most reader.ended g.taken kept g.keeps
       (omega (arith, g.spent)) (last_behind end ended taken)
+
+  -- nothing was taken, and nothing is left
+  pub line-none : IsAtEnd rest → length kept ≡ 0 → TookEnd a (left_of reader rest) budget false
+  line-none end empty =
+      let size : length g.taken ≡ 0 =
+      omega (arith, ap length g.keeps, length-take (most + 1) g.taken, empty) in
+      record {
+        told = λ bytes is.
+            let front = g.took.told bytes is in
+            let nothing = end.told front.0 (nothing_pending reader rest front.0 none front.1) in
+            let at : bytes ≡ [] =
+            front.2
+            ∙ ap (λ xs. g.taken ++ xs) nothing
+            ∙ append-nil g.taken
+            ∙ nil_from_length g.taken size in (
+              ap (script_lines budget) at ∙ script_lines-none budget,
+              ap (λ xs. nat_lt budget (length xs)) at ∙ le-ltb budget 0 (omega arith),
+            );
+        at_end = λ _ left is. end.told left (nothing_pending reader rest left none is);
+      }
 
 -- how the bytes that are read ahead continue a line
 module _ (before after : ReaderState) (within : List ℕ) (most : ℕ)

@@ -1,3 +1,4 @@
+pub mod LineRead
 pub mod Lines
 pub mod ScriptReader
 pub mod TextRead

@@ -1,2 +1,3 @@
 -- Words of the inside: what is proved of public calls can be believed without them.
 pub mod LineParts
+pub mod Rest

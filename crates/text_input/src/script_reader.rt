@@ -1,14 +1,13 @@
 //! Reading a script line by line.
-ghost use Rattle.std.specs.Prelude.{◌≡◌, ◌≢◌, ◌+◌, ◌-◌, ◌<◌, ◌≤◌, [], ◌++◌, true, false, length, take, drop};
-ghost use Rattle.std.specs.Prelude.{IsOk, IfOk, IfErr, OnOk, OnErr, position};
+ghost use Rattle.std.specs.Prelude.{◌≡◌, ◌+◌, ◌-◌, ◌<◌, ◌≤◌, [], ◌++◌, true, false, length, take, drop};
+ghost use Rattle.std.specs.Prelude.{IsOk, IfOk, OnOk, OnErr, position};
 ghost use Rattle.shx_outside.specs.declared.role.Role.TheVariants.{Script};
 ghost use Rattle.shx_outside.specs.Counted.{HasCause};
 ghost use Rattle.shx_outside.specs.Told.{Took, StaysAdmitted, SameTexts, OthersStay};
 ghost use Rattle.text_input.specs.Lines.{is_line_feed};
 ghost use Rattle.text_input.specs.inner.LineParts.{TakesPart, IsKept};
-ghost use Rattle.text_input.specs.ScriptReader.{new_reader, left_of, MetEnd, ReadsLine};
-ghost use Rattle.text_input.specs.ScriptReader.{StopsInLine, GoesOn};
-ghost use Rattle.text_input.specs.TextRead.{HasInputCause};
+ghost use Rattle.text_input.specs.LineRead.{IsLineRead};
+ghost use Rattle.text_input.specs.ScriptReader.{new_reader, left_of, MetEnd, GoesOn};
 
 use crate::ReadFault;
 use shx_outside::{Failed, Inputs, Role};
@@ -103,21 +102,14 @@ impl ScriptReader {
     ) -> Result<Line, ReadFault>
         requires opened { (I.state host.old).opened Script ≡ true }
         requires met { MetEnd self.old.ended ((I.state host.old).rest Script) }
-        ensures line { IfOk result (ReadsLine self.old ((I.state host.old).rest Script)
-            self.new ((I.state host.new).rest Script) most) }
-        ensures stopped { IfErr result (λ fault. fault ≡ ReadFault.Input
-            → StopsInLine (left_of self.old ((I.state host.old).rest Script))
-            self.new ((I.state host.new).rest Script)) }
-        ensures goes_on { GoesOn self.old (I.state host.old) self.new (I.state host.new) }
-        ensures not_too_long { IfErr result (λ fault. fault ≢ ReadFault.TooLong) }
-        ensures ended { self.old.ended ≡ true → IfErr result (λ fault. fault ≢ ReadFault.Input) }
-        ensures cause { HasInputCause (I.state host.old).faults (I.state host.new).faults result }
-        ensures admitted { StaysAdmitted (I.admits host.old) (I.admits host.new) }
+        ensures { IsLineRead self.old (I.state host.old) self.new (I.state host.new)
+            (I.admits host.old) (I.admits host.new) most result }
     {
         let mut line = Vec::new(alloc);
         loop {
             if !self.fill(host)? {
-                if line.is_empty() {
+                let nothing = line.is_empty();
+                if nothing {
                     return Ok(Line::End);
                 }
                 return Ok(line_of(line, most));

@@ -1,6 +1,7 @@
-ghost use Rattle.std.specs.Prelude.{◌≡◌, ◌≢◌, ◌+◌, ◌<◌, ◌≤◌, true, IfOk, IfErr};
-ghost use Rattle.shx_outside.specs.Told.{StaysAdmitted, SameTexts, OthersStay};
-ghost use Rattle.text_input.specs.TextRead.{ReadsWhole, IsTooLong, TakesWithin, OpensOnce, HasInputCause};
+ghost use Rattle.std.specs.Prelude.{◌≡◌, ◌+◌, ◌<◌, ◌≤◌, [], true};
+ghost use Rattle.shx_outside.specs.Told.{StaysAdmitted};
+ghost use Rattle.text_input.specs.TextRead.{IsTextRead};
+ghost use Rattle.text_input.specs.inner.Rest.{IsRestRead};
 
 use crate::ReadFault;
 use shx_outside::{Inputs, Role};
@@ -20,31 +21,33 @@ pub fn read_text<I: Inputs>(
     most: u64,
 ) -> Result<Vec<u8>, ReadFault>
     requires { I.admits host.old role name.now }
-    ensures read { IfOk result (λ bytes.
-        ReadsWhole ((I.state host.old).text name.now) ((I.state host.new).rest role) most bytes.items) }
-    ensures too_long { IfErr result (λ fault.
-        fault ≡ ReadFault.TooLong → IsTooLong ((I.state host.old).text name.now) most) }
-    ensures within { (I.state host.new).opened role ≡ true
-        → TakesWithin ((I.state host.old).text name.now) ((I.state host.new).rest role) most }
-    ensures within_opened { (I.state host.old).opens role < (I.state host.new).opens role
-        → TakesWithin ((I.state host.old).text name.now) ((I.state host.new).rest role) most }
-    ensures opens { OpensOnce ((I.state host.old).opens role) ((I.state host.new).opens role) result }
-    ensures whole { (I.state host.old).opens role < (I.state host.new).opens role
-        → (I.state host.new).whole role ≡ (I.state host.old).text name.now }
-    ensures opened { result ≢ Err ReadFault.Input → (I.state host.new).opened role ≡ true }
-    ensures cause { HasInputCause (I.state host.old).faults (I.state host.new).faults result }
-    ensures others { OthersStay role (I.state host.old) (I.state host.new) }
-    ensures admitted { StaysAdmitted (I.admits host.old) (I.admits host.new) }
-    ensures texts { SameTexts (I.state host.old) (I.state host.new) }
+    ensures { IsTextRead role name.now most (I.state host.old) (I.state host.new)
+        (I.admits host.old) (I.admits host.new) result }
 {
     host.open(role, name)?;
     let mut text = Vec::new(alloc);
+    read_rest(host, role, &mut text, most)?;
+    Ok(text)
+}
+
+// Reads what is left of an opened text.
+fn read_rest<I: Inputs>(
+    host: &mut I,
+    role: Role,
+    text: &mut Vec<u8>,
+    most: u64,
+) -> Result<(), ReadFault>
+    requires opened { (I.state host.old).opened role ≡ true }
+    requires unread { text.old.items ≡ [] }
+    ensures { IsRestRead role most (I.state host.old) (I.state host.new)
+        (I.admits host.old) (I.admits host.new) text.new.items result }
+{
     let mut piece = [0u8; PIECE];
     loop {
         let room = room_left(most, text.len());
         let count = host.read(role, &mut piece[..room])?;
         if count == 0 {
-            return Ok(text);
+            return Ok(());
         }
         text.extend_from_slice(&piece[..count])?;
         if text.len() as u64 > most {

@@ -1,4 +1,5 @@
 pub mod Asking
+pub mod Details
 pub mod Laws
 pub mod Pairs
 pub mod Results

@@ -1,4 +1,4 @@
-ghost use Rattle.std.specs.Prelude.{◌≡◌, List, ◌++◌, IfOk, OnOk};
+ghost use Rattle.std.specs.Prelude.{◌≡◌, List, IfOk, OnOk};
 ghost use Rattle.graph_view.specs.declared.key.Key.{Key};
 ghost use Rattle.comp_core.specs.declared.pair.Pair.{Pair};
 ghost use Rattle.comp_core.specs.declared.row.ResultRow.{ResultRow};
@@ -7,7 +7,6 @@ ghost use Rattle.comp_core.specs.Rows.{is_empty};
 use crate::{Pair, ResultRow};
 use graph_view::Notes;
 use shx_term::Memory;
-use std::alloc::Global;
 
 /// Who tells what was found of nodes at other shapes. What it tells was found before it is asked.
 pub trait Conform {
@@ -30,16 +29,10 @@ pub trait Conform {
         ensures reads { (r : Pair → List Key) → tells self.now r
             → OnOk result (Self.Noted.notes reads.old reads.new (r pair.now)) };
 
-    /// Appends the results of the pair.
-    fn results(
-        &self,
-        alloc: Global,
-        pair: &Pair,
-        reads: &mut Self::Noted,
-        out: &mut Vec<ResultRow>,
-    ) -> Result<(), Memory>
+    /// The results of the pair, lent: whoever needs a part of them copies that part alone.
+    fn results(&self, pair: &Pair, reads: &mut Self::Noted) -> Result<&[ResultRow], Memory>
         requires { holds self.now pair.now }
-        ensures rows { OnOk result (out.new.items ≡ out.old.items ++ rows_of self.now pair.now) }
+        ensures rows { IfOk result (λ rows. rows.now ≡ rows_of self.now pair.now) }
         ensures reads { (r : Pair → List Key) → tells self.now r
             → OnOk result (Self.Noted.notes reads.old reads.new (r pair.now)) };
 }

@@ -6,6 +6,7 @@
 //! | `conform.rt` | `Conform`: who tells what was found at other shapes |
 //! | `pair.rt` | `Pair`: a node at which a shape is checked; `At`: where a constraint is checked |
 //! | `row.rt` | `ResultRow`: a result |
+//! | `detail.rt` | `Details`: the results on which a result rests |
 //! | `results.rt` | results as most components give them |
 //! | `asking.rt` | asking about a node at some shapes |
 //! | `lookup.rt` | `Lookup`: numbers that are looked up again and again |
@@ -19,6 +20,7 @@
 mod asking;
 mod component;
 mod conform;
+mod detail;
 mod held;
 pub mod kinds;
 mod lookup;
@@ -30,9 +32,10 @@ mod table;
 pub use asking::{ask_at, ask_shapes, conforming};
 pub use component::Component;
 pub use conform::Conform;
+pub use detail::{DetailRow, Details};
 pub use kinds::Kind;
 pub use lookup::Lookup;
 pub use pair::{At, Pair, ShapeNo};
-pub use results::{add_once_if, add_unless};
+pub use results::{add_copies, add_once_if, add_resting_on, add_unless};
 pub use row::ResultRow;
 pub use table::{AnswerTable, Answered};

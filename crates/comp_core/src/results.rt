@@ -1,8 +1,8 @@
 //! Results as components give them (SHACL, section 3.6.2).
 ghost use Rattle.std.specs.Prelude.{◌≡◌, ◌++◌, OnOk};
-ghost use Rattle.comp_core.specs.Results.{once_if, unless};
+ghost use Rattle.comp_core.specs.Results.{once_if, unless, resting_on};
 
-use crate::{At, Kind, ResultRow};
+use crate::{At, Details, Kind, ResultRow};
 use shx_term::{Id, Memory};
 use std::alloc::Global;
 
@@ -35,6 +35,40 @@ pub fn add_unless(
 {
     if !is_fine {
         out.push(ResultRow::plain(alloc, at.focus, Some(node), None, at.shape, kind)?)?;
+    }
+    Ok(())
+}
+
+/// Appends a result at a value node that rests on these, unless there are none.
+pub fn add_resting_on(
+    alloc: Global,
+    found: &[ResultRow],
+    kind: Kind,
+    at: At,
+    node: Id,
+    out: &mut Vec<ResultRow>,
+) -> Result<(), Memory>
+    ensures { OnOk result (out.new.items ≡ out.old.items ++ resting_on found.now kind at node) }
+{
+    if !found.is_empty() {
+        out.push(ResultRow {
+            focus: at.focus,
+            value: Some(node),
+            predicate: None,
+            shape: at.shape,
+            kind,
+            details: Details::of(alloc, found)?,
+        })?;
+    }
+    Ok(())
+}
+
+/// Appends copies of results.
+pub fn add_copies(alloc: Global, rows: &[ResultRow], out: &mut Vec<ResultRow>) -> Result<(), Memory>
+    ensures { OnOk result (out.new.items ≡ out.old.items ++ rows.now) }
+{
+    for row in rows {
+        out.push(row.copy(alloc)?)?;
     }
     Ok(())
 }

@@ -1,11 +1,12 @@
 ghost use Rattle.std.specs.Prelude.{◌≡◌, IfOk};
-ghost use Rattle.comp_core.specs.Rows.{plain_row};
+ghost use Rattle.comp_core.specs.Rows.{detail_of, plain_row};
 
-use crate::{Kind, ShapeNo};
+use crate::{DetailRow, Details, Kind, ShapeNo};
 use shx_term::{Id, Memory};
 use std::alloc::Global;
 
-/// A result (SHACL, section 3.6.2): where, with which value, at which predicate, and of which constraint.
+/// A result (SHACL, section 3.6.2): where, with which value, at which predicate, of which constraint, and on
+/// what it rests.
 #[derive(Debug, PartialEq, Eq)]
 pub struct ResultRow {
     pub focus: Id,
@@ -13,6 +14,7 @@ pub struct ResultRow {
     pub predicate: Option<Id>,
     pub shape: ShapeNo,
     pub kind: Kind,
+    pub details: Details,
 }
 
 impl Drop for ResultRow {
@@ -23,15 +25,15 @@ impl Drop for ResultRow {
             predicate: _predicate,
             shape: _shape,
             kind: _kind,
+            details: _details,
         } = self;
     }
 }
 
 impl ResultRow {
-    /// A result that says no more than this. What allocates is passed, since a result may come to say more;
-    /// whoever makes one makes it here or by `copy`.
+    /// A result that rests on no other. It takes no memory.
     pub fn plain(
-        _alloc: Global,
+        alloc: Global,
         focus: Id,
         value: Option<Id>,
         predicate: Option<Id>,
@@ -46,11 +48,25 @@ impl ResultRow {
             predicate,
             shape,
             kind,
+            details: Details::none(alloc),
         })
     }
 
-    /// An equal result.
-    pub fn copy(&self, _alloc: Global) -> Result<ResultRow, Memory>
+    /// What it is when another result rests on it.
+    pub fn without_details(&self) -> DetailRow
+        ensures { result ≡ detail_of self.now }
+    {
+        DetailRow {
+            focus: self.focus,
+            value: self.value,
+            predicate: self.predicate,
+            shape: self.shape,
+            kind: self.kind,
+        }
+    }
+
+    /// An equal result. Without details it takes no memory.
+    pub fn copy(&self, alloc: Global) -> Result<ResultRow, Memory>
         ensures { IfOk result (λ row. row ≡ self.now) }
     {
         Ok(ResultRow {
@@ -59,6 +75,7 @@ impl ResultRow {
             predicate: self.predicate,
             shape: self.shape,
             kind: self.kind,
+            details: self.details.copy(alloc)?,
         })
     }
 }

@@ -5,7 +5,6 @@ ghost use Rattle.comp_core.specs.Table.{has_pair, first_answered};
 use crate::{Conform, Pair, ResultRow};
 use graph_view::Reads;
 use shx_term::Memory;
-use std::alloc::Global;
 
 /// A pair and its results.
 #[derive(Drop)]
@@ -53,16 +52,7 @@ impl Conform for AnswerTable {
         Ok(self.answered(pair).rows.is_empty())
     }
 
-    fn results(
-        &self,
-        alloc: Global,
-        pair: &Pair,
-        _reads: &mut Reads,
-        out: &mut Vec<ResultRow>,
-    ) -> Result<(), Memory> {
-        for row in &self.answered(pair).rows {
-            out.push(row.copy(alloc)?)?;
-        }
-        Ok(())
+    fn results(&self, pair: &Pair, _reads: &mut Reads) -> Result<&[ResultRow], Memory> {
+        Ok(&self.answered(pair).rows)
     }
 }

@@ -47,7 +47,3 @@ demands_agree demand shapes test kind is c g h m n r q at vs alike same =
 pub is_none_of_one : (is : Bool) (x : ℕ) → (length (if is then x ∷ [] else []) == 0) ≡ not is
 is_none_of_one true x = refl
 is_none_of_one false x = refl
-
-pub is_all_of_one : (is : Bool) (x : ℕ) → (length (if is then x ∷ [] else []) == 1) ≡ is
-is_all_of_one true x = refl
-is_all_of_one false x = refl

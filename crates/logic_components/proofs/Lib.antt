@@ -1,2 +1,4 @@
 pub mod DemandLemmas
+pub mod NodeLemmas
+pub mod OneShapeLemmas
 pub mod PropertyLemmas

@@ -1,14 +1,14 @@
 //! sh:node (SHACL, section 4.7.1).
 ghost use Rattle.std.specs.Prelude.{◌≡◌};
 
-use crate::demand::{Demand, check_demand};
 use comp_core::kinds::NODE;
-use comp_core::{At, Component, Conform, Pair, ResultRow, ShapeNo, ask_shapes};
+use comp_core::{At, Component, Conform, Pair, ResultRow, ShapeNo, add_resting_on, ask_shapes};
 use graph_view::GraphView;
 use shx_term::{Id, Memory};
 use std::alloc::Global;
 
-/// Each value node conforms to the shape.
+/// Each value node conforms to the shape. Where one does not, its results at the shape are the details of the
+/// result.
 #[derive(Drop)]
 pub struct Node {
     /// The node of the shape.
@@ -59,17 +59,15 @@ impl<'p> Component<'p> for Node {
         reads: &mut C::Noted,
         out: &mut Vec<ResultRow>,
     ) -> Result<(), Memory> {
-        check_demand(
-            alloc,
-            conform,
-            Demand::All,
-            &[self.shape],
-            NODE,
-            at,
-            values,
-            reads,
-            out,
-        )
+        for v in values {
+            let pair = Pair {
+                shape: self.shape,
+                node: *v,
+            };
+            let found = conform.results(&pair, reads)?;
+            add_resting_on(alloc, found, NODE, at, *v, out)?;
+        }
+        Ok(())
     }
 
     fn laws() {}

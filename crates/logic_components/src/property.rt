@@ -1,7 +1,7 @@
 //! sh:property (SHACL, section 4.7.2).
 ghost use Rattle.std.specs.Prelude.{◌≡◌};
 
-use comp_core::{At, Component, Conform, Pair, ResultRow, ShapeNo, ask_shapes};
+use comp_core::{At, Component, Conform, Pair, ResultRow, ShapeNo, add_copies, ask_shapes};
 use graph_view::GraphView;
 use shx_term::{Id, Memory};
 use std::alloc::Global;
@@ -63,7 +63,7 @@ impl<'p> Component<'p> for Property {
                 shape: self.shape,
                 node: *v,
             };
-            conform.results(alloc, &pair, reads, out)?;
+            add_copies(alloc, conform.results(&pair, reads)?, out)?;
         }
         Ok(())
     }

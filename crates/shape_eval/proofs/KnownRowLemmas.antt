@@ -1,8 +1,8 @@
 -- The numbers in results have terms.
 use Rattle.std.specs.Prelude.{◌≡◌, ℕ, zero, suc, ◌<◌, Bool, true, false, List, [], ◌∷◌, Option}
-use Rattle.std.specs.Prelude.{Some, None, map, flat_map, if◌then◌else◌, length, slice_get, All}
+use Rattle.std.specs.Prelude.{Some, None, map, flat_map, if◌then◌else◌, length, slice_get, All, IfSome}
 use Rattle.std.proofs.Common.{refl}
-use Rattle.std.proofs.lemmas.List.Elements.{All-append, All-cons, All-nil, All-replicate}
+use Rattle.std.proofs.lemmas.List.Elements.{All-append, All-cons, All-map, All-nil, All-replicate, All-weaker}
 use Rattle.std.proofs.lemmas.Option.{slice_get_within}
 use Rattle.shx_term.proofs.MemberLemmas.{each_of_All}
 use Rattle.graph_view.specs.declared.key.Key.TheVariants.{Subject}
@@ -10,6 +10,7 @@ use Rattle.graph_view.specs.Graph.{Graph, AllKnown, HasTerms, IsKnownTriple, obj
 use Rattle.graph_view.proofs.LookUpLemmas.{All-ordered, HasTerms-objects_of}
 use Rattle.comp_core.specs.declared.pair.At.{At}
 use Rattle.comp_core.specs.declared.pair.Pair.{Pair}
+use Rattle.comp_core.specs.declared.detail.DetailRow.{DetailRow}
 use Rattle.comp_core.specs.declared.row.ResultRow.{ResultRow}
 use Rattle.comp_core.specs.declared.kinds.TheConstants.{CLASS, DATATYPE, NODE_KIND, MIN_COUNT, MAX_COUNT}
 use Rattle.comp_core.specs.declared.kinds.TheConstants.{MIN_EXCLUSIVE, MIN_INCLUSIVE, MAX_EXCLUSIVE}
@@ -19,8 +20,8 @@ use Rattle.comp_core.specs.declared.kinds.TheConstants.{LESS_THAN, LESS_THAN_OR_
 use Rattle.comp_core.specs.declared.kinds.TheConstants.{NODE, QUALIFIED_MIN_COUNT, QUALIFIED_MAX_COUNT}
 use Rattle.comp_core.specs.declared.kinds.TheConstants.{CLOSED, HAS_VALUE, IN}
 use Rattle.comp_core.specs.Asking.{pair_of}
-use Rattle.comp_core.specs.Results.{each_unless, once_if, unless}
-use Rattle.comp_core.specs.Rows.{plain_row}
+use Rattle.comp_core.specs.Results.{each_unless, once_if, resting_on, unless}
+use Rattle.comp_core.specs.Rows.{detail_of, is_empty, plain_row, row_over}
 use Rattle.value_components.specs.Tags.{tag_at}
 use Rattle.value_components.specs.UniqueLang.{repeated_tags}
 use Rattle.pair_components.specs.PairResults.{each_beside, each_pair_unless}
@@ -29,7 +30,7 @@ use Rattle.shape_eval.specs.declared.constraint.Constraint.{Constraint}
 use Rattle.shape_eval.specs.declared.constraint.Constraint.TheVariants as any
 use Rattle.shape_eval.specs.declared.shape.PlanShape.{PlanShape}
 use Rattle.shape_eval.specs.Constraint.{constraint_hits}
-use Rattle.shape_eval.specs.Laws.{IsKnownRow, ResultsHaveTerms}
+use Rattle.shape_eval.specs.Laws.{IsKnownFinding, IsKnownRow, ResultsHaveTerms}
 use Rattle.shape_eval.specs.Results.{at_of, hits_of_each, results_within, shape_results, value_nodes}
 use Rattle.shape_eval.proofs.PartLemmas.{All_of_parts}
 use Rattle.shape_eval.proofs.ShapeLemmas.{values_known}
@@ -54,8 +55,23 @@ module _ (g : Graph) (known : AllKnown g) (count : ℕ) where
   -- ---- at a place
 
   module _ (at : At) (focus : at.focus < length g.terms) (shape : at.shape < count) where
+    found_known : (value predicate : Option ℕ) → IfSome value (λ id. id < length g.terms)
+        → IfSome predicate (λ id. id < length g.terms) → (details : List DetailRow)
+        → All (IsKnownFinding g.terms count) details → (kind : ℕ)
+        → IsKnown (row_over details at.focus value predicate at.shape kind)
+    found_known value predicate v p details those kind = record {
+      found = record { focus = focus; value = v; predicate = p; shape = shape };
+      details = those;
+    }
+
+    plain_known : (value predicate : Option ℕ) → IfSome value (λ id. id < length g.terms)
+        → IfSome predicate (λ id. id < length g.terms) → (kind : ℕ)
+        → IsKnown (plain_row at.focus value predicate at.shape kind)
+    plain_known value predicate v p kind =
+        found_known value predicate v p [] (All-nil (IsKnownFinding g.terms count)) kind
+
     bare_known : (kind : ℕ) → IsKnown (plain_row at.focus None None at.shape kind)
-    bare_known kind = record { focus = focus; value = tt; predicate = tt; shape = shape }
+    bare_known kind = plain_known None None tt tt kind
 
     once_known : (is_so : Bool) (kind : ℕ) → AreKnown (once_if is_so kind at)
     once_known true kind = one_known (plain_row at.focus None None at.shape kind) (bare_known kind)
@@ -65,8 +81,16 @@ module _ (g : Graph) (known : AllKnown g) (count : ℕ) where
         → AreKnown (unless is_fine kind at node)
     unless_known is_fine kind node inside =
         let row = plain_row at.focus (Some node) None at.shape kind in
-        unless_off is_fine (row ∷ [])
-        (one_known row (record { focus = focus; value = inside; predicate = tt; shape = shape }))
+        unless_off is_fine (row ∷ []) (one_known row (plain_known (Some node) None inside tt kind))
+
+    resting_known : (found : List ResultRow) (kind node : ℕ) → node < length g.terms → AreKnown found
+        → AreKnown (resting_on found kind at node)
+    resting_known found kind node inside are =
+        let row = row_over (map detail_of found) at.focus (Some node) None at.shape kind in
+        let details = All-map (IsKnownFinding g.terms count) detail_of found
+        (All-weaker IsKnown (λ r. IsKnownFinding g.terms count (detail_of r)) (λ r is. is.found) found are) in
+        unless_off (is_empty found) (row ∷ [])
+        (one_known row (found_known (Some node) None inside tt (map detail_of found) details kind))
 
     each_known : (is_fine : ℕ → Bool) (kind : ℕ) (vs : List ℕ) → HasTerms g vs
         → AreKnown (each_unless is_fine kind at vs)
@@ -89,8 +113,7 @@ module _ (g : Graph) (known : AllKnown g) (count : ℕ) where
         (All-ordered g known (Subject v)) t c in
         let row = plain_row at.focus (Some t.o) (Some t.p) at.shape CLOSED in
         unless_off (is_allowed permitted ignored t.p) (row ∷ [])
-        (one_known row
-        (record { focus = focus; value = numbers.o; predicate = numbers.p; shape = shape }))))
+        (one_known row (plain_known (Some t.o) (Some t.p) numbers.o numbers.p CLOSED))))
 
     -- ---- of a constraint, by what is so of the pairs that it asks
 
@@ -127,7 +150,10 @@ module _ (g : Graph) (known : AllKnown g) (count : ℕ) where
       hits_known (any.And c) = each_known _ AND vs values
       hits_known (any.Or c) = each_known _ OR vs values
       hits_known (any.Xone c) = each_known _ XONE vs values
-      hits_known (any.Node c) = each_known _ NODE vs values
+      hits_known (any.Node c) =
+          All_of_parts IsKnown (λ v. resting_on (m (pair_of v c.shape)) NODE at v) vs (λ v i.
+          let inside = each_of_All (λ id. id < length g.terms) vs values v i in
+          resting_known (m (pair_of v c.shape)) NODE v inside (told (pair_of v c.shape) inside))
       hits_known (any.Property c) =
           All_of_parts IsKnown (λ v. m (pair_of v c.shape)) vs (λ v i.
           told (pair_of v c.shape) (each_of_All (λ id. id < length g.terms) vs values v i))

@@ -8,8 +8,10 @@ use Rattle.graph_view.specs.declared.key.Key.TheVariants.{In, Out, Predicate, Su
 use Rattle.graph_view.specs.Agree.{Agree}
 use Rattle.graph_view.specs.Graph.{Graph, AllKnown}
 use Rattle.comp_core.specs.declared.pair.Pair.{Pair}
+use Rattle.comp_core.specs.declared.detail.DetailRow.{DetailRow}
 use Rattle.comp_core.specs.declared.row.ResultRow.{ResultRow}
 use Rattle.comp_core.specs.Laws.{SameAnswers}
+use Rattle.comp_core.specs.Rows.{detail_of}
 use Rattle.shape_eval.specs.declared.shape.PlanShape.{PlanShape}
 use Rattle.shape_eval.specs.Plan.{IsKnownPlan, RefersLower}
 use Rattle.shape_eval.specs.Results.{pair_reads, reads_within, results, results_within}
@@ -48,12 +50,17 @@ LevelsDoNotMatter =
 
 -- ---- the numbers in what is found and read
 
--- the numbers in a result have terms, and its shape is one of so many
-pub record IsKnownRow (terms : List Term) (count : ℕ) (row : ResultRow) : Type 0 where
+-- the numbers in what was found have terms, and its shape is one of so many
+pub record IsKnownFinding (terms : List Term) (count : ℕ) (row : DetailRow) : Type 0 where
   pub focus : row.focus < length terms
   pub value : IfSome row.value (λ id. id < length terms)
   pub predicate : IfSome row.predicate (λ id. id < length terms)
   pub shape : row.shape < count
+
+-- of a result, and of each on which it rests
+pub record IsKnownRow (terms : List Term) (count : ℕ) (row : ResultRow) : Type 0 where
+  pub found : IsKnownFinding terms count (detail_of row)
+  pub details : All (IsKnownFinding terms count) row.details
 
 -- the numbers in a key have terms
 abbrev pub IsKnownKey : List Term → Key → Type 0

@@ -71,18 +71,9 @@ impl<N: Notes> Conform for Table<N> {
         Ok(answer.rows.is_empty())
     }
 
-    fn results(
-        &self,
-        alloc: Global,
-        pair: &Pair,
-        reads: &mut N,
-        out: &mut Vec<ResultRow>,
-    ) -> Result<(), Memory> {
+    fn results(&self, pair: &Pair, reads: &mut N) -> Result<&[ResultRow], Memory> {
         let answer = self.answer(pair);
         reads.add_all(&answer.reads)?;
-        for row in &answer.rows {
-            out.push(row.copy(alloc)?)?;
-        }
-        Ok(())
+        Ok(&answer.rows)
     }
 }

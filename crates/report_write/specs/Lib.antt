@@ -7,4 +7,5 @@ pub mod ResultLines
 pub mod ResultNames
 pub mod ResultPaths
 pub mod Roles
+pub mod SourceShapes
 pub mod inner

@@ -110,21 +110,23 @@ fn add_row<W: Pieces>(row: &ResultRow, plan: &Plan, pool: &Pool, format: Format,
     if row.shape >= plan.len() {
         return;
     }
-    add_result(row, plan.shape(row.shape), pool, format, out);
+    add_result(row, plan.shape(row.shape), plan, pool, format, out);
 }
 
 fn add_result<W: Pieces>(
     row: &ResultRow,
     shape: &PlanShape,
+    plan: &Plan,
     pool: &Pool,
     format: Format,
     out: &mut W,
 )
-    ensures { W.added out.old out.new (result_text format pool.now.terms row.now shape.now) }
+    ensures { W.added out.old out.new
+        (result_text format pool.now.terms (plan_of plan.now).shapes row.now shape.now) }
 {
     match format {
-        Format::Lines => add_lines(row, shape, pool, out),
-        Format::Turtle => add_block(row, shape, pool, out),
+        Format::Lines => add_lines(row, shape, plan, pool, out),
+        Format::Turtle => add_block(row, shape, plan, pool, out),
     }
 }
 

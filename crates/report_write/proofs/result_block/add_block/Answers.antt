@@ -3,5 +3,6 @@ use Rattle.report_write.proofs.result_block.add_block.Goals as goal
 
 pub returns : goal.returns
 returns g c =
-    four_in_turn g.met.W.Pieces.added_in_turn c.add.ensures c.add_found.ensures c.add_origin.ensures
-    c.add-2.ensures
+    let found = rw (c.without_details.ensures, c.deref.ensures.value) at c.add_finding.ensures in
+    let details = rw c.as_slice.ensures at c.add_details.ensures in
+    four_in_turn g.met.W.Pieces.added_in_turn c.add.ensures found details c.add-2.ensures

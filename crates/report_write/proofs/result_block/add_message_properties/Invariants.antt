@@ -6,5 +6,5 @@ use Rattle.report_write.proofs.result_block.add_message_properties.Given as goal
 abbrev pub invariant-loop-message : goal.invariant-loop-message
 invariant-loop-message g l =
     g.W.Pieces.added l.fn.out l.out
-    (flat_map (λ message. property_text (codes "resultMessage") (number_text l.pool.terms message))
+    (flat_map (λ message. property_text l.before (codes "resultMessage") (number_text l.pool.terms message))
     (take l.message-index l.messages))

@@ -3,6 +3,5 @@ use Rattle.report_write.proofs.result_block.add_origin.Goals as goal
 
 pub returns : goal.returns
 returns g c =
-    let messages = rw c.deref.ensures.value at c.add_message_properties.ensures in
     four_in_turn g.met.W.Pieces.added_in_turn c.add_term_property.ensures c.add_component_property.ensures
-    messages c.add_term_property-2.ensures
+    c.add_message_properties.ensures c.add_term_property-2.ensures

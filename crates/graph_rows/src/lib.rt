@@ -4,7 +4,9 @@
 //! |---|---|
 //! | `tests/letters.rt` | terms of every kind by letters, and triples and graphs by them |
 //! | `tests/keys.rt` | which keys a triple touches, and sets of keys |
-//! | `tests/questions.rt` | what is looked up in a graph, and whether two graphs are the same |
+//! | `tests/found.rt` | what look-ups find |
+//! | `tests/questions.rt` | questions to a graph, and whether two graphs are the same |
+//! | `tests/ending.rt`, `tests/change.rt` | how an edit ends, and a change of a graph |
 //! | `tests/steps.rt` | a step that changes a graph, or asks it, with its answer |
 //! | `tests/cuts.rt` | a step that takes terms out of the pool |
 //! | `tests/edits.rt` | graphs that go through the steps of `tests/edits/rows.rt` |

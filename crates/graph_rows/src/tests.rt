@@ -1,7 +1,10 @@
+mod change;
 mod changes;
 mod cuts;
 mod dealt;
 mod edits;
+mod ending;
+mod found;
 mod graphs;
 mod keys;
 mod letters;

@@ -2,63 +2,67 @@ mod predicates;
 mod rows;
 
 use super::made::graph;
-use super::names::{add_list, add_name, add_names};
+use super::names::{Words, add_list, add_name, add_names};
 use super::paths::add_reading;
 use graph_view::{GraphView, ListGraph};
 use row_tools::{RowFault, all_blocks_met, all_met, cut, number};
 use shape_decl::{Declared, ListValue, ShapeDecl, collect, find_shapes, sparql_count};
 use shx_term::vocabulary::vocabulary_rows;
-use shx_term::{Id, Limits, Memory, Pool};
+use shx_term::{Id, Limits, Pool};
 use std::alloc::Global;
 use std::test::Fail;
 
-// The values of a declaration by their predicates, and its lists.
-fn add_values(pool: &Pool, decl: &ShapeDecl, out: &mut String) -> Result<(), Memory> {
-    for declared in &decl.values {
-        out.push_str(" | ")?;
-        add_name(pool, declared.predicate, out)?;
-        add_names(pool, &declared.values, out)?;
+// The values of a declaration by their predicates.
+fn add_values(pool: &Pool, values: &[Declared], out: &mut Words) {
+    for declared in values {
+        out.add(" | ");
+        add_name(pool, declared.predicate, out);
+        add_names(pool, &declared.values, out);
     }
-    for list in &decl.lists {
-        out.push_str(" | list ")?;
-        add_name(pool, list.head, out)?;
-        out.push_str(" ")?;
-        add_list(pool, &list.members, out)?;
+}
+
+fn add_lists(pool: &Pool, lists: &[ListValue], out: &mut Words) {
+    for list in lists {
+        out.add(" | list ");
+        add_name(pool, list.head, out);
+        out.add(" ");
+        add_list(pool, &list.members, out);
     }
-    Ok(())
 }
 
 // A declaration as a line: the shape, which class it is an instance of, the values of its predicates, its
 // lists, and the reading of its path.
-fn add_declaration(pool: &Pool, decl: &ShapeDecl, out: &mut String) -> Result<(), Memory> {
-    add_name(pool, decl.node, out)?;
-    if decl.is_node_shape {
-        out.push_str(" | is NodeShape")?;
-    }
-    if decl.is_class {
-        out.push_str(" | is Class")?;
-    }
-    add_values(pool, decl, out)?;
+fn add_declaration(pool: &Pool, decl: &ShapeDecl, out: &mut Words) {
+    add_name(pool, decl.node, out);
+    out.add(if decl.is_node_shape {
+        " | is NodeShape"
+    } else {
+        ""
+    });
+    out.add(if decl.is_class { " | is Class" } else { "" });
+    add_values(pool, &decl.values, out);
+    add_lists(pool, &decl.lists, out);
     if let Some(reading) = &decl.path {
-        out.push_str(" | reads ")?;
-        add_reading(pool, reading, out)?;
+        out.add(" | reads ");
+        add_reading(pool, reading, out);
     }
-    Ok(out.push_str("\n")?)
+    out.add("\n");
 }
 
-fn declarations(alloc: Global, graph: &ListGraph) -> Result<String, Memory> {
-    let mut out = String::new(alloc);
-    for decl in &collect(alloc, graph, &Limits::program())? {
-        add_declaration(graph.pool(), decl, &mut out)?;
+fn add_declarations(pool: &Pool, decls: &[ShapeDecl], out: &mut Words) {
+    for decl in decls {
+        add_declaration(pool, decl, out);
     }
-    Ok(out)
 }
 
 // A row has the statements of a graph, and then a line for each declaration, if any.
 fn is_as_said(alloc: Global, row: &str) -> Result<bool, RowFault> {
     let (text, due) = row.split_once('\n').unwrap_or((row, ""));
-    let found = declarations(alloc, &graph(alloc, text)?)?;
-    Ok(found.as_str().trim_end() == due.trim_end())
+    let graph = graph(alloc, text)?;
+    let decls = collect(alloc, &graph, &Limits::program())?;
+    let mut found = Words::new(alloc);
+    add_declarations(graph.pool(), &decls, &mut found);
+    found.are(due)
 }
 
 #[test]
@@ -66,12 +70,15 @@ fn declared(rt: HostRuntime) -> Result<(), Fail> {
     all_blocks_met(rt.alloc(), rows::ROWS, is_as_said)
 }
 
-fn nodes_of(alloc: Global, decls: &[ShapeDecl]) -> Result<Vec<Id>, Memory> {
-    let mut nodes = Vec::new(alloc);
+fn are_nodes_of(decls: &[ShapeDecl], nodes: &[Id]) -> bool {
+    let mut left = nodes;
     for decl in decls {
-        nodes.push(decl.node)?;
+        match left.split_first() {
+            Some((node, rest)) if *node == decl.node => left = rest,
+            _ => return false,
+        }
     }
-    Ok(nodes)
+    left.is_empty()
 }
 
 fn are_headed_by(lists: &[ListValue], heads: &[Id]) -> bool {
@@ -103,8 +110,7 @@ fn is_found_again(alloc: Global, row: &str) -> Result<bool, RowFault> {
     let graph = graph(alloc, text)?;
     let found = find_shapes(alloc, &graph)?;
     let decls = collect(alloc, &graph, &Limits::program())?;
-    let nodes = nodes_of(alloc, &decls)?;
-    Ok(found.as_slice() == nodes.as_slice() && have_all_under(&decls))
+    Ok(are_nodes_of(&decls, &found) && have_all_under(&decls))
 }
 
 #[test]
@@ -112,20 +118,28 @@ fn found_again(rt: HostRuntime) -> Result<(), Fail> {
     all_blocks_met(rt.alloc(), rows::ROWS, is_found_again)
 }
 
-// The shapes of a graph, with a blank before each.
-fn names(alloc: Global, graph: &ListGraph) -> Result<String, Memory> {
-    let decls = collect(alloc, graph, &Limits::program())?;
-    let mut out = String::new(alloc);
-    add_names(graph.pool(), &nodes_of(alloc, &decls)?, &mut out)?;
-    Ok(out)
+// The shapes, with a blank before each.
+fn add_shapes(pool: &Pool, decls: &[ShapeDecl], out: &mut Words) {
+    for decl in decls {
+        out.add(" ");
+        add_name(pool, decl.node, out);
+    }
+}
+
+// Whether a text's graph has those shapes.
+fn has_shapes(alloc: Global, text: &str, due: &str) -> Result<bool, RowFault> {
+    let graph = graph(alloc, text)?;
+    let decls = collect(alloc, &graph, &Limits::program())?;
+    let mut found = Words::new(alloc);
+    add_shapes(graph.pool(), &decls, &mut found);
+    found.are(due)
 }
 
 // Whether the statement `a P b` alone makes those nodes shapes that the row of P names.
 fn are_shapes(alloc: Global, row: &str) -> Result<bool, RowFault> {
     let (predicate, due) = cut(row, " =")?;
     let text = format!(in alloc; "a {predicate} b")?;
-    let graph = graph(alloc, text.as_str())?;
-    Ok(names(alloc, &graph)?.as_str() == due)
+    has_shapes(alloc, text.as_str(), due)
 }
 
 #[test]

@@ -1,5 +1,5 @@
 use super::made::{graph, number};
-use super::names::add_list;
+use super::names::{Words, add_list};
 use graph_view::GraphView;
 use row_tools::{RowFault, all_met, in_three};
 use shape_decl::read_list;
@@ -60,9 +60,9 @@ fn is_as_said(alloc: Global, row: &str) -> Result<bool, RowFault> {
     let mut graph = graph(alloc, text)?;
     let head = number(alloc, &mut graph, head)?;
     let members = read_list(alloc, &graph, head)?;
-    let mut found = String::new(alloc);
-    add_list(graph.pool(), &members, &mut found)?;
-    Ok(found.as_str() == due)
+    let mut found = Words::new(alloc);
+    add_list(graph.pool(), &members, &mut found);
+    found.are(due)
 }
 
 #[test]

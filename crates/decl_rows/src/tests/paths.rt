@@ -1,60 +1,55 @@
 mod rows;
 
 use super::made::{graph, number};
-use super::names::add_name;
+use super::names::{Words, add_name};
 use graph_view::GraphView;
 use path_eval::Path;
 use row_tools::{RowFault, all_met, cut, in_three};
 use shape_decl::{PathReading, read_path};
-use shx_term::{Limits, Memory, Pool};
+use shx_term::{Limits, Pool};
 use std::alloc::Global;
 use std::test::Fail;
 
 // A path as a text: `(p/q)`, `(p|q)`, and `^p`, `*p`, `+p`, `?p` with the mark in front.
 #[cycle(spell)]
-fn spell(pool: &Pool, path: &Path, out: &mut String) -> Result<(), Memory> {
+fn spell(pool: &Pool, path: &Path, out: &mut Words) {
     match path {
         Path::Pred(p) => add_name(pool, *p, out),
-        Path::Seq(parts) => Ok(spell_all(pool, parts, "/", out)?),
-        Path::Alt(members) => Ok(spell_all(pool, members, "|", out)?),
-        Path::Inverse(inner) => Ok(spell_marked(pool, "^", inner, out)?),
-        Path::ZeroOrMore(inner) => Ok(spell_marked(pool, "*", inner, out)?),
-        Path::OneOrMore(inner) => Ok(spell_marked(pool, "+", inner, out)?),
-        Path::ZeroOrOne(inner) => Ok(spell_marked(pool, "?", inner, out)?),
+        Path::Seq(parts) => spell_all(pool, parts, "/", out),
+        Path::Alt(members) => spell_all(pool, members, "|", out),
+        Path::Inverse(inner) => spell_marked(pool, "^", inner, out),
+        Path::ZeroOrMore(inner) => spell_marked(pool, "*", inner, out),
+        Path::OneOrMore(inner) => spell_marked(pool, "+", inner, out),
+        Path::ZeroOrOne(inner) => spell_marked(pool, "?", inner, out),
     }
 }
 
 #[cycle(spell)]
-fn spell_marked(pool: &Pool, mark: &str, inner: &Path, out: &mut String) -> Result<(), Memory> {
-    out.push_str(mark)?;
-    spell(pool, inner, out)
+fn spell_marked(pool: &Pool, mark: &str, inner: &Path, out: &mut Words) {
+    out.add(mark);
+    spell(pool, inner, out);
 }
 
 #[cycle(spell)]
-fn spell_all(pool: &Pool, parts: &[Path], mark: &str, out: &mut String) -> Result<(), Memory> {
-    out.push_str("(")?;
+fn spell_all(pool: &Pool, parts: &[Path], mark: &str, out: &mut Words) {
+    out.add("(");
     let mut between = false;
     for part in parts {
         if between {
-            out.push_str(mark)?;
+            out.add(mark);
         }
-        spell(pool, part, out)?;
+        spell(pool, part, out);
         between = true;
     }
-    out.push_str(")")?;
-    Ok(())
+    out.add(")");
 }
 
 /// Adds the path that was read, or why there is none.
-pub(super) fn add_reading(
-    pool: &Pool,
-    reading: &PathReading,
-    out: &mut String,
-) -> Result<(), Memory> {
+pub(super) fn add_reading(pool: &Pool, reading: &PathReading, out: &mut Words) {
     match reading {
         PathReading::Path(path) => spell(pool, path, out),
-        PathReading::Broken => Ok(out.push_str("Broken")?),
-        PathReading::TooDeep => Ok(out.push_str("TooDeep")?),
+        PathReading::Broken => out.add("Broken"),
+        PathReading::TooDeep => out.add("TooDeep"),
     }
 }
 
@@ -67,9 +62,9 @@ fn is_as_due(alloc: Global, limits: &Limits, row: &str) -> Result<bool, RowFault
     let mut graph = graph(alloc, text)?;
     let head = number(alloc, &mut graph, head)?;
     let reading = read_path(alloc, &graph, head, limits)?;
-    let mut found = String::new(alloc);
-    add_reading(graph.pool(), &reading, &mut found)?;
-    Ok(found.as_str() == due)
+    let mut found = Words::new(alloc);
+    add_reading(graph.pool(), &reading, &mut found);
+    found.are(due)
 }
 
 fn is_as_said(alloc: Global, row: &str) -> Result<bool, RowFault> {

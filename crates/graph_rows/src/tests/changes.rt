@@ -1,7 +1,9 @@
 mod rows;
 
-use super::letters::{graph_of, key_of, store_of};
-use super::questions::{all_of, answers, is_same};
+use super::change::Change;
+use super::ending::{Ending, ending_of};
+use super::letters::{graph_of, key_of, store_from};
+use super::questions::{answers, is_same};
 use super::steps::{exchanged, is_countable, is_patch};
 use due_view::DueView;
 use graph_view::{GraphEdit, GraphView, ListGraph, Patched, Reads};
@@ -13,10 +15,10 @@ use std::test::Fail;
 fn patched_answers<V: GraphView>(
     alloc: Global,
     base: &V,
-    (added, removed): (&ListGraph, &ListGraph),
-    question: &str,
-    due: &str,
+    change: &Change,
+    (question, due): (&str, &str),
 ) -> Result<bool, RowFault> {
+    let (added, removed) = (&change.added, &change.removed);
     if !is_patch(base, added, removed) || !is_countable(base, added, removed) {
         return Err(RowFault::Unread);
     }
@@ -24,31 +26,47 @@ fn patched_answers<V: GraphView>(
     answers(alloc, &view, question, due)
 }
 
-// The key of a question, if it has one.
-fn keys_of(alloc: Global, question: &str) -> Result<Reads, RowFault> {
+// The same where the base may be asked the question's key alone, if any.
+fn due_answers<V: GraphView>(
+    alloc: Global,
+    base: &V,
+    change: &Change,
+    (question, due): (&str, &str),
+) -> Result<bool, RowFault> {
     let mut keys = Reads::new(alloc);
     if question.contains('?') {
         keys.add(key_of(question)?)?;
     }
-    Ok(keys)
+    patched_answers(alloc, &DueView::new(base, &keys), change, (question, due))
 }
 
-// The same by the row's change and question, where the base may be asked the question's key alone, if any.
-fn answers_as_said<V: GraphView>(alloc: Global, base: &V, row: &str) -> Result<bool, RowFault> {
-    let (added, removed, question, due) = in_four(row, "|")?;
-    let keys = keys_of(alloc, question)?;
-    let added = graph_of(alloc, 75, 100, added)?;
-    let removed = graph_of(alloc, 75, 100, removed)?;
-    let view = DueView::new(base, &keys);
-    patched_answers(alloc, &view, (&added, &removed), question, due)
+fn list_answers(
+    alloc: Global,
+    base: &str,
+    change: &Change,
+    asked: (&str, &str),
+) -> Result<bool, RowFault> {
+    let graph = graph_of(alloc, 75, 100, base)?;
+    due_answers(alloc, &graph, change, asked)
+}
+
+fn store_answers(
+    alloc: Global,
+    base: &str,
+    change: &Change,
+    asked: (&str, &str),
+) -> Result<bool, RowFault> {
+    let store = store_from(alloc, graph_of(alloc, 75, 100, base)?)?;
+    due_answers(alloc, &store, change, asked)
 }
 
 // Whether the row's base of either kind, with the row's change, answers the row's question as is due.
 fn is_answered(alloc: Global, row: &str) -> Result<bool, RowFault> {
     let (base, row) = cut(row, ": ")?;
-    let list = graph_of(alloc, 75, 100, base)?;
-    let store = store_of(alloc, 100, base)?;
-    Ok(answers_as_said(alloc, &list, row)? && answers_as_said(alloc, &store, row)?)
+    let (added, removed, question, due) = in_four(row, "|")?;
+    let change = Change::of(alloc, removed, added)?;
+    let asked = (question, due);
+    Ok(list_answers(alloc, base, &change, asked)? && store_answers(alloc, base, &change, asked)?)
 }
 
 #[test]
@@ -65,110 +83,106 @@ fn changes_stand_first_last_and_between(rt: HostRuntime) -> Result<(), Fail> {
 fn is_patched_as<V: GraphView>(
     alloc: Global,
     base: &ListGraph,
-    change: (&ListGraph, &ListGraph),
+    change: &Change,
     other: &V,
 ) -> Result<bool, RowFault> {
-    let all = all_of(alloc, other)?;
-    patched_answers(alloc, base, change, "all", all.as_str().trim_end())
+    let (added, removed) = (&change.added, &change.removed);
+    if !is_patch(base, added, removed) || !is_countable(base, added, removed) {
+        return Err(RowFault::Unread);
+    }
+    let view = Patched::new(base, added.triples(), removed.triples());
+    Ok(is_same(alloc, &view, other)?)
 }
 
-// Whether a change that is made is as it was looked through, and can be taken back.
-fn is_taken_back<E: GraphEdit>(
+// Whether a change of a graph that is as the base ends as is due, is as it was looked through if it is made,
+// and can be taken back.
+fn is_made<E: GraphEdit>(
     alloc: Global,
     base: &ListGraph,
-    (added, removed): (&ListGraph, &ListGraph),
+    change: &Change,
     graph: &mut E,
+    due: Ending,
 ) -> Result<bool, RowFault> {
+    if exchanged(graph, &change.added, &change.removed)? != due {
+        return Ok(false);
+    }
+    if due != Ending::Done {
+        return Ok(true);
+    }
     Ok(
-        is_patched_as(alloc, base, (added, removed), graph)?
-            && exchanged(graph, removed, added)? == "done",
+        is_patched_as(alloc, base, change, graph)?
+            && exchanged(graph, &change.removed, &change.added)? == Ending::Done,
     )
 }
 
-// Whether a change of a graph that is as the base ends as is due, and leaves nothing when it is refused or
-// taken back.
+// The same, where a change leaves nothing when it is refused or taken back.
 fn ends_as_due<E: GraphEdit>(
     alloc: Global,
     base: &ListGraph,
-    (added, removed): (&ListGraph, &ListGraph),
+    change: &Change,
     graph: &mut E,
-    due: &str,
+    due: Ending,
 ) -> Result<bool, RowFault> {
-    if exchanged(graph, added, removed)? != due {
-        return Ok(false);
-    }
-    if due == "done" && !is_taken_back(alloc, base, (added, removed), graph)? {
-        return Ok(false);
-    }
-    Ok(is_same(alloc, base, graph)?)
-}
-
-// The same, by the words of the removed triples.
-fn ends_without<E: GraphEdit>(
-    alloc: Global,
-    base: &ListGraph,
-    added: &ListGraph,
-    removed: &str,
-    graph: &mut E,
-    due: &str,
-) -> Result<bool, RowFault> {
-    let removed = graph_of(alloc, 75, 100, removed)?;
-    ends_as_due(alloc, base, (added, &removed), graph, due)
-}
-
-// The same, by the row's change and how it ends.
-fn ends_as_said<E: GraphEdit>(
-    alloc: Global,
-    base: &ListGraph,
-    graph: &mut E,
-    row: &str,
-) -> Result<bool, RowFault> {
-    let (removed, added, due) = in_three(row, "|")?;
-    let added = graph_of(alloc, 75, 100, added)?;
-    ends_without(alloc, base, &added, removed, graph, due)
+    Ok(is_made(alloc, base, change, graph, due)? && is_same(alloc, base, graph)?)
 }
 
 // The same of a plain graph, where a change that is refused leaves the very list of triples.
 fn ends_in_a_list(
     alloc: Global,
     base: &ListGraph,
+    change: &Change,
     graph: &mut ListGraph,
-    row: &str,
+    due: Ending,
 ) -> Result<bool, RowFault> {
-    let ends = ends_as_said(alloc, base, graph, row)?;
-    Ok(ends && (!row.ends_with("|full") || graph.triples() == base.triples()))
+    let ends = ends_as_due(alloc, base, change, graph, due)?;
+    Ok(ends && (due != Ending::Full || graph.triples() == base.triples()))
 }
 
-fn is_changed_in_a_list(
+fn list_ends(
     alloc: Global,
-    (limit, words): (u64, &str),
+    made_of: (u64, &str),
     base: &ListGraph,
-    row: &str,
+    change: &Change,
+    due: Ending,
 ) -> Result<bool, RowFault> {
-    let mut graph = graph_of(alloc, 75, limit, words)?;
-    ends_in_a_list(alloc, base, &mut graph, row)
+    let mut graph = graph_of(alloc, 75, made_of.0, made_of.1)?;
+    ends_in_a_list(alloc, base, change, &mut graph, due)
 }
 
-fn is_changed_in_a_store(
+fn store_ends(
     alloc: Global,
-    (limit, words): (u64, &str),
+    made_of: (u64, &str),
     base: &ListGraph,
-    row: &str,
+    change: &Change,
+    due: Ending,
 ) -> Result<bool, RowFault> {
-    let mut store = store_of(alloc, limit, words)?;
-    ends_as_said(alloc, base, &mut store, row)
+    let mut store = store_from(alloc, graph_of(alloc, 75, made_of.0, made_of.1)?)?;
+    ends_as_due(alloc, base, change, &mut store, due)
+}
+
+// Whether the change of a graph of either kind ends as is due.
+fn ends_in_both(
+    alloc: Global,
+    made_of: (u64, &str),
+    change: &Change,
+    due: Ending,
+) -> Result<bool, RowFault> {
+    let base = graph_of(alloc, 75, made_of.0, made_of.1)?;
+    Ok(
+        list_ends(alloc, made_of, &base, change, due)?
+            && store_ends(alloc, made_of, &base, change, due)?,
+    )
 }
 
 // Whether the row's change of a graph of either kind, that may hold as many triples as the row says, ends as
 // it says.
 fn is_changed(alloc: Global, row: &str) -> Result<bool, RowFault> {
     let (limit, words, row) = in_three(row, ": ")?;
+    let (removed, added, due) = in_three(row, "|")?;
     let made_of = (u64::from(number(limit)?), words);
-    let base = graph_of(alloc, 75, made_of.0, words)?;
-    Ok(
-        is_changed_in_a_list(alloc, made_of, &base, row)?
-            && is_changed_in_a_store(alloc, made_of, &base, row)?,
-    )
+    let due = ending_of(due)?;
+    let change = Change::of(alloc, removed, added)?;
+    ends_in_both(alloc, made_of, &change, due)
 }
 
 #[test]

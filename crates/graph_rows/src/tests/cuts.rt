@@ -3,6 +3,7 @@ ghost use Rattle.std.specs.Prelude.{◌≤◌, ◌<◌, length, take, All, IsTru
 ghost use Rattle.shx_term.specs.Members.{SameMembers};
 ghost use Rattle.graph_view.specs.Graph.{IsKnownTriple};
 
+use super::ending::Ending;
 use super::letters::graph_of;
 use super::steps::are_held;
 use graph_view::{GraphEdit, GraphView, ListGraph};
@@ -39,22 +40,22 @@ fn can_be_cut<V: GraphView>(view: &V, held: &ListGraph, len: Id) -> bool
     are_all(view, held) && are_below(held.triples(), len)
 }
 
-fn cut_back<E: GraphEdit>(graph: &mut E, held: &ListGraph, len: Id) -> Result<(), RowFault> {
+fn cut_back<E: GraphEdit>(graph: &mut E, held: &ListGraph, len: Id) -> Result<Ending, RowFault> {
     if len < VOCABULARY_LEN || len > graph.pool().len() || !can_be_cut(graph, held, len) {
         return Err(RowFault::Unread);
     }
     graph.cut(len);
-    Ok(())
+    Ok(Ending::Done)
 }
 
-/// Takes the terms from a number on out, and says that it did.
+/// Takes the terms from a number on out.
 pub(super) fn cuts<E: GraphEdit>(
     alloc: Global,
     graph: &mut E,
     words: &str,
-) -> Result<&'static str, RowFault> {
+) -> Result<Ending, RowFault> {
     let (len, words) = cut(words, ":")?;
+    let len = number(len)?;
     let held = graph_of(alloc, 75, 100, words)?;
-    cut_back(graph, &held, number(len)?)?;
-    Ok("done")
+    cut_back(graph, &held, len)
 }

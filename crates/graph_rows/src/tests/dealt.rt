@@ -1,4 +1,5 @@
 //! Stores that are made of triples at once: of few for their terms, and of so many that they are dealt.
+use super::ending::Ending;
 use super::letters::{LETTERS_END, graph_of};
 use super::questions::is_same;
 use super::steps::{are_known, inserted};
@@ -37,7 +38,7 @@ fn triples_below(alloc: Global, many: u32) -> Result<Vec<Triple>, RowFault> {
 fn graph_below(alloc: Global, many: u32) -> Result<ListGraph, RowFault> {
     let mut graph = graph_of(alloc, LETTERS_END, LIMIT, "")?;
     for number in 0..many {
-        if inserted(&mut graph, triple_at(number))? != "new" {
+        if inserted(&mut graph, triple_at(number))? != Ending::New {
             return Err(RowFault::Unread);
         }
     }
@@ -54,13 +55,22 @@ fn store_over(alloc: Global, graph: ListGraph, triples: Vec<Triple>) -> Result<S
     Err(RowFault::Unread)
 }
 
-// Whether the store of so many triples, of which some are given twice, is the same as a plain graph.
+// The store of so many triples, of which some are given twice.
+fn store_below(alloc: Global, many: u32) -> Result<Store, RowFault> {
+    let triples = triples_below(alloc, many)?;
+    store_over(alloc, graph_of(alloc, LETTERS_END, LIMIT, "")?, triples)
+}
+
+fn is_store_of(alloc: Global, many: u32, plain: &ListGraph) -> Result<bool, RowFault> {
+    let store = store_below(alloc, many)?;
+    Ok(is_same(alloc, &store, plain)?)
+}
+
+// Whether a store that is made at once is the same as a plain graph.
 fn is_same_as_plain(alloc: Global, row: &str) -> Result<bool, RowFault> {
     let many = number(row)?;
-    let graph = graph_of(alloc, LETTERS_END, LIMIT, "")?;
-    let store = store_over(alloc, graph, triples_below(alloc, many)?)?;
     let plain = graph_below(alloc, many)?;
-    Ok(is_same(alloc, &store, &plain)?)
+    is_store_of(alloc, many, &plain)
 }
 
 const MANY: &str = "\

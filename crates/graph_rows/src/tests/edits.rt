@@ -16,6 +16,10 @@ fn graph_of_block(alloc: Global, line: &str) -> Result<ListGraph, RowFault> {
     graph_of(alloc, number(terms)?, u64::from(number(limit)?), words)
 }
 
+fn store_of_block(alloc: Global, line: &str) -> Result<Store, RowFault> {
+    Ok(Store::from_list(alloc, graph_of_block(alloc, line)?)?)
+}
+
 // Whether the pool and the triples of a graph, lent, are the same graph.
 fn is_lent_as_it_is(alloc: Global, graph: &ListGraph) -> Result<bool, RowFault> {
     let pool = graph.pool();
@@ -67,7 +71,7 @@ fn ends_as_filled(alloc: Global, store: &Store, line: &str, steps: &str) -> Resu
 // plain graph, which goes through them too.
 fn go_as_said(alloc: Global, block: &str) -> Result<bool, RowFault> {
     let (line, steps) = cut(block, "\n")?;
-    let mut store = Store::from_list(alloc, graph_of_block(alloc, line)?)?;
+    let mut store = store_of_block(alloc, line)?;
     Ok(goes_stored(alloc, &mut store, steps)? && ends_as_filled(alloc, &store, line, steps)?)
 }
 

@@ -1,27 +1,16 @@
 //! Terms by letters, triples by words of three letters, keys by words with `?` for what is looked up.
 use due_view::is_known_triple;
 use graph_view::{GraphEdit, GraphView, Key, ListGraph};
-use row_tools::{RowFault, cut, term, vocabulary_pool};
+use row_tools::{RowFault, term, vocabulary_pool};
 use shx_term::vocabulary::VOCABULARY_LEN;
 use shx_term::{Id, Triple};
 use std::alloc::Global;
 use triple_store::Store;
 
-// Terms of every kind, which are entered against their order: the higher the number, the lower the term.
-const TERMS: &str = "\
-x '5'
-y '5'^^integer
-z '5'@en
-t shapes#1
-u data#1
-s shapes:x
-r data:x
-q e:q
-p e:p
-d e:d
-c e:c
-b e:b
-a e:a";
+// Terms of every kind, those of the letters in the order of their numbers. They are entered against their own
+// order: the higher the number, the lower the term.
+const TERMS: &str = "'5' '5'^^integer '5'@en shapes#1 data#1 shapes:x data:x \
+e:q e:p e:d e:c e:b e:a";
 
 /// The first number behind those of the letters.
 pub(super) const LETTERS_END: Id = 75;
@@ -30,7 +19,7 @@ pub(super) const LETTERS_END: Id = 75;
 const LETTERS: &str = "xyztusrqpdcba";
 
 /// The number of a letter.
-fn number(letter: u8) -> Result<Id, RowFault> {
+pub(super) fn number(letter: u8) -> Result<Id, RowFault> {
     let mut id = VOCABULARY_LEN;
     for other in LETTERS.bytes() {
         if other == letter {
@@ -39,18 +28,6 @@ fn number(letter: u8) -> Result<Id, RowFault> {
         id = id.saturating_add(1);
     }
     Err(RowFault::Unread)
-}
-
-/// The letter of a number, or `!`.
-pub(super) fn letter(id: Id) -> char {
-    let mut number = VOCABULARY_LEN;
-    for letter in LETTERS.chars() {
-        if number == id {
-            return letter;
-        }
-        number = number.saturating_add(1);
-    }
-    '!'
 }
 
 /// The triple of a word.
@@ -76,14 +53,14 @@ pub(super) fn key_of(word: &str) -> Result<Key, RowFault> {
     }
 }
 
-// Enters the terms of some lines, whose numbers are those of their letters.
-fn enter_letters(alloc: Global, graph: &mut ListGraph, lines: &str) -> Result<(), RowFault> {
-    for line in lines.lines() {
-        let (name, word) = cut(line, " ")?;
-        let entered = graph.enter(&term(alloc, word)?)?;
-        if !name.starts_with(letter(entered)) {
-            return Err(RowFault::Unread);
-        }
+// Enters the terms of the letters.
+fn enter_letters(alloc: Global, graph: &mut ListGraph) -> Result<(), RowFault> {
+    for word in TERMS.split_whitespace() {
+        graph.enter(&term(alloc, word)?)?;
+    }
+    // They are as many terms, and so their numbers follow one another.
+    if graph.pool().len() != LETTERS_END {
+        return Err(RowFault::Unread);
     }
     Ok(())
 }
@@ -98,6 +75,11 @@ fn insert_all(graph: &mut ListGraph, words: &str) -> Result<(), RowFault> {
     Ok(())
 }
 
+fn fill(alloc: Global, graph: &mut ListGraph, words: &str) -> Result<(), RowFault> {
+    enter_letters(alloc, graph)?;
+    insert_all(graph, words)
+}
+
 /// The graph of some words over the terms of all letters, that may hold so many terms and triples.
 pub(super) fn graph_of(
     alloc: Global,
@@ -108,22 +90,16 @@ pub(super) fn graph_of(
     if terms < LETTERS_END {
         return Err(RowFault::Unread);
     }
-    let pool = vocabulary_pool(alloc, terms)?;
-    let mut graph = ListGraph::new(alloc, pool, limit);
-    enter_letters(alloc, &mut graph, TERMS)?;
-    insert_all(&mut graph, words)?;
+    let mut graph = ListGraph::new(alloc, vocabulary_pool(alloc, terms)?, limit);
+    fill(alloc, &mut graph, words)?;
     Ok(graph)
 }
 
-fn store_from(alloc: Global, graph: ListGraph) -> Result<Store, RowFault> {
+/// The store of a graph, made of all its triples at once.
+pub(super) fn store_from(alloc: Global, graph: ListGraph) -> Result<Store, RowFault> {
     let triples = graph.triples().to_vec(alloc)?;
     // Its numbers have terms.
     let _ = graph.pool();
     let limit = graph.limit();
     Ok(Store::from_triples(alloc, graph.into_pool(), triples, limit)?)
-}
-
-/// The store of those words, made of all their triples at once.
-pub(super) fn store_of(alloc: Global, limit: u64, words: &str) -> Result<Store, RowFault> {
-    store_from(alloc, graph_of(alloc, LETTERS_END, limit, words)?)
 }

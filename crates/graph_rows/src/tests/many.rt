@@ -1,7 +1,9 @@
 //! Many edits of one store. None goes over what is held, so that all of them end in time.
+use super::ending::Ending;
+use super::graphs::store_with_room;
 use super::steps::inserted;
-use graph_view::{GraphEdit, GraphView, ListGraph};
-use row_tools::{RowFault, all_met, number, vocabulary_pool};
+use graph_view::{GraphEdit, GraphView};
+use row_tools::{RowFault, all_met, number};
 use shx_term::Triple;
 use shx_term::vocabulary::VOCABULARY_LEN;
 use std::alloc::Global;
@@ -19,7 +21,7 @@ fn triple_at(number: u32) -> Triple {
 
 fn takes(store: &mut Store, many: u32) -> Result<bool, RowFault> {
     for number in 0..many {
-        if inserted(store, triple_at(number))? != "new" {
+        if inserted(store, triple_at(number))? != Ending::New {
             return Ok(false);
         }
     }
@@ -38,8 +40,7 @@ fn gives_up(store: &mut Store, many: u32) -> bool {
 // Whether a store with room for so many triples takes and gives up each of them.
 fn takes_and_gives_up(alloc: Global, row: &str) -> Result<bool, RowFault> {
     let many = number(row)?;
-    let pool = vocabulary_pool(alloc, VOCABULARY_LEN)?;
-    let mut store = Store::from_list(alloc, ListGraph::new(alloc, pool, u64::from(many)))?;
+    let mut store = store_with_room(alloc, VOCABULARY_LEN, many)?;
     Ok(takes(&mut store, many)? && gives_up(&mut store, many))
 }
 

@@ -5,30 +5,48 @@ ghost use Rattle.std.specs.Bool.{MatchBool};
 ghost use Rattle.graph_view.specs.Graph.{IsKnownTriple};
 ghost use Rattle.graph_view.specs.Patched.{IsPatch, patched};
 
+use super::change::Change;
 use super::cuts::cuts;
-use super::letters::{graph_of, triple_of};
+use super::ending::{Ending, ends};
+use super::letters::triple_of;
 use super::questions::answers;
 use due_view::is_known_triple;
 use graph_view::{GraphEdit, GraphView, ListGraph, StoreFault};
 use row_tools::{RowFault, cut, number, term};
-use shx_term::{PoolFault, Triple};
+use shx_term::{Id, PoolFault, Triple};
 use std::alloc::Global;
 
-/// Inserts a triple of terms that the graph has, and says how that ended.
-pub(super) fn inserted<E: GraphEdit>(graph: &mut E, t: Triple) -> Result<&'static str, RowFault> {
+fn ending_of_insert(outcome: Result<bool, StoreFault>) -> Result<Ending, RowFault> {
+    match outcome {
+        Ok(true) => Ok(Ending::New),
+        Ok(false) => Ok(Ending::Held),
+        Err(StoreFault::TooMany) => Ok(Ending::Full),
+        Err(StoreFault::Memory) => Err(RowFault::Memory),
+    }
+}
+
+/// Inserts a triple of terms that the graph has.
+pub(super) fn inserted<E: GraphEdit>(graph: &mut E, t: Triple) -> Result<Ending, RowFault> {
     if is_known_triple(graph, &t) {
-        return match graph.insert(t) {
-            Ok(true) => Ok("new"),
-            Ok(false) => Ok("held"),
-            Err(StoreFault::TooMany) => Ok("full"),
-            Err(StoreFault::Memory) => Err(RowFault::Memory),
-        };
+        return ending_of_insert(graph.insert(t));
     }
     Err(RowFault::Unread)
 }
 
-fn removed<E: GraphEdit>(graph: &mut E, t: &Triple) -> &'static str {
-    if graph.remove(t) { "gone" } else { "absent" }
+fn removed<E: GraphEdit>(graph: &mut E, t: &Triple) -> Ending {
+    if graph.remove(t) {
+        Ending::Gone
+    } else {
+        Ending::Absent
+    }
+}
+
+fn is_entered(outcome: Result<Id, PoolFault>, due: &str) -> Result<bool, RowFault> {
+    match outcome {
+        Ok(id) => Ok(number(due) == Ok(id)),
+        Err(PoolFault::Full) => Ok(due == "full"),
+        Err(PoolFault::Memory) => Err(RowFault::Memory),
+    }
 }
 
 fn enters<E: GraphEdit>(
@@ -37,11 +55,8 @@ fn enters<E: GraphEdit>(
     word: &str,
     due: &str,
 ) -> Result<bool, RowFault> {
-    match graph.enter(&term(alloc, word)?) {
-        Ok(id) => Ok(number(due) == Ok(id)),
-        Err(PoolFault::Full) => Ok(due == "full"),
-        Err(PoolFault::Memory) => Err(RowFault::Memory),
-    }
+    let term = term(alloc, word)?;
+    is_entered(graph.enter(&term), due)
 }
 
 /// Whether the graph holds all of the triples or, where `held` is false, none of them.
@@ -97,43 +112,58 @@ pub(super) fn is_countable<V: GraphView>(view: &V, added: &ListGraph, removed: &
     false
 }
 
-/// Does a change, and says how that ended.
+fn ending_of_exchange(outcome: Result<(), StoreFault>) -> Result<Ending, RowFault> {
+    match outcome {
+        Ok(()) => Ok(Ending::Done),
+        Err(StoreFault::TooMany) => Ok(Ending::Full),
+        Err(StoreFault::Memory) => Err(RowFault::Memory),
+    }
+}
+
+/// Does a change.
 pub(super) fn exchanged<E: GraphEdit>(
     graph: &mut E,
     added: &ListGraph,
     removed: &ListGraph,
-) -> Result<&'static str, RowFault> {
+) -> Result<Ending, RowFault> {
     let new = added.triples();
     let gone = removed.triples();
     if is_patch(graph, added, removed) {
-        return match graph.exchange(gone, new) {
-            Ok(()) => Ok("done"),
-            Err(StoreFault::TooMany) => Ok("full"),
-            Err(StoreFault::Memory) => Err(RowFault::Memory),
-        };
+        return ending_of_exchange(graph.exchange(gone, new));
     }
     Err(RowFault::Unread)
 }
 
-fn exchanges_for<E: GraphEdit>(
-    alloc: Global,
-    graph: &mut E,
-    removed: &ListGraph,
-    added: &str,
-) -> Result<&'static str, RowFault> {
-    let added = graph_of(alloc, 75, 100, added)?;
-    exchanged(graph, &added, removed)
+// The change of some words: those that are removed, a bar, and those that are added.
+fn exchanges<E: GraphEdit>(alloc: Global, graph: &mut E, words: &str) -> Result<Ending, RowFault> {
+    let (removed, added) = cut(words, "|")?;
+    let change = Change::of(alloc, removed, added)?;
+    exchanged(graph, &change.added, &change.removed)
 }
 
-// The change of some words: those that are removed, a bar, and those that are added.
-fn exchanges<E: GraphEdit>(
-    alloc: Global,
-    graph: &mut E,
-    words: &str,
-) -> Result<&'static str, RowFault> {
-    let (removed, added) = cut(words, "|")?;
-    let removed = graph_of(alloc, 75, 100, removed)?;
-    exchanges_for(alloc, graph, &removed, added)
+enum Step<'a> {
+    Insert(Triple),
+    Remove(Triple),
+    Exchange(&'a str),
+    Enter(&'a str),
+    Cut(&'a str),
+    Ask(&'a str),
+}
+
+fn step_of(text: &str) -> Result<Step<'_>, RowFault> {
+    if let Some(word) = text.strip_prefix('+') {
+        return Ok(Step::Insert(triple_of(word)?));
+    }
+    if let Some(word) = text.strip_prefix('-') {
+        return Ok(Step::Remove(triple_of(word)?));
+    }
+    match text.split_once(' ') {
+        Some(("exchange", words)) => Ok(Step::Exchange(words)),
+        Some(("enter", word)) => Ok(Step::Enter(word)),
+        Some(("cut", words)) => Ok(Step::Cut(words)),
+        Some(_) => Err(RowFault::Unread),
+        None => Ok(Step::Ask(text)),
+    }
 }
 
 /// Whether a step has the answer that is due.
@@ -143,17 +173,12 @@ pub(super) fn goes_on<E: GraphEdit>(
     step: &str,
 ) -> Result<bool, RowFault> {
     let (step, due) = cut(step, " → ")?;
-    if let Some(word) = step.strip_prefix('+') {
-        return Ok(inserted(graph, triple_of(word)?)? == due);
-    }
-    if let Some(word) = step.strip_prefix('-') {
-        return Ok(removed(graph, &triple_of(word)?) == due);
-    }
-    match step.split_once(' ') {
-        Some(("exchange", words)) => Ok(exchanges(alloc, graph, words)? == due),
-        Some(("enter", word)) => enters(alloc, graph, word, due),
-        Some(("cut", words)) => Ok(cuts(alloc, graph, words)? == due),
-        Some(_) => Err(RowFault::Unread),
-        None => answers(alloc, graph, step, due),
+    match step_of(step)? {
+        Step::Insert(t) => ends(inserted(graph, t), due),
+        Step::Remove(t) => ends(Ok(removed(graph, &t)), due),
+        Step::Exchange(words) => ends(exchanges(alloc, graph, words), due),
+        Step::Enter(word) => enters(alloc, graph, word, due),
+        Step::Cut(words) => ends(cuts(alloc, graph, words), due),
+        Step::Ask(question) => answers(alloc, graph, question, due),
     }
 }

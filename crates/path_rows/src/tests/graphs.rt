@@ -79,12 +79,16 @@ fn insert_all(graph: &mut ListGraph, words: &str) -> Result<(), RowFault> {
     Ok(())
 }
 
+fn fill(alloc: Global, graph: &mut ListGraph, triples: &str) -> Result<(), RowFault> {
+    enter_all(alloc, graph, TERMS)?;
+    insert_all(graph, triples)
+}
+
 /// The graph of a name.
 pub(super) fn graph(alloc: Global, name: &str) -> Result<ListGraph, RowFault> {
     let triples = named(GRAPHS, name)?;
     let pool = vocabulary_pool(alloc, VOCABULARY_LEN + 26)?;
     let mut graph = ListGraph::new(alloc, pool, 100);
-    enter_all(alloc, &mut graph, TERMS)?;
-    insert_all(&mut graph, triples)?;
+    fill(alloc, &mut graph, triples)?;
     Ok(graph)
 }

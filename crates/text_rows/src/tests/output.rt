@@ -29,6 +29,7 @@ fn a_put_that_fails_leaves_a_front(rt: HostRuntime) -> Result<(), Fail> {
 // Whether a text that is longer than the buffer stands between two others.
 fn puts_long_text(alloc: Global) -> Result<bool, RowFault> {
     let long = "x".repeat(alloc, 10000)?;
+    let want = format!(in alloc; "lines 12{} unchanged\n", long.as_str())?;
     let mut sink = MemorySink::new(alloc, 4096, Vec::new(alloc));
     let mut writer = Writer::new(&mut sink);
     writer.add(b"lines ");
@@ -36,7 +37,6 @@ fn puts_long_text(alloc: Global) -> Result<bool, RowFault> {
     writer.add(long.as_bytes());
     writer.add(b" unchanged\n");
     let is_put = writer.finish().is_ok();
-    let want = format!(in alloc; "lines 12{} unchanged\n", long.as_str())?;
     Ok(is_put && sink.bytes() == want.as_bytes())
 }
 
@@ -52,18 +52,23 @@ const MORE: &str = "\
 3|8192
 4|all";
 
+fn is_put(put: Result<(), WriteFault>, bytes: usize, due: &str) -> Result<bool, RowFault> {
+    match put {
+        Ok(()) => Ok(due == "all"),
+        Err(WriteFault) => Ok(bytes == number(due)? as usize),
+    }
+}
+
 fn puts_more(alloc: Global, row: &str) -> Result<bool, RowFault> {
     let (failing, due) = cut(row, "|")?;
-    let full = "x".repeat(alloc, 8192)?;
     let failing = vec![in alloc; u64::from(number(failing)?)]?;
+    let full = "x".repeat(alloc, 8192)?;
     let mut sink = MemorySink::new(alloc, 4096, failing);
     let mut writer = Writer::new(&mut sink);
     writer.add(full.as_bytes());
     writer.add(b"y");
-    match writer.finish() {
-        Ok(()) => Ok(due == "all"),
-        Err(WriteFault) => Ok(sink.bytes().len() == number(due)? as usize),
-    }
+    let put = writer.finish();
+    is_put(put, sink.bytes().len(), due)
 }
 
 #[test]
@@ -85,8 +90,9 @@ shapes#12|_:t-12
 fn puts_term(alloc: Global, row: &str) -> Result<bool, RowFault> {
     let (word, text) = cut(row, "|")?;
     let word = word.replace(alloc, "~", "\n")?;
+    let term = term(alloc, word.as_str())?;
     let mut sink = MemorySink::new(alloc, 3, Vec::new(alloc));
-    let written = write_term(&term(alloc, word.as_str())?, &mut sink);
+    let written = write_term(&term, &mut sink);
     Ok(written.is_ok() && sink.bytes() == text.as_bytes())
 }
 

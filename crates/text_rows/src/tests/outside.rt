@@ -1,21 +1,12 @@
-use super::holds;
+use super::{holds, named};
 use row_tools::{RowFault, all_met, in_four, number};
 use shx_outside::{
-    Bytes, Failed, FileInputs, HonestInputs, HonestSink, Inputs, Memory, MemoryInputs, MemorySink,
-    Name, NamedText, Role, Roomy, Sink,
+    Failed, FileInputs, HonestInputs, HonestSink, Inputs, Memory, MemoryInputs, MemorySink,
+    NamedText, Role, Roomy, Sink,
 };
 use std::alloc::Global;
 use std::test::Fail;
 use std::{env, fs, process};
-
-fn named(alloc: Global, name: &str, text: &str) -> Result<NamedText, Memory> {
-    let name = String::from_str(alloc, name)?;
-    let text = String::from_str(alloc, text)?;
-    Ok(NamedText {
-        name: Name::new(name),
-        bytes: Bytes::new(text.into_bytes()),
-    })
-}
 
 // Texts of two names, one of them twice.
 fn named_texts(alloc: Global) -> Result<Vec<NamedText>, Memory> {
@@ -26,44 +17,32 @@ fn named_texts(alloc: Global) -> Result<Vec<NamedText>, Memory> {
     Ok(files)
 }
 
-// Reads a text to its end and puts a bar behind each piece; `!` stands for an opening that fails, and `?` for
-// a read that does.
-fn read_all<I: Inputs>(
-    inputs: &mut I,
-    role: Role,
-    name: &str,
-    text: &mut Vec<u8>,
-) -> Result<(), Memory>
+// Whether that is what is read of a text, with a bar behind each piece; `!` stands for an opening that fails,
+// and `?` for a read that does.
+fn reads<I: Inputs>(inputs: &mut I, role: Role, name: &str, due: &str) -> bool
     requires { I.admits inputs.old role name.now }
 {
     if inputs.open(role, name).is_err() {
-        return Ok(text.push(b'!')?);
+        return due == "!";
     }
+    let mut left = due.as_bytes();
     let mut room = [0u8; 8];
     for _ in 0..u64::MAX {
         match inputs.read(role, &mut room) {
-            Ok(0) => return Ok(()),
-            Ok(count) => text.extend_from_slice(&room[..count])?,
-            Err(Failed) => return Ok(text.push(b'?')?),
+            Ok(0) => return left.is_empty(),
+            Ok(count) => match behind(left, &room[..count]) {
+                Some(rest) => left = rest,
+                None => return false,
+            },
+            Err(Failed) => return left == b"?".as_slice(),
         }
-        text.push(b'|')?;
     }
-    Ok(())
+    false
 }
 
-// Whether that is what is read of a text.
-fn reads<I: Inputs>(
-    alloc: Global,
-    inputs: &mut I,
-    role: Role,
-    name: &str,
-    due: &str,
-) -> Result<bool, RowFault>
-    requires { I.admits inputs.old role name.now }
-{
-    let mut text = Vec::new(alloc);
-    read_all(inputs, role, name, &mut text)?;
-    Ok(text.as_slice() == due.as_bytes())
+// What is due behind a piece and its bar, if the piece is due.
+fn behind<'a>(due: &'a [u8], piece: &[u8]) -> Option<&'a [u8]> {
+    due.strip_prefix(piece)?.strip_prefix(b"|")
 }
 
 // The number of the call that fails; and what is read, in pieces of three bytes, of the texts for the shapes,
@@ -80,9 +59,9 @@ fn are_read(alloc: Global, row: &str) -> Result<bool, RowFault> {
     let failing = vec![in alloc; u64::from(number(failing)?)]?;
     let mut inputs = MemoryInputs::new(named_texts(alloc)?, 3, failing);
     Ok(
-        reads(alloc, &mut inputs, Role::Shapes, "shapes", shapes)?
-            && reads(alloc, &mut inputs, Role::Data, "data", data)?
-            && reads(alloc, &mut inputs, Role::Script, "script", script)?,
+        reads(&mut inputs, Role::Shapes, "shapes", shapes)
+            && reads(&mut inputs, Role::Data, "data", data)
+            && reads(&mut inputs, Role::Script, "script", script),
     )
 }
 
@@ -100,9 +79,9 @@ fn a_listed_call_fails(rt: HostRuntime) -> Result<(), Fail> {
 fn are_read_honestly(alloc: Global) -> Result<bool, RowFault> {
     let mut inputs = HonestInputs::new(named_texts(alloc)?, 3);
     Ok(
-        reads(alloc, &mut inputs, Role::Shapes, "shapes", "sev|ent|h|")?
-            && reads(alloc, &mut inputs, Role::Script, "script", "")?
-            && reads(alloc, &mut inputs, Role::Data, "data", "fou|r|")?,
+        reads(&mut inputs, Role::Shapes, "shapes", "sev|ent|h|")
+            && reads(&mut inputs, Role::Script, "script", "")
+            && reads(&mut inputs, Role::Data, "data", "fou|r|"),
     )
 }
 
@@ -154,23 +133,18 @@ fn files_are_opened_by_their_paths(rt: HostRuntime) -> Result<(), Fail> {
     )?;
     fs::write(&rt, path.as_str(), b"ten bytes.".as_slice())?;
     let inputs = &mut FileInputs::new(&rt);
-    let is_read = reads(
-        rt.alloc(),
-        inputs,
-        Role::Data,
-        path.as_str(),
-        "ten byte|s.|",
-    );
+    let is_read = reads(inputs, Role::Data, path.as_str(), "ten byte|s.|");
     fs::remove_file(&rt, path.as_str())?;
-    holds(is_read)
+    holds(Ok(is_read))
 }
 
 // The first can't be opened, and the second can't be read.
 #[test]
 fn files_that_cannot_be_read_are_failures(rt: HostRuntime) -> Result<(), Fail> {
     let inputs = &mut FileInputs::new(&rt);
-    holds(reads(rt.alloc(), inputs, Role::Script, "no/such/file", "!"))?;
-    holds(reads(rt.alloc(), inputs, Role::Script, "/", "?"))
+    holds(Ok(
+        reads(inputs, Role::Script, "no/such/file", "!") && reads(inputs, Role::Script, "/", "?"),
+    ))
 }
 
 fn are_given_back(alloc: Global) -> Result<bool, RowFault> {

@@ -1,5 +1,5 @@
 use row_tools::{RowFault, all_blocks_met, all_met, cut, in_four, in_three, number};
-use shx_outside::{FailingHost, Flags, PatternFault, PatternHost, RegexHost};
+use shx_outside::{FailingHost, Flags, Memory, PatternFault, PatternHost, RegexHost};
 use std::alloc::Global;
 use std::test::Fail;
 
@@ -45,42 +45,53 @@ fn flags_of(letters: &str) -> Flags {
     }
 }
 
-// What comes of looking for a pattern in a text.
-fn outcome<H: PatternHost>(
+fn is_found(found: Result<bool, Memory>, wanted: &str) -> Result<bool, RowFault> {
+    Ok(wanted == if found? { "match" } else { "no match" })
+}
+
+fn is_fault(alloc: Global, fault: PatternFault, wanted: &str) -> Result<bool, RowFault> {
+    match fault {
+        PatternFault::Memory => Err(RowFault::Memory),
+        _ => Ok(format!(in alloc; "{fault}")?.as_str() == wanted),
+    }
+}
+
+// Whether a pattern is found in a text as is wanted: the text, and what is wanted.
+fn comes<H: PatternHost>(
     alloc: Global,
     host: &mut H,
     pattern: &str,
     flags: Flags,
-    text: &str,
-) -> Result<String, RowFault>
+    sought: (&str, &str),
+) -> Result<bool, RowFault>
     requires { H.admits host.old flags pattern.now }
 {
     match host.build(alloc, pattern, flags) {
-        Ok(pattern) => {
-            let is = pattern.is_match(alloc, text)?;
-            Ok(String::from_str(alloc, if is { "match" } else { "no match" })?)
-        }
-        Err(PatternFault::Memory) => Err(RowFault::Memory),
-        Err(fault) => Ok(format!(in alloc; "{fault}")?),
+        Ok(pattern) => is_found(pattern.is_match(alloc, sought.0), sought.1),
+        Err(fault) => is_fault(alloc, fault, sought.1),
     }
 }
 
-// Whether that is what is wanted, of a pattern without flags.
+// The same of a pattern without flags.
 fn comes_as(alloc: Global, pattern: &str, text: &str, wanted: &str) -> Result<bool, RowFault> {
-    let found = outcome(alloc, &mut RegexHost::new(), pattern, flags_of(""), text)?;
-    Ok(found.as_str() == wanted)
+    comes(
+        alloc,
+        &mut RegexHost::new(),
+        pattern,
+        flags_of(""),
+        (text, wanted),
+    )
 }
 
 fn comes_to(alloc: Global, row: &str) -> Result<bool, RowFault> {
     let (pattern, letters, text, wanted) = in_four(row, "→")?;
-    let found = outcome(
+    comes(
         alloc,
         &mut RegexHost::new(),
         pattern,
         flags_of(letters),
-        text,
-    )?;
-    Ok(found.as_str() == wanted)
+        (text, wanted),
+    )
 }
 
 #[test]
@@ -127,9 +138,14 @@ fn patterns_that_nest(rt: HostRuntime) -> Result<(), Fail> {
 fn words(alloc: Global, count: u32) -> Result<String, RowFault> {
     let mut text = String::from_str(alloc, "word0")?;
     for number in 1..count {
-        text.push_str(format!(in alloc; "|word{number}")?.as_str())?;
+        add_word(alloc, &mut text, number)?;
     }
     Ok(text)
+}
+
+fn add_word(alloc: Global, text: &mut String, number: u32) -> Result<(), RowFault> {
+    let word = format!(in alloc; "|word{number}")?;
+    Ok(text.push_str(word.as_str())?)
 }
 
 // How many words, a text, and what comes of a pattern of those words.
@@ -157,17 +173,25 @@ flags: Flags { i: false, m: false, s: false, x: false }, text: \"a{1000}{1000}\"
 failing: [2], calls: 4, faults: 2, refused: Some(RefusedPattern { \
 flags: Flags { i: false, m: false, s: false, x: false }, text: \"a{1000}{1000}\" }) }";
 
-// Whether this comes of the patterns in turn, and the host then shows what was due.
-fn is_counted(alloc: Global, steps: &str) -> Result<bool, RowFault> {
-    let mut host = FailingHost::new(RegexHost::new(), vec![in alloc; 2]?);
+fn come_in_turn(
+    alloc: Global,
+    host: &mut FailingHost<RegexHost>,
+    steps: &str,
+) -> Result<bool, RowFault> {
     for step in steps.lines() {
         let (pattern, due) = cut(step, "→")?;
-        let found = outcome(alloc, &mut host, pattern, flags_of(""), "a")?;
-        if found.as_str() != due {
+        if !comes(alloc, host, pattern, flags_of(""), ("a", due))? {
             return Ok(false);
         }
     }
-    Ok(format!(in alloc; "{host:?}")?.as_str() == SHOWN)
+    Ok(true)
+}
+
+// Whether this comes of the patterns in turn, and the host then shows what was due.
+fn is_counted(alloc: Global, steps: &str) -> Result<bool, RowFault> {
+    let mut host = FailingHost::new(RegexHost::new(), vec![in alloc; 2]?);
+    let come = come_in_turn(alloc, &mut host, steps)?;
+    Ok(come && format!(in alloc; "{host:?}")?.as_str() == SHOWN)
 }
 
 #[test]

@@ -1,8 +1,9 @@
+use super::named;
 use row_tools::{RowFault, all_met, cut, in_four, number};
-use shx_outside::{Bytes, Inputs, Memory, MemoryInputs, Name, NamedText, Role};
+use shx_outside::{Inputs, Memory, MemoryInputs, Role};
 use std::alloc::Global;
 use std::test::Fail;
-use text_input::{Line, ScriptReader, read_text};
+use text_input::{Line, ReadFault, ScriptReader, read_text};
 
 /// A script with `~` for a line feed; the most bytes of the script and of a line; the number of the call that
 /// fails, from the opening on; and what five calls give: a line before `;`, `!` for one that is too long, `.`
@@ -34,49 +35,50 @@ abcd|10|5|abcd";
 // Inputs that hold one text, in pieces of three bytes, and whose call of this number fails.
 fn inputs_of(alloc: Global, name: &str, text: &str, failing: u32) -> Result<MemoryInputs, Memory> {
     let text = text.replace(alloc, "~", "\n")?;
-    let file = NamedText {
-        name: Name::new(String::from_str(alloc, name)?),
-        bytes: Bytes::new(text.into_bytes()),
-    };
+    let files = vec![in alloc; named(alloc, name, text.as_str())?]?;
     let failing = vec![in alloc; u64::from(failing)]?;
-    Ok(MemoryInputs::new(vec![in alloc; file]?, 3, failing))
+    Ok(MemoryInputs::new(files, 3, failing))
 }
 
-// What five calls give.
+// What is due behind an answer, if the answer is due.
+fn behind<'a>(due: &'a [u8], answer: &Result<Line, ReadFault>) -> Option<&'a [u8]> {
+    match answer {
+        Ok(Line::Is(line)) => due.strip_prefix(line.as_slice())?.strip_prefix(b";"),
+        Ok(Line::TooLong) => due.strip_prefix(b"!"),
+        Ok(Line::End) => due.strip_prefix(b"."),
+        Ok(Line::PastLimit) => due.strip_prefix(b">"),
+        Err(_) => due.strip_prefix(b"?"),
+    }
+}
+
+// Whether five calls give what is due.
 fn read_lines(
     alloc: Global,
     inputs: &mut MemoryInputs,
-    limit: u32,
-    most: u32,
-) -> Result<Vec<u8>, Memory> {
-    let mut answers = Vec::new(alloc);
+    (limit, most): (u32, u32),
+    due: &str,
+) -> bool {
     if inputs.open(Role::Script, "script").is_err() {
-        return Ok(answers);
+        return due.is_empty();
     }
+    let mut left = due.as_bytes();
     let mut reader = ScriptReader::new(u64::from(limit));
     for _ in 0..5 {
-        let mark = match &reader.next_line(alloc, inputs, u64::from(most)) {
-            Ok(Line::Is(line)) => {
-                answers.extend_from_slice(line)?;
-                b';'
-            }
-            Ok(Line::TooLong) => b'!',
-            Ok(Line::End) => b'.',
-            Ok(Line::PastLimit) => b'>',
-            Err(_) => b'?',
-        };
-        answers.push(mark)?;
+        match behind(left, &reader.next_line(alloc, inputs, u64::from(most))) {
+            Some(rest) => left = rest,
+            None => return false,
+        }
     }
-    Ok(answers)
+    left.is_empty()
 }
 
 // Whether the row's script gives what the row says.
 fn is_read_by_lines(alloc: Global, row: &str) -> Result<bool, RowFault> {
     let (script, limit, most, rest) = in_four(row, "|")?;
     let (failing, due) = cut(rest, "|")?;
+    let sizes = (number(limit)?, number(most)?);
     let mut inputs = inputs_of(alloc, "script", script, number(failing)?)?;
-    let answers = read_lines(alloc, &mut inputs, number(limit)?, number(most)?)?;
-    Ok(answers.as_slice() == due.as_bytes())
+    Ok(read_lines(alloc, &mut inputs, sizes, due))
 }
 
 #[test]
@@ -100,8 +102,9 @@ fn reads_as(
 // Whether the row's text is read as the row says.
 fn is_read_whole(alloc: Global, row: &str) -> Result<bool, RowFault> {
     let (text, most, failing, due) = in_four(row, "|")?;
+    let most = number(most)?;
     let mut inputs = inputs_of(alloc, "data", text, number(failing)?)?;
-    reads_as(alloc, &mut inputs, number(most)?, due)
+    reads_as(alloc, &mut inputs, most, due)
 }
 
 #[test]

@@ -3,7 +3,8 @@
 //! | file | what it holds |
 //! |---|---|
 //! | `tests/rows.rt` | the table: shapes, data and edits |
-//! | `tests/edits.rt` | an engine goes through the edits of a row, beside reports made from nothing |
+//! | `tests/edits.rt` | an engine goes through the edits of a row |
+//! | `tests/beside.rt` | the report that is made from nothing, beside the one that an engine keeps |
 //! | `tests/watched.rt` | edits over a graph in which a look-up is seen |
 //! | `tests/opened.rt` | plans and graphs of texts |
 #![tactic(auto)]

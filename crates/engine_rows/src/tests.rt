@@ -1,3 +1,4 @@
+mod beside;
 mod edits;
 mod opened;
 mod rows;

@@ -1,6 +1,6 @@
 mod rows;
 
-use super::seen::{has_outcome, outcome};
+use super::seen::{Seen, has_outcome};
 use row_tools::{RowFault, all_blocks_met, all_met, cut, number};
 use shx_term::{Limits, Memory};
 use std::alloc::Global;
@@ -62,7 +62,7 @@ fn nested(alloc: Global, depth: usize) -> Result<String, Memory> {
     format!(in alloc; "{} {} a 1 .", open.as_str(), close.as_str())
 }
 
-fn is_outcome(found: &str, due: &str) -> bool {
+fn is_last(found: &str, due: &str) -> bool {
     match (due.strip_prefix('…'), found.trim_end().rsplit_once('\n')) {
         (Some(due), Some((_, last))) => last == due,
         (Some(_), None) => false,
@@ -73,8 +73,8 @@ fn is_outcome(found: &str, due: &str) -> bool {
 fn is_nested_as_said(alloc: Global, row: &str) -> Result<bool, RowFault> {
     let (depth, due) = cut(row, " → ")?;
     let text = nested(alloc, number(depth)? as usize)?;
-    let found = outcome(alloc, "a:b", &Limits::program(), text.as_bytes())?;
-    Ok(is_outcome(found.as_str(), due))
+    let seen = Seen::of(alloc, text.as_bytes(), "a:b", &Limits::program())?;
+    Ok(is_last(seen.text(), due))
 }
 
 #[test]

@@ -1,5 +1,5 @@
-use super::seen::{outcome_in, terms_from, text_of};
-use row_tools::{RowFault, all_blocks_met, all_met, cut, number, vocabulary_pool};
+use super::seen::{Seen, text_of};
+use row_tools::{RowFault, all_blocks_met, all_met, cut, number};
 use shx_term::vocabulary::VOCABULARY_LEN;
 use shx_term::{Limits, Scope};
 use std::alloc::Global;
@@ -31,21 +31,18 @@ label b
 anonymous 1
 9 at 0";
 
-fn both(alloc: Global, terms: u32) -> Result<String, RowFault> {
-    if terms < VOCABULARY_LEN {
-        return Err(RowFault::Unread);
-    }
-    let limits = Limits::program();
-    let mut pool = vocabulary_pool(alloc, terms)?;
-    let shapes = outcome_in(alloc, SHAPES, "a:b", Scope::Shapes, &limits, &mut pool)?;
-    let data = outcome_in(alloc, DATA, "a:b", Scope::Data, &limits, &mut pool)?;
-    Ok(format!(in alloc; "{}{}", shapes.as_str(), data.as_str())?)
-}
-
 fn is_shared_as_said(alloc: Global, block: &str) -> Result<bool, RowFault> {
     let (terms, due) = cut(block, "\n")?;
     let due = text_of(alloc, due)?;
-    Ok(both(alloc, number(terms)?)?.as_str() == due.as_str())
+    let mut seen = Seen::new(alloc, number(terms)?)?;
+    see_both(alloc, &mut seen)?;
+    Ok(seen.text() == due.as_str())
+}
+
+fn see_both(alloc: Global, seen: &mut Seen) -> Result<(), RowFault> {
+    let limits = Limits::program();
+    seen.see(alloc, SHAPES, "a:b", Scope::Shapes, &limits)?;
+    seen.see(alloc, DATA, "a:b", Scope::Data, &limits)
 }
 
 #[test]
@@ -67,27 +64,25 @@ const REFUSED: &str = r##"$→2 at 0
 <a:s> a 1 . <a:t> a 1 . <a:s> a 2 , 3 .→9 at 24 <a:s> "1"^^<xsd:integer> <a:t>
 "##;
 
-// The outcome of a text, and the terms that are left of it.
-fn left(alloc: Global, text: &str) -> Result<String, RowFault> {
-    let limits = Limits::program();
-    let mut pool = vocabulary_pool(alloc, VOCABULARY_LEN + 4)?;
-    let outcome = outcome_in(
-        alloc,
-        text.as_bytes(),
-        "a:b",
-        Scope::Data,
-        &limits,
-        &mut pool,
-    )?;
-    let terms = terms_from(alloc, &pool, VOCABULARY_LEN)?;
-    Ok(format!(in alloc; "{} {}", outcome.as_str(), terms.as_str())?)
-}
-
 // Whether the row's text is refused as said, and those terms are left.
 fn leaves_as_said(alloc: Global, row: &str) -> Result<bool, RowFault> {
     let (text, due) = cut(row, "→")?;
     let due = text_of(alloc, due)?;
-    Ok(left(alloc, text)?.as_str().trim_end() == due.as_str())
+    let mut seen = Seen::new(alloc, VOCABULARY_LEN + 4)?;
+    see_what_is_left(alloc, text, &mut seen)?;
+    Ok(seen.text().trim_end() == due.as_str())
+}
+
+// The outcome of a text, and the terms that are left of it.
+fn see_what_is_left(alloc: Global, text: &str, seen: &mut Seen) -> Result<(), RowFault> {
+    seen.see(
+        alloc,
+        text.as_bytes(),
+        "a:b",
+        Scope::Data,
+        &Limits::program(),
+    )?;
+    seen.see_terms(VOCABULARY_LEN)
 }
 
 #[test]

@@ -3,7 +3,7 @@ mod order;
 mod syntax;
 mod terms;
 
-use super::seen::{has_outcome, outcome};
+use super::seen::{Seen, has_outcome};
 use row_tools::{RowFault, all_met, cut};
 use shx_term::{Limits, Memory};
 use std::alloc::Global;
@@ -44,8 +44,8 @@ fn bytes_of(alloc: Global, row: &str) -> Result<Vec<u8>, Memory> {
 fn bytes_refused_as_said(alloc: Global, row: &str) -> Result<bool, RowFault> {
     let (text, fault) = cut(row, "→")?;
     let bytes = bytes_of(alloc, text)?;
-    let found = outcome(alloc, "a:b", &Limits::program(), bytes.as_slice())?;
-    Ok(found.as_str() == fault)
+    let seen = Seen::of(alloc, bytes.as_slice(), "a:b", &Limits::program())?;
+    Ok(seen.text() == fault)
 }
 
 #[test]

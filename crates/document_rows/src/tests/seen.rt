@@ -1,148 +1,154 @@
 //! What is seen of a text, as lines.
 
 use iri_resolve::is_absolute;
-use row_tools::{RowFault, iri_text, spelled, vocabulary_pool};
+use row_tools::{RowFault, iri_text, vocabulary_pool};
 use shx_term::vocabulary::VOCABULARY_LEN;
-use shx_term::{Id, IriText, Limits, Memory, Pool, Scope, Triple};
+use shx_term::{Id, IriText, Limits, Memory, Pool, Scope, Triple, spell};
 use std::alloc::Global;
 use ttl_read::{Document, TtlFault, read_document};
 
-/// A row's text, where the row has signs for characters that it cannot hold: `␀`, `␈`, `␉`, `␊`, `␌` and `␍`
-/// for control characters, `␂` for a byte order mark, and `<rdf:` and `<xsd:` for the beginnings of IRIs.
+// The signs of a row for characters that it cannot hold, and for the beginnings of IRIs, with what they
+// stand for.
+const SIGNS: [(&str, &str); 9] = [
+    ("␊", "\n"),
+    ("␍", "\r"),
+    ("␉", "\t"),
+    ("␀", "\0"),
+    ("␈", "\u{8}"),
+    ("␂", "\u{feff}"),
+    ("␌", "\u{c}"),
+    ("<rdf:", "<http://www.w3.org/1999/02/22-rdf-syntax-ns#"),
+    ("<xsd:", "<http://www.w3.org/2001/XMLSchema#"),
+];
+
+/// A row's text, where the row has signs: `␀`, `␈`, `␉`, `␊`, `␌` and `␍` for control characters, `␂` for a
+/// byte order mark, and `<rdf:` and `<xsd:` for the beginnings of IRIs.
 pub(super) fn text_of(alloc: Global, row: &str) -> Result<String, Memory> {
-    let mut text = controls_of(alloc, row)?;
-    let rdf = "<http://www.w3.org/1999/02/22-rdf-syntax-ns#";
-    text = text.as_str().replace(alloc, "<rdf:", rdf)?;
-    let xsd = "<http://www.w3.org/2001/XMLSchema#";
-    text.as_str().replace(alloc, "<xsd:", xsd)
+    let mut text = String::from_str(alloc, row)?;
+    for (sign, meant) in &SIGNS {
+        text = text.as_str().replace(alloc, sign, meant)?;
+    }
+    Ok(text)
 }
 
-fn controls_of(alloc: Global, row: &str) -> Result<String, Memory> {
-    let mut text = row.replace(alloc, "␊", "\n")?;
-    text = text.as_str().replace(alloc, "␍", "\r")?;
-    text = text.as_str().replace(alloc, "␉", "\t")?;
-    text = text.as_str().replace(alloc, "␀", "\0")?;
-    text = text.as_str().replace(alloc, "␈", "\u{8}")?;
-    text = text.as_str().replace(alloc, "␂", "\u{feff}")?;
-    text.as_str().replace(alloc, "␌", "\u{c}")
+/// What is seen of texts that are read into one pool, one after the other.
+#[derive(Drop)]
+pub(super) struct Seen {
+    pool: Pool,
+    lines: Vec<u8>,
 }
 
-/// What a text states over a base, or its fault.
-pub(super) fn outcome(
-    alloc: Global,
-    base: &str,
-    limits: &Limits,
-    text: &[u8],
-) -> Result<String, RowFault> {
-    if limits.terms < VOCABULARY_LEN {
-        return Err(RowFault::Unread);
+impl Seen {
+    /// Nothing so far. The pool may hold so many terms.
+    pub fn new(alloc: Global, terms: u32) -> Result<Seen, RowFault> {
+        if terms < VOCABULARY_LEN {
+            return Err(RowFault::Unread);
+        }
+        Ok(Seen {
+            pool: vocabulary_pool(alloc, terms)?,
+            lines: Vec::new(alloc),
+        })
     }
-    let mut pool = vocabulary_pool(alloc, limits.terms)?;
-    outcome_in(alloc, text, base, Scope::Data, limits, &mut pool)
-}
 
-/// The same of a text whose terms are entered into a pool.
-pub(super) fn outcome_in(
-    alloc: Global,
-    text: &[u8],
-    base: &str,
-    scope: Scope,
-    limits: &Limits,
-    pool: &mut Pool,
-) -> Result<String, RowFault> {
-    if !is_absolute(base) || limits.turtle_depth > 128 {
-        return Err(RowFault::Unread);
+    /// What is seen of one text over a base, within limits.
+    pub fn of(alloc: Global, text: &[u8], base: &str, limits: &Limits) -> Result<Seen, RowFault> {
+        let mut seen = Seen::new(alloc, limits.terms)?;
+        seen.see(alloc, text, base, Scope::Data, limits)?;
+        Ok(seen)
     }
-    let base = iri_text(alloc, base)?;
-    let held = pool.len();
-    match read_document(alloc, text, &base, scope, limits, pool) {
-        Ok(document) => shown(alloc, &base, &document, pool, held),
-        Err(TtlFault::At { code, at }) => Ok(format!(in alloc; "{code} at {at}")?),
-        Err(TtlFault::Memory) => Err(RowFault::Memory),
-    }
-}
 
-// A document as lines: its triples, its prefixes, its labels, its base where that is another, and how many
-// blank nodes have none, where there are some.
-fn shown(
-    alloc: Global,
-    base: &IriText,
-    document: &Document,
-    pool: &Pool,
-    held: u32,
-) -> Result<String, RowFault> {
-    let mut out = String::new(alloc);
-    show_triples(alloc, pool, &document.triples, &mut out)?;
-    show_names(alloc, document, &mut out)?;
-    show_others(alloc, base, document, &mut out)?;
-    if !has_terms_of(pool, held, &document.triples) {
-        out.push_str("other terms\n")?;
+    /// The lines so far.
+    pub fn text(&self) -> &str {
+        str::from_utf8(self.lines.as_slice()).unwrap_or("no text")
     }
-    Ok(out)
-}
 
-fn show_triples(
-    alloc: Global,
-    pool: &Pool,
-    triples: &[Triple],
-    out: &mut String,
-) -> Result<(), RowFault> {
-    for triple in triples {
-        show_term(alloc, pool, triple.s, ' ', out)?;
-        show_term(alloc, pool, triple.p, ' ', out)?;
-        show_term(alloc, pool, triple.o, '\n', out)?;
+    /// Adds what a text states over a base, or its fault.
+    pub fn see(
+        &mut self,
+        alloc: Global,
+        text: &[u8],
+        base: &str,
+        scope: Scope,
+        limits: &Limits,
+    ) -> Result<(), RowFault> {
+        if !is_absolute(base) || limits.turtle_depth > 128 {
+            return Err(RowFault::Unread);
+        }
+        let base = iri_text(alloc, base)?;
+        let held = self.pool.len();
+        match read_document(alloc, text, &base, scope, limits, &mut self.pool) {
+            Ok(document) => self.add_document(alloc, &base, &document, held),
+            Err(TtlFault::At { code, at }) => {
+                let fault = format!(in alloc; "{code} at {at}")?;
+                Ok(self.add(&[fault.as_str()])?)
+            }
+            Err(TtlFault::Memory) => Err(RowFault::Memory),
+        }
     }
-    Ok(())
-}
 
-fn show_names(alloc: Global, document: &Document, out: &mut String) -> Result<(), Memory> {
-    for prefix in &document.prefixes {
-        let (name, iri) = (prefix.name.as_str(), prefix.iri.as_str());
-        out.push_str(format!(in alloc; "prefix {name}: <{iri}>\n")?.as_str())?;
+    // A document as lines: its triples, its prefixes, its labels, its base where that is another, and how
+    // many blank nodes have none, where there are some.
+    fn add_document(
+        &mut self,
+        alloc: Global,
+        base: &IriText,
+        document: &Document,
+        held: u32,
+    ) -> Result<(), RowFault> {
+        for t in &document.triples {
+            self.add_triple(t)?;
+        }
+        for prefix in &document.prefixes {
+            let (name, iri) = (prefix.name.as_str(), prefix.iri.as_str());
+            self.add(&["prefix ", name, ": <", iri, ">\n"])?;
+        }
+        for label in &document.labels {
+            self.add(&["label ", label.as_str(), "\n"])?;
+        }
+        if document.base != *base {
+            self.add(&["base <", document.base.as_str(), ">\n"])?;
+        }
+        if document.anonymous > 0 {
+            let number = format!(in alloc; "{}", document.anonymous)?;
+            self.add(&["anonymous ", number.as_str(), "\n"])?;
+        }
+        if !has_terms_of(&self.pool, held, &document.triples) {
+            self.add(&["other terms\n"])?;
+        }
+        Ok(())
     }
-    for label in &document.labels {
-        out.push_str(format!(in alloc; "label {}\n", label.as_str())?.as_str())?;
-    }
-    Ok(())
-}
 
-fn show_others(
-    alloc: Global,
-    base: &IriText,
-    document: &Document,
-    out: &mut String,
-) -> Result<(), Memory> {
-    if document.base != *base {
-        out.push_str(format!(in alloc; "base <{}>\n", document.base.as_str())?.as_str())?;
+    fn add_triple(&mut self, t: &Triple) -> Result<(), RowFault> {
+        for (id, behind) in [(t.s, b' '), (t.p, b' '), (t.o, b'\n')] {
+            self.add_term(id, behind)?;
+        }
+        Ok(())
     }
-    if document.anonymous > 0 {
-        out.push_str(format!(in alloc; "anonymous {}\n", document.anonymous)?.as_str())?;
-    }
-    Ok(())
-}
 
-// A term, and what stands behind it.
-fn show_term(
-    alloc: Global,
-    pool: &Pool,
-    id: Id,
-    behind: char,
-    out: &mut String,
-) -> Result<(), RowFault> {
-    if id >= pool.len() {
-        return Err(RowFault::Unread);
+    // A term, and what stands behind it.
+    fn add_term(&mut self, id: Id, behind: u8) -> Result<(), RowFault> {
+        if id >= self.pool.len() {
+            return Err(RowFault::Unread);
+        }
+        spell(self.pool.term(id), &mut self.lines)?;
+        Ok(self.lines.push(behind)?)
     }
-    out.push_str(spelled(alloc, pool.term(id))?.as_str())?;
-    Ok(out.push(behind)?)
-}
 
-/// The terms of a pool from this number on, each with a space behind it.
-pub(super) fn terms_from(alloc: Global, pool: &Pool, from: Id) -> Result<String, RowFault> {
-    let mut out = String::new(alloc);
-    for id in from..pool.len() {
-        show_term(alloc, pool, id, ' ', &mut out)?;
+    fn add(&mut self, pieces: &[&str]) -> Result<(), Memory> {
+        for piece in pieces {
+            self.lines.extend_from_slice(piece.as_bytes())?;
+        }
+        Ok(())
     }
-    Ok(out)
+
+    /// Adds a space, and the terms of the pool from this number on, each with a space behind it.
+    pub fn see_terms(&mut self, from: Id) -> Result<(), RowFault> {
+        self.lines.push(b' ')?;
+        for id in from..self.pool.len() {
+            self.add_term(id, b' ')?;
+        }
+        Ok(())
+    }
 }
 
 // Whether a pool has, behind those that it held, exactly the terms of these triples, in the order of their
@@ -172,6 +178,6 @@ pub(super) fn has_outcome(
 ) -> Result<bool, RowFault> {
     let text = text_of(alloc, text)?;
     let wanted = text_of(alloc, wanted)?;
-    let found = outcome(alloc, "http://a/b/c/d;p?q", limits, text.as_bytes())?;
-    Ok(found.as_str().trim_end_matches('\n') == wanted.as_str().trim_end_matches('\n'))
+    let seen = Seen::of(alloc, text.as_bytes(), "http://a/b/c/d;p?q", limits)?;
+    Ok(seen.text().trim_end_matches('\n') == wanted.as_str().trim_end_matches('\n'))
 }

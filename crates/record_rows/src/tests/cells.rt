@@ -1,10 +1,51 @@
-//! Readers, keys and triples as rows say them.
+//! What rows call steps and questions, and readers, keys and triples as rows say them.
 use comp_core::Pair;
 use graph_view::{Key, Reads};
 use read_records::Reader;
 use row_tools::{RowFault, in_three, number};
-use shx_term::Triple;
+use shx_term::{Id, Triple};
 use std::alloc::Global;
+
+/// What a step does, or what a question asks for.
+#[derive(Clone, Copy)]
+pub(super) enum Verb {
+    Stage,
+    Load,
+    Remove,
+    Commit,
+    Drop,
+    Reads,
+    Touched,
+    Changed,
+    Rows,
+    All,
+    Len,
+}
+
+const VERBS: [(&str, Verb); 11] = [
+    ("stage", Verb::Stage),
+    ("load", Verb::Load),
+    ("remove", Verb::Remove),
+    ("commit", Verb::Commit),
+    ("drop", Verb::Drop),
+    ("reads", Verb::Reads),
+    ("touched", Verb::Touched),
+    ("changed", Verb::Changed),
+    ("rows", Verb::Rows),
+    ("all", Verb::All),
+    ("len", Verb::Len),
+];
+
+/// The first word of a step or a question, and what stands behind it.
+pub(super) fn verb_of(step: &str) -> Result<(Verb, &str), RowFault> {
+    let (word, of) = step.split_once(' ').unwrap_or((step, ""));
+    for (name, verb) in &VERBS {
+        if *name == word {
+            return Ok((*verb, of));
+        }
+    }
+    Err(RowFault::Unread)
+}
 
 /// The target of a shape by its number, or a pair by those of its shape and of its node.
 pub(super) fn reader(word: &str) -> Result<Reader, RowFault> {
@@ -17,14 +58,17 @@ pub(super) fn reader(word: &str) -> Result<Reader, RowFault> {
     }
 }
 
-pub(super) fn readers(alloc: Global, words: &str) -> Result<Vec<Reader>, RowFault> {
-    let mut all = Vec::new(alloc);
-    for word in words.split(' ') {
-        if !word.is_empty() {
-            all.push(reader(word)?)?;
+/// Whether these are the readers that the words say, in this order.
+pub(super) fn are_readers(found: &[Reader], words: &str) -> Result<bool, RowFault> {
+    let mut rest = words;
+    for at in found {
+        let (word, behind) = rest.split_once(' ').unwrap_or((rest, ""));
+        if word.is_empty() || reader(word)? != *at {
+            return Ok(false);
         }
+        rest = behind;
     }
-    Ok(all)
+    Ok(rest.is_empty())
 }
 
 pub(super) fn triple(word: &str) -> Result<Triple, RowFault> {
@@ -36,23 +80,33 @@ pub(super) fn triple(word: &str) -> Result<Triple, RowFault> {
     })
 }
 
-pub(super) fn triples(alloc: Global, words: &str) -> Result<Vec<Triple>, RowFault> {
-    let mut all = Vec::new(alloc);
+/// Adds triples, which are told apart by spaces.
+pub(super) fn add_triples(words: &str, all: &mut Vec<Triple>) -> Result<(), RowFault> {
     for word in words.split(' ') {
         if !word.is_empty() {
             all.push(triple(word)?)?;
         }
     }
-    Ok(all)
+    Ok(())
+}
+
+// A number, or a line for what is left open.
+fn part(word: &str) -> Result<Option<Id>, RowFault> {
+    if word == "_" {
+        Ok(None)
+    } else {
+        Ok(Some(number(word)?))
+    }
 }
 
 /// The key of a triple in which a line stands for what the key leaves open.
 fn key(word: &str) -> Result<Key, RowFault> {
-    match in_three(word, ".")? {
-        ("_", p, "_") => Ok(Key::Predicate(number(p)?)),
-        (s, "_", "_") => Ok(Key::Subject(number(s)?)),
-        ("_", p, o) => Ok(Key::In(number(p)?, number(o)?)),
-        (s, p, "_") => Ok(Key::Out(number(s)?, number(p)?)),
+    let (s, p, o) = in_three(word, ".")?;
+    match (part(s)?, part(p)?, part(o)?) {
+        (None, Some(p), None) => Ok(Key::Predicate(p)),
+        (Some(s), None, None) => Ok(Key::Subject(s)),
+        (None, Some(p), Some(o)) => Ok(Key::In(p, o)),
+        (Some(s), Some(p), None) => Ok(Key::Out(s, p)),
         _ => Err(RowFault::Unread),
     }
 }
@@ -67,8 +121,16 @@ pub(super) fn reads(alloc: Global, words: &str) -> Result<Reads, RowFault> {
     Ok(all)
 }
 
-/// Whether these are the keys that the words say, and no others.
-pub(super) fn are_said(alloc: Global, found: &Reads, words: &str) -> Result<bool, RowFault> {
-    let said = reads(alloc, words)?;
-    Ok(said.len() == found.len() && said.keys().iter().all(|key| found.has(key)))
+/// Whether these are the keys that the words say, each once, and no others.
+pub(super) fn are_said(found: &Reads, words: &str) -> Result<bool, RowFault> {
+    let mut said = 0;
+    for word in words.split(' ') {
+        if !word.is_empty() {
+            if !found.has(&key(word)?) {
+                return Ok(false);
+            }
+            said = u64::saturating_add(said, 1);
+        }
+    }
+    Ok(said == found.len() as u64)
 }

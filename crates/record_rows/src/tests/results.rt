@@ -2,11 +2,11 @@
 //! a number; a place is the number of a shape and the term of a node.
 ghost use Rattle.std.specs.Prelude.{◌≡◌, ◌<◌, All, length, IfOk};
 
+use super::cells::{Verb, verb_of};
 use comp_core::ResultRow;
 use comp_core::kinds::MIN_COUNT;
 use pair_results::PairResults;
 use row_tools::{RowFault, all_met, cut, number, term};
-use shx_term::Term;
 use std::alloc::Global;
 use std::test::Fail;
 
@@ -69,15 +69,10 @@ stage 1 e:a 5; commit; stage 1 e:a; commit; commit; len → 0
 
 fn is_answered(alloc: Global, row: &str) -> Result<bool, RowFault> {
     let (steps, answer) = cut(row, " →")?;
+    let (before, question) = steps.rsplit_once("; ").unwrap_or(("", steps));
     let mut kept = PairResults::new(alloc, SHAPES)?;
-    let question = match steps.rsplit_once("; ") {
-        Some((before, question)) => {
-            make_all(alloc, &mut kept, before)?;
-            question
-        }
-        None => steps,
-    };
-    Ok(answered(alloc, &kept, question)?.as_str() == answer)
+    make_all(alloc, &mut kept, before)?;
+    answers(alloc, &kept, question, answer.trim_start())
 }
 
 fn make_all(alloc: Global, kept: &mut PairResults, steps: &str) -> Result<(), RowFault>
@@ -85,7 +80,9 @@ fn make_all(alloc: Global, kept: &mut PairResults, steps: &str) -> Result<(), Ro
     ensures { length kept.new.shapes ≡ 3 }
 {
     for step in steps.split("; ") {
-        make(alloc, kept, step)?;
+        if !step.is_empty() {
+            make(alloc, kept, step)?;
+        }
     }
     Ok(())
 }
@@ -94,13 +91,14 @@ fn make(alloc: Global, kept: &mut PairResults, step: &str) -> Result<(), RowFaul
     requires { length kept.old.shapes ≡ 3 }
     ensures { length kept.new.shapes ≡ 3 }
 {
-    match step.split_once(' ') {
-        Some(("stage", of)) => stage(alloc, kept, of),
-        None if step == "commit" => {
+    let (verb, of) = verb_of(step)?;
+    match verb {
+        Verb::Stage => stage(alloc, kept, of),
+        Verb::Commit => {
             kept.commit();
             Ok(())
         }
-        None if step == "drop" => {
+        Verb::Drop => {
             kept.drop_staged();
             Ok(())
         }
@@ -115,6 +113,13 @@ fn stage(alloc: Global, kept: &mut PairResults, of: &str) -> Result<(), RowFault
     let (shape, rest) = cut(of, " ")?;
     let (node, numbers) = rest.split_once(' ').unwrap_or((rest, ""));
     let shape = shape_of(shape)?;
+    let node = term(alloc, node)?;
+    let rows = rows_of(alloc, shape, numbers)?;
+    Ok(kept.stage(alloc, shape, &node, rows)?)
+}
+
+// A result for each of the numbers.
+fn rows_of(alloc: Global, shape: u32, numbers: &str) -> Result<Vec<ResultRow>, RowFault> {
     let mut rows = Vec::new(alloc);
     for word in numbers.split(' ') {
         if !word.is_empty() {
@@ -122,7 +127,7 @@ fn stage(alloc: Global, kept: &mut PairResults, of: &str) -> Result<(), RowFault
             rows.push(ResultRow::plain(alloc, 0, value, None, shape, MIN_COUNT)?)?;
         }
     }
-    Ok(kept.stage(alloc, shape, &term(alloc, node)?, rows)?)
+    Ok(rows)
 }
 
 fn shape_of(word: &str) -> Result<u32, RowFault>
@@ -136,31 +141,58 @@ fn shape_of(word: &str) -> Result<u32, RowFault>
     }
 }
 
-// What is told of a question: numbers, each behind a space.
-fn answered(alloc: Global, kept: &PairResults, question: &str) -> Result<String, RowFault>
+/// The numbers that are due, from here on.
+#[derive(Clone, Copy)]
+struct Due<'a> {
+    rest: &'a str,
+    are_met: bool,
+}
+
+impl Due<'_> {
+    // Takes the next result, whose number is to be the next one.
+    fn take(&mut self, row: &ResultRow) {
+        let (word, behind) = self.rest.split_once(' ').unwrap_or((self.rest, ""));
+        self.are_met = self.are_met && row.value.is_some() && number(word).ok() == row.value;
+        self.rest = behind;
+    }
+
+    fn are_all_met(&self) -> bool {
+        self.are_met && self.rest.is_empty()
+    }
+}
+
+fn answers(
+    alloc: Global,
+    kept: &PairResults,
+    question: &str,
+    answer: &str,
+) -> Result<bool, RowFault>
     requires { length kept.now.shapes ≡ 3 }
 {
-    match question.split_once(' ') {
-        Some(("rows", of)) => {
-            let (shape, node) = cut(of, " ")?;
-            told(alloc, kept.rows_of(shape_of(shape)?, &term(alloc, node)?))
-        }
-        Some(("all", shapes)) => told_of_all(alloc, kept, shapes),
-        _ => Ok(format!(in alloc; " {}", kept.len())?),
+    let (verb, of) = verb_of(question)?;
+    match verb {
+        Verb::Rows => are_rows(alloc, kept, of, answer),
+        Verb::All => are_all(alloc, kept, of, answer),
+        Verb::Len => Ok(kept.len() == u64::from(number(answer)?)),
+        _ => Err(RowFault::Unread),
     }
 }
 
-fn told(alloc: Global, rows: &[ResultRow]) -> Result<String, RowFault> {
-    let mut text = String::new(alloc);
-    for row in rows {
-        tell(alloc, &mut text, row)?;
+// Whether these are the results of a shape and a node.
+fn are_rows(alloc: Global, kept: &PairResults, of: &str, rest: &str) -> Result<bool, RowFault>
+    requires { length kept.now.shapes ≡ 3 }
+{
+    let (shape, node) = cut(of, " ")?;
+    let node = term(alloc, node)?;
+    let shape = shape_of(shape)?;
+    let mut due = Due {
+        rest,
+        are_met: true,
+    };
+    for row in kept.rows_of(shape, &node) {
+        due.take(row);
     }
-    Ok(text)
-}
-
-fn tell(alloc: Global, text: &mut String, row: &ResultRow) -> Result<(), RowFault> {
-    let value = row.value.ok_or(RowFault::Unread)?;
-    Ok(text.push_str(format!(in alloc; " {value}")?.as_str())?)
+    Ok(due.are_all_met())
 }
 
 fn shapes_of(alloc: Global, words: &str) -> Result<Vec<u32>, RowFault>
@@ -173,15 +205,19 @@ fn shapes_of(alloc: Global, words: &str) -> Result<Vec<u32>, RowFault>
     Ok(shapes)
 }
 
-fn told_of_all(alloc: Global, kept: &PairResults, words: &str) -> Result<String, RowFault>
+// Whether these are the results of shapes.
+fn are_all(alloc: Global, kept: &PairResults, words: &str, rest: &str) -> Result<bool, RowFault>
     requires { length kept.now.shapes ≡ 3 }
 {
     let shapes = shapes_of(alloc, words)?;
-    let mut text = String::new(alloc);
+    let mut due = Due {
+        rest,
+        are_met: true,
+    };
     for row in kept.rows(&shapes) {
-        tell(alloc, &mut text, row)?;
+        due.take(row);
     }
-    Ok(text)
+    Ok(due.are_all_met())
 }
 
 #[test]

@@ -4,46 +4,47 @@ ghost use Rattle.std.specs.List.{IsDistinct, list_any};
 ghost use Rattle.std.specs.Map.{keys_of};
 ghost use Rattle.read_records.specs.Reader.{same_reader};
 
-use super::cells::{are_said, reader, readers, reads, triple, triples};
+use super::cells::{Verb, add_triples, are_readers, are_said, reader, reads, triple, verb_of};
 use graph_view::Reads;
 use read_records::{Reader, Records};
 use row_tools::{RowFault, cut};
+use shx_term::Triple;
 use std::alloc::Global;
 
 /// Whether the question behind the steps has the row's answer.
 pub(super) fn is_answered(alloc: Global, row: &str) -> Result<bool, RowFault> {
     let (steps, answer) = cut(row, " →")?;
+    let (before, question) = steps.rsplit_once("; ").unwrap_or(("", steps));
     let mut records = Records::new(alloc);
-    let question = match steps.rsplit_once("; ") {
-        Some((before, question)) => {
-            for step in before.split("; ") {
-                make(alloc, &mut records, step)?;
-            }
-            question
+    for step in before.split("; ") {
+        if !step.is_empty() {
+            make(alloc, &mut records, step)?;
         }
-        None => steps,
-    };
+    }
     answers(alloc, &records, question, answer.trim_start())
 }
 
 fn make(alloc: Global, records: &mut Records, step: &str) -> Result<(), RowFault> {
-    match step.split_once(' ') {
-        Some(("stage", of)) => stage(alloc, records, of),
-        Some(("load", all)) => {
-            *records = loaded(alloc, all)?;
-            Ok(())
-        }
-        Some(("remove", of)) => Ok(records.stage_removal(reader(of)?)?),
-        None if step == "commit" => {
+    let (verb, of) = verb_of(step)?;
+    match verb {
+        Verb::Stage => stage(alloc, records, of),
+        Verb::Load => load(alloc, records, of),
+        Verb::Remove => Ok(records.stage_removal(reader(of)?)?),
+        Verb::Commit => {
             records.commit();
             Ok(())
         }
-        None if step == "drop" => {
+        Verb::Drop => {
             records.drop_staged();
             Ok(())
         }
         _ => Err(RowFault::Unread),
     }
+}
+
+fn load(alloc: Global, records: &mut Records, all: &str) -> Result<(), RowFault> {
+    *records = loaded(alloc, all)?;
+    Ok(())
 }
 
 // Records of several readers, which are told apart by commas.
@@ -85,22 +86,42 @@ fn answers(
     question: &str,
     answer: &str,
 ) -> Result<bool, RowFault> {
-    match question.split_once(' ') {
-        Some(("touched", by)) => {
-            let found = records.touched_by(alloc, &triple(by)?)?;
-            Ok(found == readers(alloc, answer)?)
-        }
-        Some(("changed", by)) => {
-            let (added, removed) = cut(by, "|")?;
-            let added = triples(alloc, added)?;
-            let removed = triples(alloc, removed)?;
-            let found = records.touched_by_change(alloc, &added, &removed)?;
-            Ok(found == readers(alloc, answer)?)
-        }
-        Some(("reads", of)) => match records.reads_of(&reader(of)?) {
-            Some(found) => are_said(alloc, found, answer),
+    let (verb, by) = verb_of(question)?;
+    match verb {
+        Verb::Touched => are_readers(&touched(alloc, records, by)?, answer),
+        Verb::Changed => are_readers(&changed(alloc, records, by)?, answer),
+        Verb::Reads => match records.reads_of(&reader(by)?) {
+            Some(found) => are_said(found, answer),
             None => Ok(answer == "nothing"),
         },
         _ => Err(RowFault::Unread),
     }
+}
+
+fn touched(alloc: Global, records: &Records, by: &str) -> Result<Vec<Reader>, RowFault> {
+    Ok(records.touched_by(alloc, &triple(by)?)?)
+}
+
+/// What a change adds and removes.
+#[derive(Drop)]
+struct Change {
+    added: Vec<Triple>,
+    removed: Vec<Triple>,
+}
+
+impl Change {
+    fn add(&mut self, text: &str) -> Result<(), RowFault> {
+        let (added, removed) = cut(text, "|")?;
+        add_triples(added, &mut self.added)?;
+        add_triples(removed, &mut self.removed)
+    }
+}
+
+fn changed(alloc: Global, records: &Records, by: &str) -> Result<Vec<Reader>, RowFault> {
+    let mut change = Change {
+        added: Vec::new(alloc),
+        removed: Vec::new(alloc),
+    };
+    change.add(by)?;
+    Ok(records.touched_by_change(alloc, &change.added, &change.removed)?)
 }

@@ -1,2 +1,3 @@
+pub mod ConstraintLemmas
 pub mod PathLemmas
 pub mod PlanLemmas

@@ -1,5 +1,5 @@
 -- What may stand in a plan.
-use Rattle.std.specs.Prelude.{ℕ, ◌<◌, ◌≤◌, List, Option, All, length, flat_map}
+use Rattle.std.specs.Prelude.{◌≡◌, ℕ, ◌<◌, ◌≤◌, List, [], Option, All, length, flat_map}
 use Rattle.shx_term.specs.declared.term.Term.{Term}
 use Rattle.path_eval.specs.declared.path.Path.{Path}
 use Rattle.path_eval.specs.Route.{nesting, predicates_in, route_of}
@@ -24,6 +24,12 @@ pub record FitsBelow (count n : ℕ) (c : Constraint) : Type 0 where
   pub parameter : parameter_of c < count
   pub members : All (λ id. id < count) (members_of c)
   pub lower : All (λ i. i < n) (shapes_named c)
+
+-- a constraint that takes this value of its parameter alone
+pub record IsBare (id : ℕ) (c : Constraint) : Type 0 where
+  pub parameter : parameter_of c ≡ id
+  pub members : members_of c ≡ []
+  pub shapes : shapes_named c ≡ []
 
 -- constraints of the shape of this number
 pub record FitTogether (terms : List Term) (n : ℕ) (cs : List Constraint) : Type 0 where

@@ -1,5 +1,5 @@
-//! The graph of a block, and keys.
-use super::terms::{all_terms, id_of};
+//! Graphs of cells, and keys.
+use super::terms::id_of;
 use due_view::is_known_triple;
 use graph_view::{GraphEdit, GraphView, Key, ListGraph, Reads};
 use row_tools::{RowFault, in_three};
@@ -30,9 +30,9 @@ fn insert_all(alloc: Global, graph: &mut ListGraph, cell: &str) -> Result<(), Ro
     Ok(())
 }
 
-/// The graph of some triples, with commas between them, over the terms of all tables.
-pub(super) fn graph_of(alloc: Global, cell: &str) -> Result<ListGraph, RowFault> {
-    let mut graph = ListGraph::new(alloc, all_terms(alloc)?, 40);
+/// The graph of some triples, with commas between them, over these terms.
+pub(super) fn graph_of(alloc: Global, pool: Pool, cell: &str) -> Result<ListGraph, RowFault> {
+    let mut graph = ListGraph::new(alloc, pool, 40);
     insert_all(alloc, &mut graph, cell)?;
     Ok(graph)
 }

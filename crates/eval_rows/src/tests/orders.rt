@@ -43,6 +43,19 @@ fn numbers(alloc: Global, cell: &str) -> Result<Vec<u32>, Memory> {
     Ok(found)
 }
 
+// Whether a list has the numbers of a cell.
+fn are_numbers(list: &[u32], cell: &str) -> bool {
+    let mut rest = list.iter();
+    for word in cell.split(' ') {
+        if let Ok(number) = word.parse::<u32>() {
+            if rest.next() != Some(&number) {
+                return false;
+            }
+        }
+    }
+    rest.next().is_none()
+}
+
 fn shapes(alloc: Global, cell: &str) -> Result<Vec<Vec<u32>>, Memory> {
     let mut refs = Vec::new(alloc);
     if cell == "none" {
@@ -74,14 +87,11 @@ fn is_found(alloc: Global, refs: &[Vec<u32>], limit: u32, said: &str) -> Result<
     match order(alloc, refs, limit) {
         Ok(found) => {
             let (wanted, levels) = rest.split_once(" ; ").unwrap_or((rest, ""));
-            let is_order = found.order == numbers(alloc, wanted)?;
-            let is_leveled = found.levels == numbers(alloc, levels)?;
-            Ok(kind == "order" && is_order && is_leveled && are_placed(&found))
+            let is_order = kind == "order" && are_numbers(&found.order, wanted);
+            Ok(is_order && are_numbers(&found.levels, levels) && are_placed(&found))
         }
-        Err(OrderFault::Recursive { cycle }) => {
-            Ok(kind == "cycle" && cycle == numbers(alloc, rest)?)
-        }
-        Err(OrderFault::TooDeep { shape }) => Ok(kind == "deep" && number(rest)? == shape),
+        Err(OrderFault::Recursive { cycle }) => Ok(kind == "cycle" && are_numbers(&cycle, rest)),
+        Err(OrderFault::TooDeep { shape }) => Ok(kind == "deep" && are_numbers(&[shape], rest)),
         Err(OrderFault::Memory) => Err(RowFault::Memory),
     }
 }

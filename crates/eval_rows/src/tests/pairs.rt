@@ -4,15 +4,14 @@ ghost use Rattle.graph_view.specs.Valid.{IsValidView};
 ghost use Rattle.shape_eval.specs.Plan.{IsKnownPlan};
 ghost use Rattle.shape_eval.specs.Planned.{plan_of};
 
+use super::blocks::{Block, block_of};
 use super::cells::{Cells, cells_of};
-use super::graphs::{graph_of, keys_of};
-use super::plans::plan_of;
-use super::results::results_of;
-use super::rows::{components, nesting, values, worked, wrong};
+use super::results::are_due;
+use super::rows::{nesting, together, values, worked, wrong};
 use super::terms::id_of;
 use comp_core::Pair;
 use due_view::{DueView, is_known, is_valid};
-use graph_view::{GraphView, ListGraph, Reads};
+use graph_view::{GraphView, Reads};
 use row_tools::{RowFault, all_blocks_met, cut, number};
 use shape_eval::{
     Known, PairAnswer, Plan, edits_beside_a_pair, eval_pair, levels_do_not_matter,
@@ -58,7 +57,7 @@ fn found<V: GraphView, L: Ledger>(
 // looked up.
 fn is_met<L: Ledger>(
     alloc: Global,
-    graph: &ListGraph,
+    block: &Block,
     cells: &Cells,
     blank: Blank,
 ) -> Result<bool, RowFault>
@@ -66,24 +65,22 @@ fn is_met<L: Ledger>(
     requires parts { blank.parts ≡ L.parts }
     requires some { blank.parts ≡ 1 }
 {
-    let pool = graph.pool();
-    let plan = plan_of(alloc, pool, cells.shapes)?;
-    let pair = pair_of(alloc, pool, cells.asked)?;
-    let due = results_of(alloc, pool, cells.due)?;
-    let keys = keys_of(alloc, pool, cells.keys)?;
+    let Block { graph, plan, keys } = block;
+    let pair = pair_of(alloc, graph.pool(), cells.asked)?;
+    let view = DueView::new(graph, keys);
+    let mut steps: Steps<L> = Steps::open(blank);
     if !is_valid(graph) {
         return Err(RowFault::Unread);
     }
-    let view = DueView::new(graph, &keys);
-    let mut steps: Steps<L> = Steps::open(blank);
-    let answer = found(alloc, &view, &plan, pair, &mut steps)?;
-    Ok(answer.rows == due && view.are_read(&answer.reads))
+    let answer = found(alloc, &view, plan, pair, &mut steps)?;
+    let is_due = are_due(alloc, graph.pool(), &answer.rows, cells.due)?;
+    Ok(is_due && view.are_read(&answer.reads))
 }
 
-fn is_as_said(alloc: Global, block: &str) -> Result<bool, RowFault> {
-    let cells = cells_of(block)?;
-    let graph = graph_of(alloc, cells.triples)?;
-    is_met::<Brand>(alloc, &graph, &cells, Blank::new(1))
+fn is_as_said(alloc: Global, text: &str) -> Result<bool, RowFault> {
+    let cells = cells_of(text)?;
+    let block = block_of(alloc, &cells)?;
+    is_met::<Brand>(alloc, &block, &cells, Blank::new(1))
 }
 
 fn is_refused(alloc: Global, block: &str) -> Result<bool, RowFault> {
@@ -106,7 +103,7 @@ fn value_nodes_are_as_said(rt: HostRuntime) -> Result<(), Fail> {
 
 #[test]
 fn all_components_stand_in_one_shape(rt: HostRuntime) -> Result<(), Fail> {
-    all_blocks_met(rt.alloc(), components::ROWS, is_as_said)
+    all_blocks_met(rt.alloc(), together::ROWS, is_as_said)
 }
 
 #[test]

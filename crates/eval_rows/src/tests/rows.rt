@@ -4,6 +4,7 @@
 pub(super) mod components;
 pub(super) mod nesting;
 pub(super) mod targets;
+pub(super) mod together;
 pub(super) mod values;
 pub(super) mod worked;
 pub(super) mod wrong;

@@ -8,6 +8,7 @@ use super::constraints::Maker;
 use super::order::stands_last;
 use super::paths::path_of;
 use super::terms::id_of;
+use super::words::divided;
 use comp_core::ShapeNo;
 use path_eval::Path;
 use row_tools::{RowFault, cut};
@@ -67,7 +68,9 @@ fn constraints_among(alloc: Global, maker: &Maker, words: &str) -> Result<Vec<Co
     let mut constraints = Vec::new(alloc);
     for word in words.split_whitespace() {
         if is_constraint(word) {
-            let constraint = maker.constraint(alloc, word)?;
+            let (name, parts) = cut(word, "=")?;
+            let (value, others) = divided(parts, ",");
+            let constraint = maker.constraint(alloc, name, value, others)?;
             if !stands_last(maker.pool, &constraints, &constraint) {
                 return Err(RowFault::Unread);
             }
@@ -87,7 +90,11 @@ pub(super) fn shape_of(
     ensures { IfOk result (Fits pool.now.terms shape) }
 {
     let (node, words) = cut(line, " ")?;
-    let maker = Maker { pool, shape };
+    let maker = Maker {
+        pool,
+        shape,
+        mark: ",",
+    };
     let id = id_of(alloc, pool, node)?;
     let severity = id_of(alloc, pool, "sh:Violation")?;
     let path = path_among(alloc, pool, words)?;

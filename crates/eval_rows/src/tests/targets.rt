@@ -2,14 +2,13 @@
 ghost use Rattle.shape_eval.specs.Plan.{IsKnownPlan};
 ghost use Rattle.shape_eval.specs.Planned.{plan_of};
 
+use super::blocks::{Block, block_of};
 use super::cells::{Cells, cells_of};
-use super::graphs::{graph_of, keys_of};
-use super::plans::plan_of;
 use super::rows::targets::{BEGUN, ROWS, WRONG};
 use super::terms::ids_of;
 use comp_core::ShapeNo;
 use due_view::DueView;
-use graph_view::{GraphView, ListGraph, Reads};
+use graph_view::{GraphView, Reads};
 use row_tools::{RowFault, all_blocks_met, number};
 use shape_eval::{Plan, eval_target};
 use shx_term::Id;
@@ -36,21 +35,20 @@ fn found<V: GraphView>(
 }
 
 // Whether the shape of a block has the target nodes that are due. Nothing but its keys may be looked up.
-fn is_met(alloc: Global, graph: &ListGraph, cells: &Cells) -> Result<bool, RowFault> {
-    let pool = graph.pool();
-    let plan = plan_of(alloc, pool, cells.shapes)?;
-    let due = ids_of(alloc, pool, cells.due, " ")?;
-    let keys = keys_of(alloc, pool, cells.keys)?;
-    let view = DueView::new(graph, &keys);
+fn is_met(alloc: Global, block: &Block, cells: &Cells) -> Result<bool, RowFault> {
+    let Block { graph, plan, keys } = block;
+    let shape = number(cells.asked)?;
+    let due = ids_of(alloc, graph.pool(), cells.due, " ")?;
+    let view = DueView::new(graph, keys);
     let mut reads = Reads::new(alloc);
-    let nodes = found(alloc, &view, &plan, number(cells.asked)?, &mut reads)?;
+    let nodes = found(alloc, &view, plan, shape, &mut reads)?;
     Ok(nodes == due && view.are_read(&reads))
 }
 
-fn is_as_said(alloc: Global, block: &str) -> Result<bool, RowFault> {
-    let cells = cells_of(block)?;
-    let graph = graph_of(alloc, cells.triples)?;
-    is_met(alloc, &graph, &cells)
+fn is_as_said(alloc: Global, text: &str) -> Result<bool, RowFault> {
+    let cells = cells_of(text)?;
+    let block = block_of(alloc, &cells)?;
+    is_met(alloc, &block, &cells)
 }
 
 fn is_refused(alloc: Global, block: &str) -> Result<bool, RowFault> {
@@ -62,15 +60,16 @@ fn is_refused(alloc: Global, block: &str) -> Result<bool, RowFault> {
 }
 
 // Whether validation begins from the shapes that are due.
-fn begins_as_said(alloc: Global, block: &str) -> Result<bool, RowFault> {
-    let cells = cells_of(block)?;
-    let graph = graph_of(alloc, cells.triples)?;
-    let plan = plan_of(alloc, graph.pool(), cells.shapes)?;
-    let mut due = Vec::new(alloc);
+fn begins_as_said(alloc: Global, text: &str) -> Result<bool, RowFault> {
+    let cells = cells_of(text)?;
+    let block = block_of(alloc, &cells)?;
+    let mut rest = block.plan.targeted().iter();
     for word in cells.due.split_whitespace() {
-        due.push(number(word)?)?;
+        if rest.next() != Some(&number(word)?) {
+            return Ok(false);
+        }
     }
-    Ok(plan.targeted() == due.as_slice())
+    Ok(rest.next().is_none())
 }
 
 #[test]

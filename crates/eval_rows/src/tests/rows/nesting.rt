@@ -34,7 +34,8 @@ e:B path=e:q MinCount='1'^^integer
 e:S And=e:L,0,1 Or=e:L,0,1 Xone=e:L,0,1 Node=e:A,0
 | -
 | 2 e:a
-| And 2 e:a - e:a, Or 2 e:a - e:a, Xone 2 e:a - e:a, Node 2 e:a - e:a
+| And 2 e:a - e:a, Or 2 e:a - e:a, Xone 2 e:a - e:a, \
+Node 2 e:a - e:a < MinCount 0 e:a - -
 | e:a e:p, e:a e:q
 
 the first conforms, of two that are joined
@@ -60,7 +61,7 @@ e:A Class=e:C
 e:S path=e:p Node=e:A,0
 | e:a e:p e:b, e:a e:p e:c, e:a e:p 'x', e:b rdf:type e:D, e:D rdfs:subClassOf e:C
 | 1 e:a
-| Node 1 e:a - e:c, Node 1 e:a - 'x'
+| Node 1 e:a - e:c < Class 0 e:c - e:c, Node 1 e:a - 'x' < Class 0 'x' - 'x'
 | e:a e:p, e:b rdf:type, e:c rdf:type, e:D rdfs:subClassOf, e:C rdfs:subClassOf
 
 a negation that is negated
@@ -97,12 +98,22 @@ QualifiedMaxCount='0'^^integer,0
 | Not 1 e:a - e:b, QualifiedMaxCount 1 e:a - -
 | e:a e:q
 
+what a result rests on is one level deep, in order, and is handed on
+e:A NodeKind=sh:IRI HasValue=e:d
+e:B Node=e:A,0 In=e:L,e:d
+e:P path=e:p Node=e:B,1
+e:S Property=e:P,2
+| e:a e:p 'x', e:a e:p e:d
+| 3 e:a
+| Node 2 e:a - 'x' < Node 1 'x' - 'x' < In 1 'x' - 'x'
+| e:a e:p
+
 a shape that is asked twice is read once, and has its results twice
 e:P path=e:p MaxCount='1'^^integer
 e:S And=e:L,0,0 Node=e:P,0 Property=e:P,0
 | e:a e:p e:b, e:a e:p e:c
 | 1 e:a
-| And 1 e:a - e:a, Node 1 e:a - e:a, MaxCount 0 e:a - -
+| And 1 e:a - e:a, Node 1 e:a - e:a < MaxCount 0 e:a - -, MaxCount 0 e:a - -
 | e:a e:p
 
 a value node that conforms to a sibling counts for neither bound

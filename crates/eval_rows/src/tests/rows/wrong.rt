@@ -30,6 +30,30 @@ e:S path=e:q Property=e:P,0
 | MinCount 0 e:a - -
 | e:a e:q, e:b e:p
 
+a result of sh:node without what it rests on
+e:A NodeKind=sh:Literal
+e:S Node=e:A,0
+| -
+| 1 e:a
+| Node 1 e:a - e:a
+| -
+
+a result that rests on one too many
+e:A NodeKind=sh:Literal
+e:S Node=e:A,0
+| -
+| 1 e:a
+| Node 1 e:a - e:a < NodeKind 0 e:a - e:a < NodeKind 0 e:a - e:a
+| -
+
+a result of sh:and that rests on another
+e:A NodeKind=sh:Literal
+e:S And=e:L,0
+| -
+| 1 e:a
+| And 1 e:a - e:a < NodeKind 0 e:a - e:a
+| -
+
 a nested result of the shape outside
 e:P path=e:p MinCount='1'^^integer
 e:S Property=e:P,0

@@ -1,3 +1,4 @@
+use super::words::divided;
 use row_tools::{RowFault, cut, in_three};
 
 /// The cells of a row: a component with its parameter and what else it takes, the value nodes, and the
@@ -7,20 +8,12 @@ use row_tools::{RowFault, cut, in_three};
 pub(super) struct Row<'a> {
     pub(super) component: &'a str,
     pub(super) value: &'a str,
-    pub(super) params: &'a str,
+    pub(super) others: &'a str,
     pub(super) nodes: &'a str,
     pub(super) due: &'a str,
     pub(super) triples: &'a str,
     pub(super) keys: &'a str,
     pub(super) told: &'a str,
-}
-
-// What stands before the first mark, and what stands behind it, if anything.
-fn divided<'a>(text: &'a str, mark: &str) -> (&'a str, &'a str) {
-    match text.split_once(mark) {
-        Some(parts) => parts,
-        None => (text, ""),
-    }
 }
 
 fn words(cell: &str) -> &str {
@@ -31,14 +24,14 @@ fn words(cell: &str) -> &str {
 pub(super) fn row_of(line: &str) -> Result<Row<'_>, RowFault> {
     let (asked, nodes, rest) = in_three(line, " | ")?;
     let (component, parameter) = cut(asked, " ")?;
-    let (value, params) = divided(parameter, " ");
+    let (value, others) = divided(parameter, " ");
     let (due, graph) = divided(rest, " | ");
     let (triples, reads) = divided(graph, " | ");
     let (keys, told) = divided(reads, " | ");
     Ok(Row {
         component,
         value,
-        params,
+        others,
         nodes: words(nodes),
         due: words(due),
         triples: words(triples),

@@ -1,7 +1,7 @@
 use Rattle.std.specs.Prelude.{IsTrue}
 use Rattle.std.specs.List.{AllWithin}
 use Rattle.comp_core.specs.Table.{has_pair}
-use Rattle.component_rows.proofs.tests.told.are_told.Given as goal
+use Rattle.eval_rows.proofs.tests.told.are_told.Given as goal
 
 abbrev pub invariant-loop-pair : goal.invariant-loop-pair
 invariant-loop-pair l =

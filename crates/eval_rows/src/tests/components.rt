@@ -1,60 +1,65 @@
-use super::asked::Asked;
-use super::named::is_answered;
-use super::params::{Params, params_of};
-use super::question::{Question, graph_of, keys_of, question_of};
+//! Going over the tables of components, each of which is asked by itself.
+ghost use Rattle.graph_view.specs.Graph.{HasTerms};
+ghost use Rattle.graph_view.specs.ListGraph.{plain_graph};
+ghost use Rattle.shape_eval.specs.Constraint.{constraint_numbers};
+
+use super::answers::{AT, answer};
+use super::constraints::Maker;
+use super::graphs::graph_of;
+use super::kinds::kind_of;
+use super::question::{Question, are_due};
 use super::row::{Row, row_of};
-use super::rows::{
+use super::rows::components::{
     closed, counts, lists, logic, pairs, qualified, ranges, strings, types, worked, wrong,
 };
-use super::told::{conforming_of, table_of};
-use comp_core::AnswerTable;
-use due_view::{DueView, are_known, is_known, is_valid};
-use graph_view::{ListGraph, Reads};
+use super::terms::terms_among;
+use due_view::{DueView, are_known, is_valid};
+use graph_view::{GraphView, ListGraph, Reads};
 use row_tools::{RowFault, all_met};
+use shape_eval::Constraint;
 use std::alloc::Global;
 use std::test::Fail;
 
-// Whether the component of a row answers over a valid graph as is due. It may look up these keys alone.
-fn is_met(
+// Whether a component finds over a valid graph what is due. It may look up the keys of the row alone.
+fn finds(
     alloc: Global,
-    name: &str,
-    question: &Question,
-    params: Params,
-    told: &AnswerTable,
     graph: &ListGraph,
-    keys: &Reads,
-) -> Result<bool, RowFault> {
-    if !is_valid(graph) || !is_known(graph, question.value) {
-        return Err(RowFault::Unread);
-    }
-    if !are_known(graph, &params.members) || !are_known(graph, &question.nodes) {
-        return Err(RowFault::Unread);
-    }
-    let view = &DueView::new(graph, keys);
+    constraint: &Constraint,
+    question: &Question,
+    row: &Row,
+) -> Result<bool, RowFault>
+    requires { HasTerms (plain_graph graph.now) (constraint_numbers constraint.now) }
+{
+    let view = DueView::new(graph, &question.keys);
     let mut reads = Reads::new(alloc);
-    let asked = Asked {
-        question,
-        view,
-        told,
-    };
-    let is_answered = is_answered(alloc, name, params, &asked, &mut reads)?;
-    Ok(is_answered && view.are_read(&reads))
+    if !is_valid(graph) || !are_known(graph, &question.nodes) {
+        return Err(RowFault::Unread);
+    }
+    let rows = answer(alloc, &view, constraint, question, &mut reads)?;
+    let kind = kind_of(row.component)?;
+    let is_due = are_due(alloc, graph.pool(), &rows, kind, &question.told, row.due)?;
+    Ok(is_due && view.are_read(&reads))
 }
 
-// Whether a row is met over its graph, into which its words are entered.
-fn is_met_in(alloc: Global, graph: &mut ListGraph, row: &Row) -> Result<bool, RowFault> {
-    let question = question_of(alloc, graph, row)?;
-    let keys = keys_of(alloc, graph, row.keys)?;
-    let params = params_of(alloc, graph, row.params)?;
-    let conforming = conforming_of(alloc, graph, row.told)?;
-    let told = table_of(alloc, &params.shapes, &question.nodes, &conforming)?;
-    is_met(alloc, row.component, &question, params, &told, graph, &keys)
+// Whether a row is met over its graph, which has the terms of its words.
+#[tactic(auto, using(crate::proofs::ConstraintLemmas::fits_numbers))]
+fn is_met(alloc: Global, graph: &ListGraph, row: &Row) -> Result<bool, RowFault> {
+    let maker = Maker {
+        pool: graph.pool(),
+        shape: AT.shape,
+        mark: " ",
+    };
+    let mut question = Question::new(alloc);
+    question.take(alloc, maker.pool, row)?;
+    let constraint = maker.constraint(alloc, row.component, row.value, row.others)?;
+    finds(alloc, graph, &constraint, &question, row)
 }
 
 fn is_as_said(alloc: Global, line: &str) -> Result<bool, RowFault> {
     let row = row_of(line)?;
-    let mut graph = graph_of(alloc, row.triples)?;
-    is_met_in(alloc, &mut graph, &row)
+    let pool = terms_among(alloc, row.triples, line)?;
+    let graph = graph_of(alloc, pool, row.triples)?;
+    is_met(alloc, &graph, &row)
 }
 
 fn is_refused(alloc: Global, line: &str) -> Result<bool, RowFault> {

@@ -2,32 +2,35 @@
 ghost use Rattle.std.specs.Prelude.{◌≡◌, All, IsTrue};
 ghost use Rattle.comp_core.specs.Table.{has_pair};
 
-use super::question::all_entered;
+use super::row::Row;
+use super::terms::id_of;
 use comp_core::kinds::NODE_KIND;
 use comp_core::{AnswerTable, Answered, Pair, ResultRow, ShapeNo};
-use graph_view::ListGraph;
 use row_tools::{RowFault, cut, number};
-use shx_term::{Id, Memory};
+use shx_term::{Id, Memory, Pool};
 use std::alloc::Global;
 
 // How many results a node has where it does not conform, all of them equal.
 const RESULTS: usize = 2;
 
-/// Which nodes conform, by the shape: the number of a shape, a colon and nodes, with commas between these.
-pub(super) fn conforming_of(
-    alloc: Global,
-    graph: &mut ListGraph,
-    cell: &str,
-) -> Result<Vec<Pair>, RowFault> {
-    let mut pairs = Vec::new(alloc);
-    for part in cell.split_terminator(", ") {
-        let (shape, nodes) = cut(part, ": ")?;
-        let shape = number(shape)?;
-        for node in &all_entered(alloc, graph, nodes)? {
-            pairs.push(Pair { shape, node: *node })?;
+fn is_among(alloc: Global, pool: &Pool, node: Id, words: &str) -> Result<bool, RowFault> {
+    for word in words.split_whitespace() {
+        if id_of(alloc, pool, word)? == node {
+            return Ok(true);
         }
     }
-    Ok(pairs)
+    Ok(false)
+}
+
+// Whether a pair conforms by a cell: the number of a shape, a colon and nodes, with commas between these.
+fn conforms(alloc: Global, pool: &Pool, pair: Pair, cell: &str) -> Result<bool, RowFault> {
+    for part in cell.split_terminator(", ") {
+        let (shape, nodes) = cut(part, ": ")?;
+        if number(shape)? == pair.shape && is_among(alloc, pool, pair.node, nodes)? {
+            return Ok(true);
+        }
+    }
+    Ok(false)
 }
 
 // The results of a pair that conforms, or does not.
@@ -41,28 +44,42 @@ fn answered(alloc: Global, pair: Pair, conforms: bool) -> Result<Answered, Memor
     Ok(Answered { pair, rows })
 }
 
-/// Answers for each of the nodes at each of the shapes: these pairs conform, and no others.
-pub(super) fn table_of(
+// Adds the answer of each node at a shape, as a cell tells it.
+fn tell(
     alloc: Global,
-    shapes: &[ShapeNo],
+    pool: &Pool,
+    shape: ShapeNo,
     nodes: &[Id],
-    conforming: &[Pair],
-) -> Result<AnswerTable, Memory> {
-    let mut answers = Vec::new(alloc);
+    cell: &str,
+    table: &mut AnswerTable,
+) -> Result<(), RowFault> {
     for node in nodes {
-        for shape in shapes {
-            let pair = Pair {
-                shape: *shape,
-                node: *node,
-            };
-            answers.push(answered(alloc, pair, conforming.contains(&pair))?)?;
-        }
+        let pair = Pair { shape, node: *node };
+        let conforms = conforms(alloc, pool, pair, cell)?;
+        table.answers.push(answered(alloc, pair, conforms)?)?;
     }
-    Ok(AnswerTable { answers })
+    Ok(())
 }
 
-// Whether the table has an answer for a pair.
-fn is_told(answers: &[Answered], pair: &Pair) -> bool
+/// Adds the answers of the nodes at each of the shapes that a row names: those of its last cell conform, and
+/// no others.
+pub(super) fn tell_all(
+    alloc: Global,
+    pool: &Pool,
+    row: &Row,
+    nodes: &[Id],
+    table: &mut AnswerTable,
+) -> Result<(), RowFault> {
+    for word in row.others.split_whitespace() {
+        if let Ok(shape) = number(word) {
+            tell(alloc, pool, shape, nodes, row.told, table)?;
+        }
+    }
+    Ok(())
+}
+
+/// Whether the table has an answer for a pair.
+pub(super) fn is_told(answers: &[Answered], pair: &Pair) -> bool
     ensures { IsTrue result → IsTrue (has_pair answers.now pair.now) }
 {
     for answered in answers {

@@ -143,6 +143,22 @@ result Closed Violation {S} {a} - -
 result HasValue Violation {S} {a} - -
 result In Violation {S} {a} - -
 
+details, of their own shapes, behind the messages; of no shape, nothing
+e:S sh:Warning - 'none'@en 'rien'@fr
+e:T sh:Info e:q* 'x'
+e:U sh:Violation e:p 'x'
+| 23 e:a e:b - 0 < 4 e:b - - 1 < 27 e:b 'x' e:next 2 < 23 e:b e:b - 0 < 1 e:b - - 3
+21 e:a - - 1
+| report conforms=false results=2
+result Node Warning {S} {a} - {b}
+message "none"@en
+message "rien"@fr
+detail MinCount Info {T} {b} ({q}*) -
+detail Closed Violation {U} {b} {next} "x"
+detail Node Warning {S} {b} - {b}
+result Or Info {T} {a} ({q}*) -
+message "x"
+
 no component, and no shape
 e:S sh:Violation - -
 e:T sh:Violation - -

@@ -13,6 +13,67 @@ e:U sh:Violation - -
 | _:a-1 {rdf:type} {sh:ValidationReport}
 _:a-1 {sh:conforms} "true"^^{xsd:boolean}
 
+details, of their own shapes, and without messages
+e:S sh:Warning - 'none'@en
+e:T sh:Info e:p^ 'x'
+e:U sh:Violation - -
+| 23 e:a e:b - 0 < 4 e:b - - 1 < 27 e:b 'x' e:next 2 < 1 e:b - - 3
+| @prefix sh: <http://www.w3.org/ns/shacl#> .
+[] a sh:ValidationReport ;
+  sh:conforms false ;
+  sh:result [
+    a sh:ValidationResult ;
+    sh:focusNode {a} ;
+    sh:value {b} ;
+    sh:sourceShape {S} ;
+    sh:sourceConstraintComponent sh:NodeConstraintComponent ;
+    sh:resultMessage "none"@en ;
+    sh:resultSeverity {sh:Warning} ;
+    sh:detail [
+      a sh:ValidationResult ;
+      sh:focusNode {b} ;
+      sh:resultPath [ sh:inversePath {p} ] ;
+      sh:sourceShape {T} ;
+      sh:sourceConstraintComponent sh:MinCountConstraintComponent ;
+      sh:resultSeverity {sh:Info}
+    ] ;
+    sh:detail [
+      a sh:ValidationResult ;
+      sh:focusNode {b} ;
+      sh:resultPath {next} ;
+      sh:value "x" ;
+      sh:sourceShape {U} ;
+      sh:sourceConstraintComponent sh:ClosedConstraintComponent ;
+      sh:resultSeverity {sh:Violation}
+    ]
+  ] .
+| _:a-1 {rdf:type} {sh:ValidationReport}
+_:a-1 {sh:conforms} "false"^^{xsd:boolean}
+_:a-1 {sh:result} _:a-2
+_:a-2 {rdf:type} {sh:ValidationResult}
+_:a-2 {sh:focusNode} {a}
+_:a-2 {sh:value} {b}
+_:a-2 {sh:sourceShape} {S}
+_:a-2 {sh:sourceConstraintComponent} {sh:NodeConstraintComponent}
+_:a-2 {sh:resultMessage} "none"@en
+_:a-2 {sh:resultSeverity} {sh:Warning}
+_:a-2 {sh:detail} _:a-3
+_:a-3 {rdf:type} {sh:ValidationResult}
+_:a-3 {sh:focusNode} {b}
+_:a-3 {sh:resultPath} _:a-4
+_:a-4 {sh:inversePath} {p}
+_:a-3 {sh:sourceShape} {T}
+_:a-3 {sh:sourceConstraintComponent} {sh:MinCountConstraintComponent}
+_:a-3 {sh:resultSeverity} {sh:Info}
+_:a-2 {sh:detail} _:a-5
+_:a-5 {rdf:type} {sh:ValidationResult}
+_:a-5 {sh:focusNode} {b}
+_:a-5 {sh:resultPath} {next}
+_:a-5 {sh:value} "x"
+_:a-5 {sh:sourceShape} {U}
+_:a-5 {sh:sourceConstraintComponent} {sh:ClosedConstraintComponent}
+_:a-5 {sh:resultSeverity} {sh:Violation}
+
 one result, with a path and a message, and without a value
 e:S sh:Warning e:p^ 'none'@en
 e:T sh:Violation - -

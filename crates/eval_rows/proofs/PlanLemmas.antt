@@ -1,5 +1,5 @@
 -- A plan with one shape more is a plan, and constraints with one more are in order.
-use Rattle.std.specs.Prelude.{◌≡◌, ℕ, zero, suc, ◌+◌, ◌<◌, ◌≤◌, ◌^◌, nat_eq, List, [], ◌∷◌, ◌++◌, ◌⊎◌}
+use Rattle.std.specs.Prelude.{◌≡◌, ℕ, zero, suc, ◌<◌, ◌≤◌, nat_eq, List, [], ◌∷◌, ◌++◌, ◌⊎◌}
 use Rattle.std.specs.Prelude.{Option, Some, None, All, Contains, flat_map, length, slice_get}
 use Rattle.std.specs.Cmp.{nat_eq_equiv}
 use Rattle.std.specs.List.{IsDistinct}
@@ -17,11 +17,10 @@ use Rattle.shx_term.specs.IdOrder.{id_cmp}
 use Rattle.shx_term.proofs.MemberLemmas.{Contains-at, Contains-one, each_of_All, none_in_empty}
 use Rattle.graph_view.proofs.PatchedLemmas.{IsDistinct-append}
 use Rattle.shape_order.specs.Levels.{HasSteps}
-use Rattle.shape_order.specs.Refs.{Refers}
 use Rattle.shape_eval.specs.declared.constraint.Constraint.{Constraint}
 use Rattle.shape_eval.specs.declared.shape.PlanShape.{PlanShape}
 use Rattle.shape_eval.specs.Constraint.{members_of, numbers_stated, parameter_of, shapes_named}
-use Rattle.shape_eval.specs.Plan.{AreInOrder, HasTermsOf, IsKnownPlan, IsOrderly, IsPlan, RefersLower}
+use Rattle.shape_eval.specs.Plan.{AreInOrder, HasTermsOf, IsOrderly, IsPlan, RefersLower}
 use Rattle.shape_eval.specs.Plan.{StandsBefore, names_of, nodes_of, references, target_number}
 use Rattle.eval_rows.specs.Fits.{Fits, FitsBelow, FitsMaybe, FitTogether}
 

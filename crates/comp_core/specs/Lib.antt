@@ -1,6 +1,7 @@
 pub mod Asking
 pub mod Details
 pub mod Laws
+pub mod Memo
 pub mod Pairs
 pub mod Results
 pub mod Rows

@@ -1,5 +1,5 @@
 //! What a result rests on (SHACL, section 3.6.2.6).
-ghost use Rattle.std.specs.Prelude.{◌≡◌, ◌++◌, [], map, IfOk};
+ghost use Rattle.std.specs.Prelude.{◌≡◌, [], map, IfOk};
 ghost use Rattle.comp_core.specs.Rows.{detail_of};
 
 use crate::{Kind, ResultRow, ShapeNo};

@@ -5,7 +5,9 @@
 //! | `component.rt` | `Component`, with its laws |
 //! | `conform.rt` | `Conform`: who tells what was found at other shapes |
 //! | `pair.rt` | `Pair`: a node at which a shape is checked; `At`: where a constraint is checked |
+//! | `memo.rt` | `PairAnswer`: what a pair comes to; `Memo`: where that is remembered |
 //! | `row.rt` | `ResultRow`: a result |
+//! | `row_list.rt` | `RowList`: the results at one node |
 //! | `detail.rt` | `Details`: the results on which a result rests |
 //! | `results.rt` | results as most components give them |
 //! | `asking.rt` | asking about a node at some shapes |
@@ -24,9 +26,11 @@ mod detail;
 mod held;
 pub mod kinds;
 mod lookup;
+mod memo;
 mod pair;
 mod results;
 mod row;
+mod row_list;
 mod table;
 
 pub use asking::{ask_at, ask_shapes, conforming};
@@ -35,7 +39,9 @@ pub use conform::Conform;
 pub use detail::{DetailRow, Details};
 pub use kinds::Kind;
 pub use lookup::Lookup;
+pub use memo::{Memo, PairAnswer, Recalled};
 pub use pair::{At, Pair, ShapeNo};
 pub use results::{add_copies, add_once_if, add_resting_on, add_unless};
 pub use row::ResultRow;
+pub use row_list::RowList;
 pub use table::{AnswerTable, Answered};

@@ -30,6 +30,10 @@ pub trait Notes: Drop {
     fn add_all(&mut self, other: &Self) -> Result<(), Memory>
         ensures { (keys : List Key) → has other.now keys → OnOk result (notes self.old self.new keys) };
 
+    /// Gives back the memory that is not needed, if that is worth while.
+    fn pack(&mut self, alloc: Global) -> Result<(), Memory>
+        ensures { (keys : List Key) → has self.old keys → OnOk result (has self.new keys) };
+
     ghost laws: { IsNoting notes };
 
     ghost has_more: { (a b : Self) (keys more : List Key)
@@ -63,6 +67,10 @@ impl Notes for Reads {
     fn add_all(&mut self, other: &Reads) -> Result<(), Memory> {
         self.add_all(other)
     }
+
+    fn pack(&mut self, alloc: Global) -> Result<(), Memory> {
+        self.pack(alloc)
+    }
 }
 
 /// Keeps nothing of what is read, where nobody asks for it.
@@ -93,6 +101,10 @@ impl Notes for Unnoted {
     }
 
     fn add_all(&mut self, _other: &Unnoted) -> Result<(), Memory> {
+        Ok(())
+    }
+
+    fn pack(&mut self, _alloc: Global) -> Result<(), Memory> {
         Ok(())
     }
 }

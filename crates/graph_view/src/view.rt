@@ -7,7 +7,6 @@ ghost use Rattle.shx_term.specs.ValidTriples.{IsNotWide};
 ghost use Rattle.graph_view.specs.Agree.{Agree};
 ghost use Rattle.graph_view.specs.Graph.{Graph, IsKnownTriple, AllKnown, HasTerms};
 ghost use Rattle.graph_view.specs.Graph.{objects_of, subjects_of, triples_of, triples_with};
-ghost use Rattle.shx_term.specs.Members.{Adds};
 ghost use Rattle.graph_view.specs.Key.{look};
 ghost use Rattle.graph_view.specs.Valid.{IsValidView};
 

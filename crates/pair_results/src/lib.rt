@@ -6,7 +6,6 @@
 //! | `pair_results.rt` | `PairResults`: the results of each shape at each node; what is staged |
 //! | `staging.rt` | how changes are staged, made and dropped |
 //! | `nodes.rt` | the nodes of one shape, each at a place of its own |
-//! | `row_list.rt` | `RowList`: the results at one node |
 //! | `rows.rt` | `Rows`: going over the results of some shapes |
 //! | `laws.rt` | in which order the results of a shape stand |
 //!
@@ -17,7 +16,6 @@
 mod laws;
 mod nodes;
 mod pair_results;
-mod row_list;
 mod rows;
 mod staging;
 

@@ -5,8 +5,7 @@ ghost use Rattle.shx_term.specs.TermOrder.{term_cmp};
 ghost use Rattle.pair_results.specs.PairResults.{place_of, rows_in, rows_of_nodes};
 ghost use Rattle.pair_results.specs.inner.Invariant.{KeepOtherPlaces, KeepPlaces, SameRowsIn};
 
-use crate::row_list::RowList;
-use comp_core::ResultRow;
+use comp_core::{ResultRow, RowList};
 use shx_term::{Memory, Term};
 use std::alloc::Global;
 use std::collections::BTreeMap;

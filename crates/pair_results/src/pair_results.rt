@@ -2,9 +2,8 @@ ghost use Rattle.std.specs.Prelude.{◌≡◌, ◌<◌, [], All, length, flat_ma
 ghost use Rattle.pair_results.specs.PairResults.{all_rows, rows_at, shape_rows, HasNothing, AreInTermOrder};
 
 use crate::nodes::{Nodes, rows_in};
-use crate::row_list::RowList;
 use crate::rows::Rows;
-use comp_core::{ResultRow, ShapeNo};
+use comp_core::{ResultRow, RowList, ShapeNo};
 use shx_term::{Memory, Term};
 use std::alloc::Global;
 use std::collections::BTreeMap;

@@ -3,8 +3,7 @@ ghost use Rattle.pair_results.specs.PairResults.{rows_of_nodes};
 ghost use Rattle.pair_results.specs.inner.ToCome.{nodes_at, to_come, turns_left};
 
 use crate::nodes::Nodes;
-use crate::row_list::RowList;
-use comp_core::{ResultRow, ShapeNo};
+use comp_core::{ResultRow, RowList, ShapeNo};
 use shx_term::Term;
 use std::collections::btree_map::Values;
 use std::marker::Model;

@@ -148,36 +148,15 @@ module _ {A B : Type 0} where
       → ((z : A) → Contains xs z → SameMembers (f z) (g z)) → SameMembers (flat_map f xs) (flat_map g xs)
   SameMembers-parts f g xs each = SameMembers-flat_map f g xs xs (SameMembers-itself xs) each
 
-  -- a step of a loop that adds what is made of one element after the other; x is the element at i
-  pub Adds-take_item : (f : A → List B) (xs : List A) (i : ℕ) (x : A) → i < length xs → x ≡ get_or xs i x
-      → {old mid new : List B} → Adds old mid (flat_map f (take i xs)) → Adds mid new (f x)
-      → Adds old new (flat_map f (take (i + 1) xs))
-  Adds-take_item f xs i x inside here {old} {mid} {new} before step =
-      let item = get_or xs i x in
-      let all : flat_map f (take (i + 1) xs) ≡ flat_map f (take i xs) ++ f x =
-      ap (flat_map f) (take_more xs i x inside)
-      ∙ flat_map-append f (take i xs) (item ∷ [])
-      ∙ ap (λ ks. flat_map f (take i xs) ++ ks) (append-nil (f item))
-      ∙ ap (λ y. flat_map f (take i xs) ++ f y) (sym here) in
-      subst (Adds old new) (sym all) (Adds-then (flat_map f (take i xs)) (f x) before step)
-
-  -- the same where the element at i is read with any default
+  -- a step of a loop that adds what is made of one element after the other
   pub Adds-take_more : (f : A → List B) (xs : List A) (i : ℕ) (d : A) → i < length xs
       → {old mid new : List B} → Adds old mid (flat_map f (take i xs)) → Adds mid new (f (get_or xs i d))
       → Adds old new (flat_map f (take (i + 1) xs))
-  Adds-take_more f xs i d inside before step =
-      let here = get_or_default xs i (get_or xs i d) d inside in
-      Adds-take_item f xs i (get_or xs i d) inside (sym here) before step
-
--- a step of a loop that adds what is made of the image of one element after the other
-pub Adds-map_more : {A B C : Type 0} (f : B → List C) (k : A → B) (xs : List A) (i : ℕ) (d : A)
-    → i < length xs → {old mid new : List C} → Adds old mid (flat_map f (map k (take i xs)))
-    → Adds mid new (f (k (get_or xs i d))) → Adds old new (flat_map f (map k (take (i + 1) xs)))
-Adds-map_more f k xs i d inside {old} {mid} {new} before step =
-    let x = get_or xs i d in
-    let all : flat_map f (map k (take (i + 1) xs)) ≡ flat_map f (map k (take i xs)) ++ f (k x) =
-    ap (λ ys. flat_map f (map k ys)) (take_more xs i d inside)
-    ∙ ap (flat_map f) (map-append k (take i xs) (x ∷ []))
-    ∙ flat_map-append f (map k (take i xs)) (k x ∷ [])
-    ∙ ap (λ ks. flat_map f (map k (take i xs)) ++ ks) (append-nil (f (k x))) in
-    subst (Adds old new) (sym all) (Adds-then (flat_map f (map k (take i xs))) (f (k x)) before step)
+  Adds-take_more f xs i d inside {old} {mid} {new} before step =
+      let x = get_or xs i d in
+      let all : flat_map f (take (i + 1) xs) ≡ flat_map f (take i xs) ++ f x =
+      ap (flat_map f) (take_more xs i x inside)
+      ∙ flat_map-append f (take i xs) (get_or xs i x ∷ [])
+      ∙ ap (λ ks. flat_map f (take i xs) ++ ks) (append-nil (f (get_or xs i x)))
+      ∙ ap (λ y. flat_map f (take i xs) ++ f y) (get_or_default xs i x d inside) in
+      subst (Adds old new) (sym all) (Adds-then (flat_map f (take i xs)) (f x) before step)

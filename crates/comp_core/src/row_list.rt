@@ -1,11 +1,12 @@
+//! A list of results, which a map can hold.
 ghost use Rattle.std.specs.Prelude.{◌≡◌, length};
 
-use comp_core::ResultRow;
+use crate::ResultRow;
 use std::marker::Model;
 
-/// The results of a shape at a node. Contracts see a list.
+/// The results of a shape at a node, in order. Contracts see a list.
 #[derive(Drop)]
-pub(crate) struct RowList {
+pub struct RowList {
     rows: Vec<ResultRow>,
 }
 
@@ -19,19 +20,22 @@ impl Model for RowList {
 }
 
 impl RowList {
-    pub(crate) fn new(rows: Vec<ResultRow>) -> RowList
+    /// Takes the rows; no memory.
+    pub fn new(rows: Vec<ResultRow>) -> RowList
         ensures { result ≡ rows.items }
     {
         RowList { rows }
     }
 
-    pub(crate) fn as_slice(&self) -> &[ResultRow]
+    /// The rows, in order.
+    pub fn as_slice(&self) -> &[ResultRow]
         ensures { result.now ≡ self.now }
     {
         &self.rows
     }
 
-    pub(crate) fn len(&self) -> u64
+    /// How many rows there are.
+    pub fn len(&self) -> u64
         ensures { result ≡ length self.now }
     {
         self.rows.len() as u64

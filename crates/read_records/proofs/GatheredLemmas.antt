@@ -1,4 +1,4 @@
--- What is gathered from notes: whoever has read a key stands under it; and what is recorded of a list.
+-- What is gathered from notes: whoever has read a key stands under it; and what is kept of a list.
 use Rattle.std.specs.Prelude.{◌≡◌, List, [], ◌∷◌, Option, Some, None, Contains, map, ◌⊎◌}
 use Rattle.std.specs.BTreeMap as tree
 use Rattle.std.specs.BTreeMap.{BTreeMap}
@@ -13,12 +13,13 @@ use Rattle.std.proofs.lemmas.Map.Views.{Contains-from_lookup, tells_apart}
 use Rattle.shx_term.proofs.MemberLemmas.{Contains-cases, none_in_empty}
 use Rattle.graph_view.specs.declared.key.Key.{Key}
 use Rattle.read_records.proofs.ReadingLemmas.{reader_cmp_exact}
-use Rattle.read_records.proofs.StoreLemmas.{is_at, kept_recorded}
+use Rattle.read_records.proofs.SeenLemmas.{kept_recorded}
+use Rattle.read_records.proofs.StoreLemmas.{is_at}
 use Rattle.read_records.specs.declared.noted.Noted.{Noted}
 use Rattle.read_records.specs.declared.reader.Reader.{Reader}
 use Rattle.read_records.specs.Reader.{reader_cmp, same_reader}
 use Rattle.read_records.specs.Records.{reads_of}
-use Rattle.read_records.specs.Store.{Notes, if_noted}
+use Rattle.read_records.specs.Store.{Notes, if_noted, kept_for}
 use Rattle.read_records.specs.inner.Notes.{AreUnder, as_recorded, reads_noted}
 use Rattle.read_records.specs.inner.ReaderLaws.{reader_cmp_ties, reader_cmp_total}
 use Rattle.read_records.specs.inner.Readings.{Filed, StandsUnderEach, StaysIn, reading}
@@ -30,9 +31,6 @@ module _ {T : Type 0} where
   pub record AreGathered (all left : Notes (Noted T)) (readings : Filed) : Type 0 where
     pub each : (reader : Reader) (noted : Noted T) → Contains all (reader, Some noted)
         → Contains left (reader, Some noted) ⊎ StandsUnderEach readings noted.reads reader
-
-  pub AreGathered-none : (all : Notes (Noted T)) (readings : Filed) → AreGathered all all readings
-  AreGathered-none all readings = record { each = λ reader noted c. inl c }
 
   -- one entry less is left
   pub AreGathered-next : {all left next : Notes (Noted T)} {old new : Filed} (reader : Reader)
@@ -67,36 +65,52 @@ module _ {T : Type 0} where
         ];
   }
 
--- ---- what is recorded of a list of readers and their reads
-
-abbrev pub without_value : Option (List Key) → Option (Noted (Unit {0}))
-without_value reads = option_map (λ keys. record { value = tt; reads = keys }) reads
-
-abbrev pub as_note : Reader × List Key → Reader × Option (Noted (Unit {0}))
-as_note e = (e.0, without_value (Some e.1))
+-- ---- what is kept of a list of readers
 
 distinct_at : (readers : List Reader) → IsDistinct same_reader readers
     → IsDistinct (eq_by_cmp reader_cmp) readers
 distinct_at readers once = subst (λ eq. IsDistinct eq readers) (λ i a b. reader_cmp_ties a b i) once
 
--- exactly these are recorded
+module _ {A T : Type 0} (noted : A → Noted T) where
+  abbrev pub as_note : Reader × A → Reader × Option (Noted T)
+  as_note e = (e.0, Some (noted e.1))
+
+  -- exactly these are kept
+  pub kept_of_all : (all : List (Reader × A)) (kept : BTreeMap Reader (Option (Noted T)))
+      → tree.IsFromIterResult reader_cmp (map as_note all) kept → IsDistinct same_reader (keys_of all)
+      → (reader : Reader)
+      → kept_for (record { kept = kept.entries; staged = [] }) reader
+      ≡ option_map noted (lookup (is_at reader) all)
+  kept_of_all all kept made once reader =
+      ap if_noted
+      (made.0 reader
+      ∙ update_all_none (eq_by_cmp_equiv reader_cmp_total) (eq_by_cmp reader_cmp) (λ x y. refl)
+      (map as_note all) reader
+      (subst (IsDistinct (eq_by_cmp reader_cmp)) (sym (keys_of-map_values (λ a. Some (noted a)) all))
+      (distinct_at (keys_of all) once))
+      ∙ lookup-map_values (λ a. Some (noted a)) (is_at reader) all)
+      ∙ inside (lookup (is_at reader) all)
+    where
+      inside : (found : Option A)
+          → if_noted (option_map (λ a. Some (noted a)) found) ≡ option_map noted found
+      inside None = refl
+      inside (Some a) = refl
+
+-- ---- what is recorded of a list of readers and their reads
+
+abbrev pub without_value : List Key → Noted (Unit {0})
+without_value reads = record { value = tt; reads = reads }
+
 pub recorded_of_all : (all : List (Reader × List Key)) (kept : BTreeMap Reader (Option (Noted (Unit {0}))))
-    → tree.IsFromIterResult reader_cmp (map as_note all) kept → IsDistinct same_reader (keys_of all)
-    → (reader : Reader)
+    → tree.IsFromIterResult reader_cmp (map (as_note without_value) all) kept
+    → IsDistinct same_reader (keys_of all) → (reader : Reader)
     → reads_of (as_recorded (record { kept = kept.entries; staged = [] })) reader
     ≡ lookup (eq_by_cmp reader_cmp reader) all
 recorded_of_all all kept made once reader =
     kept_recorded (record { kept = kept.entries; staged = [] }) reader
-    ∙ ap (λ entry. reads_noted (if_noted entry))
-    (made.0 reader
-    ∙ update_all_none (eq_by_cmp_equiv reader_cmp_total) (eq_by_cmp reader_cmp) (λ x y. refl)
-    (map as_note all) reader
-    (subst (IsDistinct (eq_by_cmp reader_cmp)) (sym (keys_of-map_values (λ r. without_value (Some r)) all))
-    (distinct_at (keys_of all) once))
-    ∙ lookup-map_values (λ r. without_value (Some r)) (is_at reader) all)
+    ∙ ap reads_noted (kept_of_all without_value all kept made once reader)
     ∙ back (lookup (is_at reader) all)
   where
-    back : (found : Option (List Key))
-        → reads_noted (if_noted (option_map (λ r. without_value (Some r)) found)) ≡ found
+    back : (found : Option (List Key)) → reads_noted (option_map without_value found) ≡ found
     back None = refl
     back (Some reads) = refl

@@ -1,8 +1,11 @@
 pub mod FiledLemmas
 pub mod GatheredLemmas
+pub mod MaskLemmas
 pub mod PostingLemmas
 pub mod RangeLemmas
 pub mod ReachedLemmas
 pub mod ReadingLemmas
+pub mod RecallLemmas
+pub mod SeenLemmas
 pub mod StoreLemmas
 pub mod TouchedLemmas

@@ -12,7 +12,8 @@ use Rattle.shx_term.proofs.MemberLemmas.{none_in_empty, Contains-one}
 use Rattle.graph_view.specs.declared.key.Key.{Key}
 use Rattle.graph_view.specs.Key.{key_cmp}
 use Rattle.read_records.proofs.ReadingLemmas.{reader_cmp_exact, Contains-taken}
-use Rattle.read_records.proofs.StoreLemmas.{kept_recorded, noted_is, recorded_noted}
+use Rattle.read_records.proofs.SeenLemmas.{kept_recorded, recorded_noted}
+use Rattle.read_records.proofs.StoreLemmas.{noted_is}
 use Rattle.read_records.proofs.TouchedLemmas.{Lists-sorted}
 use Rattle.read_records.specs.declared.noted.Noted.{Noted}
 use Rattle.read_records.specs.declared.reader.Reader.{Reader}

@@ -1,22 +1,18 @@
 -- Notes of readers: an entry that is made, filled or taken out, and the keys that are left.
-use Rattle.std.specs.Prelude.{◌≡◌, Bool, true, false, not, List, [], Option, Some, None, cond, Contains}
-use Rattle.std.specs.Prelude.{IsSome, is_some, if◌then◌else◌, ◌↔◌}
+use Rattle.std.specs.Prelude.{◌≡◌, Bool, true, false, not, [], Option, Some, None, cond, Contains}
+use Rattle.std.specs.Prelude.{IsSome, is_some, ◌↔◌}
 use Rattle.std.specs.BTreeMap.{BTreeMap, Updates}
-use Rattle.std.specs.Option.{option_map}
 use Rattle.std.specs.Ordering.{eq_by_cmp}
 use Rattle.std.proofs.Common.{refl, sym, ap, ◌∙◌, subst, true≢false}
-use Rattle.std.proofs.lemmas.Map.Made.{lookup-map_values}
 use Rattle.std.proofs.lemmas.Map.Views.{tells_apart}
 use Rattle.graph_view.specs.declared.key.Key.{Key}
 use Rattle.read_records.proofs.ReadingLemmas.{reader_cmp_exact}
 use Rattle.read_records.specs.declared.noted.Noted.{Noted}
 use Rattle.read_records.specs.declared.reader.Reader.{Reader}
 use Rattle.read_records.specs.Reader.{reader_cmp}
-use Rattle.read_records.specs.Store.{MakesStaged, Notes, SameNotes, SameStaged, StagesFor, Stored, changed_to}
-use Rattle.read_records.specs.Store.{change_for, if_noted, kept_for, note_at}
+use Rattle.read_records.specs.Store.{MakesStaged, Notes, Stored, changed_to, if_noted, kept_for, note_at}
 use Rattle.read_records.specs.inner.Notes.{AreUnder, ComesToSame, HasKey, HasNoted, HavePlaces, SameNoted}
 use Rattle.read_records.specs.inner.Notes.{StandsFor}
-use Rattle.read_records.specs.inner.Notes.{as_recorded, reads_noted}
 use Rattle.read_records.specs.inner.Readings.{Filed, IsLeft, Reading, Stands, StaysIn, reading}
 
 abbrev pub is_at : Reader → Reader → Bool
@@ -262,81 +258,3 @@ module _ {T : Type 0} where
         ∙ made.each reader
         ∙ before.each reader;
   }
-
--- ---- what is recorded: the keys of what is noted
-
-module _ {T : Type 0} where
-  pub change_recorded : (state : Stored (Noted T)) (reader : Reader)
-      → change_for (as_recorded state) reader ≡ option_map reads_noted (change_for state reader)
-  change_recorded state reader = lookup-map_values reads_noted (is_at reader) state.staged
-
-  pub kept_recorded : (state : Stored (Noted T)) (reader : Reader)
-      → kept_for (as_recorded state) reader ≡ reads_noted (kept_for state reader)
-  kept_recorded state reader =
-      ap if_noted (lookup-map_values reads_noted (is_at reader) state.kept)
-      ∙ inside (note_at state.kept reader)
-    where
-      inside : (entry : Entry T)
-          → if_noted (option_map reads_noted entry) ≡ reads_noted (if_noted entry)
-      inside None = refl
-      inside (Some noted) = refl
-
-  -- what is recorded is noted
-  pub recorded_noted : (state : Stored (Noted T)) (reader : Reader) (reads : List Key)
-      → kept_for (as_recorded state) reader ≡ Some reads
-      → (noted : Noted T) × ((kept_for state reader ≡ Some noted) × (noted.reads ≡ reads))
-  recorded_noted state reader reads is =
-      from (kept_for state reader) refl (sym (kept_recorded state reader) ∙ is)
-    where
-      from : (kept : Option (Noted T)) → kept_for state reader ≡ kept → reads_noted kept ≡ Some reads
-          → (noted : Noted T) × ((kept_for state reader ≡ Some noted) × (noted.reads ≡ reads))
-      from None at e = cc
-      from (Some noted) at e = (noted, (at, cc))
-
-  pub SameNotes-recorded : {old new : Stored (Noted T)} → SameNotes old new
-      → SameNotes (as_recorded old) (as_recorded new)
-  SameNotes-recorded {old} {new} same = record {
-    each = λ reader.
-        kept_recorded new reader ∙ ap reads_noted (same.each reader) ∙ sym (kept_recorded old reader);
-  }
-
-  pub SameStaged-recorded : {old new : Stored (Noted T)} → SameStaged old new
-      → SameStaged (as_recorded old) (as_recorded new)
-  SameStaged-recorded {old} {new} same = record {
-    each = λ reader.
-        change_recorded new reader
-        ∙ ap (option_map reads_noted) (same.each reader)
-        ∙ sym (change_recorded old reader);
-  }
-
-  pub StagesFor-recorded : {old new : Stored (Noted T)} {reader : Reader} {change : Option (Noted T)}
-      → StagesFor old new reader change
-      → StagesFor (as_recorded old) (as_recorded new) reader (reads_noted change)
-  StagesFor-recorded {old} {new} {reader} {change} stages = record {
-    each = λ other.
-        change_recorded new other
-        ∙ ap (option_map reads_noted) (stages.each other)
-        ∙ by (is_at reader other) other;
-  }
-    where
-      by : (b : Bool) (other : Reader)
-          → option_map reads_noted (if b then Some change else change_for old other)
-          ≡ (if b then Some (reads_noted change) else change_for (as_recorded old) other)
-      by true other = refl
-      by false other = sym (change_recorded old other)
-
-  pub MakesStaged-recorded : {old new : Stored (Noted T)} → MakesStaged old new
-      → MakesStaged (as_recorded old) (as_recorded new)
-  MakesStaged-recorded {old} {new} makes = record {
-    each = λ reader.
-        kept_recorded new reader
-        ∙ ap reads_noted (makes.each reader)
-        ∙ after (change_for old reader) (kept_for old reader)
-        ∙ (λ i. changed_to (sym (change_recorded old reader) i) (sym (kept_recorded old reader) i));
-  }
-    where
-      after : (change : Entry T) (noted : Option (Noted T))
-          → reads_noted (changed_to change noted)
-          ≡ changed_to (option_map reads_noted change) (reads_noted noted)
-      after None noted = refl
-      after (Some change) noted = refl

@@ -1,6 +1,8 @@
 -- Words of the inside: what is proved of public calls can be believed without them.
+pub mod Masks
 pub mod Notes
 pub mod Postings
 pub mod ReaderLaws
 pub mod Readings
+pub mod Remembered
 pub mod Touched

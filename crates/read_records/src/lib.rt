@@ -1,10 +1,11 @@
 //! Who read what: which keys of a graph were read for the target nodes of a shape or for a pair, and so whom
-//! an edit touches.
+//! an edit touches; and what is remembered of pairs until an edit touches them.
 //!
 //! | file | what it holds |
 //! |---|---|
 //! | `records.rt` | `Records`: what each reader has read; changes are staged, and made at once |
 //! | `reader.rt` | `Reader`: the target of a shape, or a pair |
+//! | `recall.rt` | `Recall`: the results of pairs, with what these were read from |
 //! | `store.rt` | `Store`: for each reader a value beside its keys; `Records` is one with no value |
 //! | `noted.rt` | `Noted`: a value, and the keys that were read for it |
 //! | `notes.rt` | what is noted for each reader, and under which keys it stands for that |
@@ -15,8 +16,9 @@
 //! | `touched.rt` | the keys that triples touch |
 //! | `gathered.rt` | readings that are gathered, and then put in order at once |
 //!
-//! It stands on `comp_core` for pairs and on `graph_view` for keys. Start with `records.rt`;
-//! `specs/Records.antt` says what is recorded, and whom a triple touches.
+//! It stands on `comp_core` for pairs and on `graph_view` for keys. Start with `records.rt` and `recall.rt`;
+//! `specs/Records.antt` says what is recorded, and whom a triple touches, and `specs/Recall.antt` what is
+//! remembered.
 #![tactic(auto)]
 
 mod by_kind;
@@ -27,9 +29,11 @@ mod posting;
 mod postings;
 mod reader;
 mod readings;
+mod recall;
 mod records;
 mod store;
 mod touched;
 
 pub use reader::Reader;
+pub use recall::Recall;
 pub use records::Records;

@@ -1,13 +1,17 @@
 //! What is kept for readers, found by reader and by key.
-ghost use Rattle.std.specs.Prelude.{◌≡◌, ◌↔◌, ◌⊎◌, ◌+◌, ◌++◌, [], length, Contains, IfOk, OnOk, OnErr};
+ghost use Rattle.std.specs.Prelude.{◌≡◌, ◌↔◌, ◌⊎◌, ◌+◌, ◌++◌, [], ◌∷◌, length, filter, is_some};
+ghost use Rattle.std.specs.Prelude.{Contains, IfOk, OnOk, OnErr};
 ghost use Rattle.std.specs.Bool.{OnTrue, OnFalse};
+ghost use Rattle.std.specs.Map.{values_of};
 ghost use Rattle.std.specs.Option.{option_copied};
 ghost use Rattle.shx_term.specs.InOrder.{Lists};
 ghost use Rattle.graph_view.specs.declared.key.Key.{Key};
 ghost use Rattle.read_records.specs.declared.reader.Reader.{Reader};
 ghost use Rattle.read_records.specs.Reader.{reader_cmp};
 ghost use Rattle.read_records.specs.Records.{IsTouchedByAny};
-ghost use Rattle.read_records.specs.Store.{MakesStaged, SameNotes, SameStaged, StagesFor, kept_for};
+ghost use Rattle.read_records.specs.Store.{MakesStaged, SameNotes, SameStaged, StagesFor};
+ghost use Rattle.read_records.specs.Store.{coming_for, kept_for};
+ghost use Rattle.read_records.specs.inner.Masks.{AreStaged, MasksAmong};
 ghost use Rattle.read_records.specs.inner.Notes.{ComesToSame, HasNoted, as_recorded};
 
 use crate::Reader;
@@ -82,6 +86,24 @@ impl<T: Drop> Store<T> {
         }
     }
 
+    /// What is kept for a reader once what is staged is made. It takes no memory, and logarithmic time.
+    pub(crate) fn coming(&self, reader: &Reader) -> Option<&Noted<T>>
+        ensures { option_copied result ≡ coming_for self.now reader.now }
+    {
+        match self.staged.get(reader) {
+            Some(Some(noted)) => Some(noted),
+            Some(None) => None,
+            None => self.get(reader),
+        }
+    }
+
+    /// For how many readers something is kept. It takes no memory, and time linear in their number.
+    pub(crate) fn count(&self) -> usize
+        ensures { result ≡ length (filter (λ noted. is_some noted) (values_of self.now.kept)) }
+    {
+        self.kept.values().filter(|noted| noted.is_some()).count()
+    }
+
     /// The readers for which something is kept that was found by a key that one of the triples touches, each
     /// once: targets by the numbers of their shapes, and then pairs by the numbers of shape and node. It
     /// sorts the keys that the triples touch, and takes a look-up for each, and one more for each reader that
@@ -146,6 +168,31 @@ impl<T: Drop> Store<T> {
                 return Err(AllocError);
             }
         }
+        Ok(())
+    }
+
+    /// Stages that nothing is to be kept for these readers, but for those for which something is staged.
+    /// Where it is refused, that is staged for some of them.
+    pub(crate) fn mask(&mut self, readers: &[Reader]) -> Result<(), Memory>
+        ensures kept { SameNotes self.old self.new }
+        ensures only { MasksAmong self.old self.new readers.now }
+        ensures staged { OnOk result (AreStaged self.new readers.now) }
+    {
+        for reader in readers {
+            self.mask_one(*reader)?;
+        }
+        Ok(())
+    }
+
+    fn mask_one(&mut self, reader: Reader) -> Result<(), Memory>
+        ensures kept { SameNotes self.old self.new }
+        ensures only { MasksAmong self.old self.new (reader ∷ []) }
+        ensures staged { OnOk result (AreStaged self.new (reader ∷ [])) }
+    {
+        if self.staged.contains_key(&reader) {
+            return Ok(());
+        }
+        self.stage(reader, None)?;
         Ok(())
     }
 

@@ -1,5 +1,5 @@
-//! What is recorded and kept of pairs, as tests alone: after some steps, what a reader has read, whom a
-//! triple touches, and which results there are.
+//! What is recorded, kept and remembered of pairs, as tests alone: after some steps, what a reader has read,
+//! whom a triple touches, which results there are, and what is found of a pair.
 //!
 //! | file | what it holds |
 //! |---|---|
@@ -7,6 +7,7 @@
 //! | `tests/steps.rt` | the steps and the questions of a row |
 //! | `tests/cells.rt` | readers, keys and triples as rows say them |
 //! | `tests/results.rt` | the table of results: steps, a question, and its answer |
+//! | `tests/recall.rt` | the table of what is remembered: steps, a question, and its answer |
 #![tactic(auto)]
 
 #[cfg(test)]

@@ -1,4 +1,5 @@
 mod cells;
+mod recall;
 mod results;
 mod rows;
 mod steps;

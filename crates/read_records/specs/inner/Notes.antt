@@ -9,16 +9,21 @@ use Rattle.read_records.specs.Records.{Recorded}
 use Rattle.read_records.specs.Store.{Notes, Stored, coming_for, if_noted, note_at}
 use Rattle.read_records.specs.inner.Readings.{Filed, Stands, StandsUnderEach, reading}
 
+module _ {V W : Type 0} (f : V → W) where
+  -- what is kept and staged, each seen by a function
+  abbrev pub notes_seen : Notes V → Notes W
+  notes_seen notes = map (λ e. (e.0, option_map f e.1)) notes
+
+  abbrev pub stored_seen : Stored V → Stored W
+  stored_seen state = record { kept = notes_seen state.kept; staged = notes_seen state.staged }
+
 module _ {T : Type 0} where
   -- the keys that were read, without what is noted beside them
   abbrev pub reads_noted : Option (Noted T) → Option (List Key)
   reads_noted noted = option_map (λ n. n.reads) noted
 
-  abbrev pub all_reads : Notes (Noted T) → Notes (List Key)
-  all_reads notes = map (λ e. (e.0, reads_noted e.1)) notes
-
   abbrev pub as_recorded : Stored (Noted T) → Recorded
-  as_recorded state = record { kept = all_reads state.kept; staged = all_reads state.staged }
+  as_recorded state = stored_seen (λ (n : Noted T). n.reads) state
 
   -- under each key that stands for it somewhere, if any does
   abbrev pub StandsFor : Filed → Option (Noted T) → Reader → Type 0

@@ -2,7 +2,7 @@
 use comp_core::Pair;
 use graph_view::{Key, Reads};
 use read_records::Reader;
-use row_tools::{RowFault, in_three, number};
+use row_tools::{RowFault, cut, in_three, number};
 use shx_term::{Id, Triple};
 use std::alloc::Global;
 
@@ -14,6 +14,8 @@ pub(super) enum Verb {
     Remove,
     Commit,
     Drop,
+    Mask,
+    Find,
     Reads,
     Touched,
     Changed,
@@ -22,12 +24,14 @@ pub(super) enum Verb {
     Len,
 }
 
-const VERBS: [(&str, Verb); 11] = [
+const VERBS: [(&str, Verb); 13] = [
     ("stage", Verb::Stage),
     ("load", Verb::Load),
     ("remove", Verb::Remove),
     ("commit", Verb::Commit),
     ("drop", Verb::Drop),
+    ("mask", Verb::Mask),
+    ("find", Verb::Find),
     ("reads", Verb::Reads),
     ("touched", Verb::Touched),
     ("changed", Verb::Changed),
@@ -58,6 +62,13 @@ pub(super) fn reader(word: &str) -> Result<Reader, RowFault> {
     }
 }
 
+pub(super) fn pair(word: &str) -> Result<Pair, RowFault> {
+    match reader(word)? {
+        Reader::OfPair(pair) => Ok(pair),
+        Reader::OfTarget(_) => Err(RowFault::Unread),
+    }
+}
+
 /// Whether these are the readers that the words say, in this order.
 pub(super) fn are_readers(found: &[Reader], words: &str) -> Result<bool, RowFault> {
     let mut rest = words;
@@ -81,13 +92,38 @@ pub(super) fn triple(word: &str) -> Result<Triple, RowFault> {
 }
 
 /// Adds triples, which are told apart by spaces.
-pub(super) fn add_triples(words: &str, all: &mut Vec<Triple>) -> Result<(), RowFault> {
+fn add_triples(words: &str, all: &mut Vec<Triple>) -> Result<(), RowFault> {
     for word in words.split(' ') {
         if !word.is_empty() {
             all.push(triple(word)?)?;
         }
     }
     Ok(())
+}
+
+/// What a change adds and removes.
+#[derive(Drop)]
+pub(super) struct Change {
+    pub(super) added: Vec<Triple>,
+    pub(super) removed: Vec<Triple>,
+}
+
+impl Change {
+    /// What it adds stands before a bar, and what it removes behind it.
+    pub(super) fn of(alloc: Global, text: &str) -> Result<Change, RowFault> {
+        let mut change = Change {
+            added: Vec::new(alloc),
+            removed: Vec::new(alloc),
+        };
+        change.add(text)?;
+        Ok(change)
+    }
+
+    fn add(&mut self, text: &str) -> Result<(), RowFault> {
+        let (added, removed) = cut(text, "|")?;
+        add_triples(added, &mut self.added)?;
+        add_triples(removed, &mut self.removed)
+    }
 }
 
 // A number, or a line for what is left open.

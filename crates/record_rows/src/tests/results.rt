@@ -118,8 +118,12 @@ fn stage(alloc: Global, kept: &mut PairResults, of: &str) -> Result<(), RowFault
     Ok(kept.stage(alloc, shape, &node, rows)?)
 }
 
-// A result for each of the numbers.
-fn rows_of(alloc: Global, shape: u32, numbers: &str) -> Result<Vec<ResultRow>, RowFault> {
+/// A result for each of the numbers.
+pub(super) fn rows_of(
+    alloc: Global,
+    shape: u32,
+    numbers: &str,
+) -> Result<Vec<ResultRow>, RowFault> {
     let mut rows = Vec::new(alloc);
     for word in numbers.split(' ') {
         if !word.is_empty() {
@@ -143,20 +147,27 @@ fn shape_of(word: &str) -> Result<u32, RowFault>
 
 /// The numbers that are due, from here on.
 #[derive(Clone, Copy)]
-struct Due<'a> {
+pub(super) struct Due<'a> {
     rest: &'a str,
     are_met: bool,
 }
 
-impl Due<'_> {
-    // Takes the next result, whose number is to be the next one.
-    fn take(&mut self, row: &ResultRow) {
+impl<'a> Due<'a> {
+    pub(super) fn of(rest: &'a str) -> Due<'a> {
+        Due {
+            rest,
+            are_met: true,
+        }
+    }
+
+    /// Takes the next result, whose number is to be the next one.
+    pub(super) fn take(&mut self, row: &ResultRow) {
         let (word, behind) = self.rest.split_once(' ').unwrap_or((self.rest, ""));
         self.are_met = self.are_met && row.value.is_some() && number(word).ok() == row.value;
         self.rest = behind;
     }
 
-    fn are_all_met(&self) -> bool {
+    pub(super) fn are_all_met(&self) -> bool {
         self.are_met && self.rest.is_empty()
     }
 }
@@ -185,10 +196,7 @@ fn are_rows(alloc: Global, kept: &PairResults, of: &str, rest: &str) -> Result<b
     let (shape, node) = cut(of, " ")?;
     let node = term(alloc, node)?;
     let shape = shape_of(shape)?;
-    let mut due = Due {
-        rest,
-        are_met: true,
-    };
+    let mut due = Due::of(rest);
     for row in kept.rows_of(shape, &node) {
         due.take(row);
     }
@@ -210,10 +218,7 @@ fn are_all(alloc: Global, kept: &PairResults, words: &str, rest: &str) -> Result
     requires { length kept.now.shapes ≡ 3 }
 {
     let shapes = shapes_of(alloc, words)?;
-    let mut due = Due {
-        rest,
-        are_met: true,
-    };
+    let mut due = Due::of(rest);
     for row in kept.rows(&shapes) {
         due.take(row);
     }

@@ -4,11 +4,10 @@ ghost use Rattle.std.specs.List.{IsDistinct, list_any};
 ghost use Rattle.std.specs.Map.{keys_of};
 ghost use Rattle.read_records.specs.Reader.{same_reader};
 
-use super::cells::{Verb, add_triples, are_readers, are_said, reader, reads, triple, verb_of};
+use super::cells::{Change, Verb, are_readers, are_said, reader, reads, triple, verb_of};
 use graph_view::Reads;
 use read_records::{Reader, Records};
 use row_tools::{RowFault, cut};
-use shx_term::Triple;
 use std::alloc::Global;
 
 /// Whether the question behind the steps has the row's answer.
@@ -102,26 +101,7 @@ fn touched(alloc: Global, records: &Records, by: &str) -> Result<Vec<Reader>, Ro
     Ok(records.touched_by(alloc, &triple(by)?)?)
 }
 
-/// What a change adds and removes.
-#[derive(Drop)]
-struct Change {
-    added: Vec<Triple>,
-    removed: Vec<Triple>,
-}
-
-impl Change {
-    fn add(&mut self, text: &str) -> Result<(), RowFault> {
-        let (added, removed) = cut(text, "|")?;
-        add_triples(added, &mut self.added)?;
-        add_triples(removed, &mut self.removed)
-    }
-}
-
 fn changed(alloc: Global, records: &Records, by: &str) -> Result<Vec<Reader>, RowFault> {
-    let mut change = Change {
-        added: Vec::new(alloc),
-        removed: Vec::new(alloc),
-    };
-    change.add(by)?;
+    let change = Change::of(alloc, by)?;
     Ok(records.touched_by_change(alloc, &change.added, &change.removed)?)
 }

@@ -1,4 +1,4 @@
-use Rattle.read_records.proofs.StoreLemmas.{MakesStaged-recorded}
+use Rattle.read_records.proofs.SeenLemmas.{MakesStaged-recorded}
 use Rattle.read_records.proofs.records.Records.commit.Goals as goal
 
 pub returns-clause-recorded : goal.returns-clause-recorded

@@ -1,4 +1,4 @@
-use Rattle.read_records.proofs.StoreLemmas.{SameNotes-recorded}
+use Rattle.read_records.proofs.SeenLemmas.{SameNotes-recorded}
 use Rattle.read_records.proofs.records.Records.drop_staged.Goals as goal
 
 pub returns-clause-recorded : goal.returns-clause-recorded

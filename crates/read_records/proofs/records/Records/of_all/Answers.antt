@@ -6,16 +6,16 @@ use Rattle.std.proofs.lemmas.Iterator.Adapters.{YieldsList-from_vec, fact_from_c
 use Rattle.std.proofs.lemmas.Iterator.Consumers.{YieldsList-at}
 use Rattle.std.proofs.lemmas.Result.{IfOk-at_ok}
 use Rattle.read_records.specs.Reader.{reader_cmp}
-use Rattle.read_records.proofs.GatheredLemmas.{as_note, recorded_of_all}
+use Rattle.read_records.proofs.GatheredLemmas.{as_note, recorded_of_all, without_value}
 use Rattle.read_records.proofs.records.Records.of_all.Goals as goal
 
 -- the notes are collected
 collected : (c : goal.In_ok-of_kept)
-    → IsFromIterResult reader_cmp (map as_note c.args.all.items) c.in_ok-kept.kept
+    → IsFromIterResult reader_cmp (map (as_note without_value) c.args.all.items) c.in_ok-kept.kept
 collected c =
-    IfOk-at_ok (IsFromIterResult reader_cmp (map as_note c.args.all.items)) c.in_ok-kept.was
+    IfOk-at_ok (IsFromIterResult reader_cmp (map (as_note without_value) c.args.all.items)) c.in_ok-kept.was
     (fact_from_collect (IsFromIterResult reader_cmp) c.collect.result c.collect.ensures.ran
-    (YieldsList-from_map _ as_note
+    (YieldsList-from_map _ (as_note without_value)
     (YieldsList-at c.map.ensures.source
     (YieldsList-from_vec c.args.all.items c.into_iter.ensures.rest (search rules)))
     c.map.ensures.closure (λ x r q k. search rules)))

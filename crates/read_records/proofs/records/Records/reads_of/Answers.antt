@@ -1,6 +1,6 @@
 use Rattle.std.proofs.Common.{sym, ap, ◌∙◌}
 use Rattle.std.specs.Option.{option_copied}
-use Rattle.read_records.proofs.StoreLemmas.{kept_recorded}
+use Rattle.read_records.proofs.SeenLemmas.{kept_recorded}
 use Rattle.read_records.specs.inner.Notes.{reads_noted}
 use Rattle.read_records.proofs.records.Records.reads_of.Goals as goal
 

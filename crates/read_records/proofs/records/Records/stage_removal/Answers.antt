@@ -1,5 +1,5 @@
 use Rattle.std.proofs.lemmas.Result.{on_err_weaker, on_ok_weaker}
-use Rattle.read_records.proofs.StoreLemmas.{SameNotes-recorded, SameStaged-recorded, StagesFor-recorded}
+use Rattle.read_records.proofs.SeenLemmas.{SameNotes-recorded, SameStaged-recorded, StagesFor-recorded}
 use Rattle.read_records.proofs.records.Records.stage_removal.Goals as goal
 
 pub returns-clause-recorded : goal.returns-clause-recorded

@@ -1,99 +1,38 @@
--- From the answers that are held to the answer of a pair, and answers that are added.
-use Rattle.std.specs.Prelude.{◌≡◌, ◌<◌, ◌≤◌, ℕ, suc, Bool, true, false, cond, List, [], ◌∷◌, Option, Some}
-use Rattle.std.specs.Prelude.{None}
-use Rattle.std.specs.Prelude.{◌+◌, ◌++◌, IsTrue, All, get_or, length, slice_get, take, Contains}
-use Rattle.std.specs.Prelude.{if◌then◌else◌}
-use Rattle.std.specs.Option.{is_some, unwrap_or}
-use Rattle.std.proofs.Common.{refl, sym, ap, ◌∙◌, subst, arith, true≢false}
+-- From the answers that are told to the answer of a pair.
+use Rattle.std.specs.Prelude.{◌≡◌, ◌<◌, ◌≤◌, ℕ, suc, true, false, List, [], ◌∷◌, Option, Some}
+use Rattle.std.specs.Prelude.{◌+◌, ◌++◌, All, get_or, length, slice_get, take, Contains}
+use Rattle.std.specs.Prelude.{filter, flat_map, if◌then◌else◌, is_some, IsSome}
+use Rattle.std.proofs.Common.{refl, sym, ap, ◌∙◌, subst, arith, true≢false, inl, inr}
 use Rattle.std.proofs.lemmas.List.{take_all, take_more}
 use Rattle.std.proofs.lemmas.List.Elements.{All-append}
 use Rattle.std.proofs.lemmas.Option.{slice_get_within}
 use Rattle.shx_term.specs.Members.{SameMembers}
-use Rattle.shx_term.proofs.MemberLemmas.{Contains-flat_map, Contains-from_flat_map, each_of_All}
-use Rattle.shx_term.proofs.MemberLemmas.{All_of_each, Contains-at, Contains-one}
+use Rattle.shx_term.proofs.MemberLemmas.{All_of_each, Contains-at, Contains-cases, Contains-filter}
+use Rattle.shx_term.proofs.MemberLemmas.{Contains-flat_map, Contains-from_flat_map, Contains-head}
+use Rattle.shx_term.proofs.MemberLemmas.{Contains-one, Contains-tail, each_of_All}
 use Rattle.shx_term.proofs.SetLemmas.{SameMembers-itself, SameMembers-sym, SameMembers-then}
 use Rattle.graph_view.specs.declared.key.Key.{Key}
-use Rattle.graph_view.specs.Graph.{Graph, AllKnown}
+use Rattle.graph_view.specs.Graph.{Graph, AllKnown, HasTerms}
 use Rattle.graph_view.specs.Notes.{IsNoting}
+use Rattle.comp_core.specs.Memo.{Remembered, RemembersAlso}
+use Rattle.comp_core.specs.declared.memo.PairAnswer.{PairAnswer}
 use Rattle.comp_core.specs.declared.pair.Pair.{Pair}
-use Rattle.comp_core.specs.Laws.{SameAnswers}
-use Rattle.comp_core.specs.Pairs.{same_pair, same_pair_equiv, same_pair_exact}
 use Rattle.shape_eval.specs.declared.constraint.Constraint.{Constraint}
-use Rattle.shape_eval.specs.declared.pairs.PairAnswer.{PairAnswer}
 use Rattle.shape_eval.specs.declared.shape.PlanShape.{PlanShape}
-use Rattle.shape_eval.specs.declared.table.Table.{Table}
 use Rattle.shape_eval.specs.Constraint.{constraint_asks}
+use Rattle.shape_eval.specs.Nested.{asked_at_node, asked_pairs, is_evaluated_at, nested_in, pairs_below}
 use Rattle.shape_eval.specs.Plan.{IsKnownPlan, RefersLower}
+use Rattle.shape_eval.specs.Recalled.{AreRecalled, AreRight, Brings, IsRecallOf, IsRecalled}
 use Rattle.shape_eval.specs.Results.{at_of, hits_of_each, pair_reads, reads_of_each, results}
 use Rattle.shape_eval.specs.Results.{shape_reads, shape_results, value_nodes, value_reads}
-use Rattle.shape_eval.specs.inner.Answers.{AnswersFollow, AsksBelow, Holds, HoldsAlso, IsAnswer, IsTable}
-use Rattle.shape_eval.specs.inner.Answers.{KeepsHeld, Tells, answer_in, asked_pairs, held_rows, rows_in}
+use Rattle.shape_eval.specs.inner.Answers.{AnswersFollow, AsksBelow, IsAnswer}
+use Rattle.shape_eval.specs.inner.Told.{IsHeld, IsToFind, rows_told}
 use Rattle.shape_eval.proofs.ConstraintLemmas.{AgreesAt, AsksValuesAt}
 use Rattle.shape_eval.proofs.LevelLemmas.{Agree-itself, asked_below, levels, numbers_known}
+use Rattle.shape_eval.proofs.NestedLemmas.{below_asked, below_evaluated, nested_is, nested_unfolds}
+use Rattle.shape_eval.proofs.RecalledLemmas.{Brings-more, Brings-one, Brings-then, by_pair, recalled_here}
 use Rattle.shape_eval.proofs.ShapeLemmas.{PathsAgree, unless_alike}
-
-Some-is : {X : Type 0} (x y : X) → Some x ≡ Some y → x ≡ y
-Some-is x y e = ap (λ o. unwrap_or o x) e
-
--- ---- answers that are held
-
-module _ {N : Type 0} where
-  held_by : (answer : PairAnswer N) (o : Option (PairAnswer N)) (b : Bool) (P : PairAnswer N → Type 0)
-      → ((a : PairAnswer N) → o ≡ Some a → P a) → (b ≡ true → P answer)
-      → (a : PairAnswer N) → cond b (Some answer) o ≡ Some a → P a
-  held_by answer o true P old new a e = subst P (Some-is answer a e) (new refl)
-  held_by answer o false P old new a e = old a e
-
-  some_by : (b : Bool) (answer : PairAnswer N) (o : Option (PairAnswer N)) → IsTrue (is_some o)
-      → IsTrue (is_some (cond b (Some answer) o))
-  some_by true answer o held = refl
-  some_by false answer o held = held
-
-  pub add_keeps : (old new : Table N) (p : Pair) (answer : PairAnswer N) → HoldsAlso old new p answer
-      → KeepsHeld old new
-  add_keeps old new p answer also = record {
-    each = λ q held.
-        subst (λ o. IsTrue (is_some o)) (sym (also.each q))
-        (some_by (same_pair p q) answer (answer_in old q) held);
-  }
-
-  pub add_holds : (old new : Table N) (p : Pair) (answer : PairAnswer N) → HoldsAlso old new p answer
-      → Holds new p
-  add_holds old new p answer also =
-      subst (λ o. IsTrue (is_some o)) (sym (also.each p
-      ∙ ap (λ b. cond b (Some answer) (answer_in old p)) (same_pair_equiv.refl p))) refl
-
-  pub keeps_then : (a b c : Table N) → KeepsHeld a b → KeepsHeld b c → KeepsHeld a c
-  keeps_then a b c first second = record { each = λ p held. second.each p (first.each p held) }
-
-  module _ (has : N → List Key → Type 0) (shapes : List PlanShape) (g : Graph) where
-    -- a pair that is held after an answer is added
-    pub add_answer : (old new : Table N) (p : Pair) (answer : PairAnswer N) → IsTable has shapes g old
-        → HoldsAlso old new p answer → IsAnswer has shapes g p answer → IsTable has shapes g new
-    add_answer old new p answer table also is = record {
-      each = λ q a e.
-          held_by answer (answer_in old q) (same_pair p q) (IsAnswer has shapes g q) (table.each q)
-          (λ same. subst (λ d. IsAnswer has shapes g d answer) (same_pair_exact p q same) is) a
-          (sym (also.each q) ∙ e);
-    }
-
-    -- what was read for the answers that are held is what is defined
-    pub table_tells : (t : Table N) → IsTable has shapes g t → Tells has t (pair_reads shapes g)
-    table_tells t table = record { each = λ p a e. (table.each p a e).reads }
-
-    -- and the rows of a pair that is held are those that are defined
-    told : (t : Table N) (p : Pair) (o : Option (PairAnswer N)) → answer_in t p ≡ o
-        → ((a : PairAnswer N) → o ≡ Some a → IsAnswer has shapes g p a) → IsTrue (is_some o)
-        → held_rows t p ≡ results shapes g p
-    told t p None e is held = absurd (true≢false (sym held))
-    told t p (Some a) e is held = ap rows_in e ∙ (is a refl).rows
-
-    pub rows_told : (t : Table N) → IsTable has shapes g t → (p : Pair) → Holds t p
-        → SameAnswers (held_rows t) (results shapes g) (pair_reads shapes g) (pair_reads shapes g) p
-    rows_told t table p held = record {
-      rows = told t p (answer_in t p) refl (table.each p) held;
-      reads = SameMembers-itself (pair_reads shapes g p);
-    }
+use Rattle.shape_eval.proofs.ToldLemmas.{keys_told, told_same}
 
 -- ---- the answer of a pair
 
@@ -125,33 +64,159 @@ asks_below asks_values shapes lower n sh e vs d asked =
     let one = Contains-from_flat_map (λ c. constraint_asks c vs) sh.constraints.items d asked in
     (asked_below shapes lower n sh e one.0 one.1 vs d one.2, asks_values one.0 vs d one.2)
 
--- of the pair at an index of those that are asked
-pub asked_at : AsksBelow → (shapes : List PlanShape) → RefersLower shapes → (n : ℕ) (sh : PlanShape)
-    → slice_get shapes n ≡ Some sh → (cs : List Constraint) → cs ≡ sh.constraints.items → (vs : List ℕ)
-    (asked : List Pair) → asked ≡ asked_pairs cs vs → (i : ℕ) (e : Pair) → i < length asked
-    → ((get_or asked i e).shape < n) × Contains vs (get_or asked i e).node
-asked_at asks shapes lower n sh at cs same vs asked is i e inside =
-    asks shapes lower n sh at vs (get_or asked i e)
-    (subst (λ ds. Contains ds (get_or asked i e)) (is ∙ ap (λ ks. asked_pairs ks vs) same)
-    (Contains-at asked i e inside))
+-- what is read of a list of what constraints ask, by what was looked at
+pub asked_are : (read found : List Pair) (cs ds : List Constraint) (vs us ws : List ℕ) → read ≡ found
+    → found ≡ asked_pairs cs vs → cs ≡ ds → vs ≡ us → us ≡ ws → read ≡ asked_pairs ds ws
+asked_are read found cs ds vs us ws is asked e f more =
+    is ∙ asked ∙ ap (λ ks. asked_pairs ks vs) e ∙ ap (asked_pairs ds) (f ∙ more)
 
--- a step of a loop over what has to be held
-pub more_held : {N : Type 0} (t u : Table N) → KeepsHeld t u → (asked : List Pair) (i : ℕ) (e : Pair)
-    → i < length asked → All (Holds t) (take i asked) → Holds u (get_or asked i e)
-    → All (Holds u) (take (i + 1) asked)
-more_held t u keeps asked i e inside before here =
-    subst (All (Holds u)) (sym (take_more asked i e inside))
-    (All-append (Holds u) (take i asked) (get_or asked i e ∷ [])
-    (All_of_each (Holds u) (take i asked)
-    (λ p c. keeps.each p (each_of_All (Holds t) (take i asked) before p c)))
-    (All_of_each (Holds u) (get_or asked i e ∷ [])
-    (λ p c. subst (Holds u) (sym ((Contains-one (get_or asked i e) p).0 c)) here)))
+-- a pair that the shape of another asks
+pub record IsOneAsked (g : Graph) (p : Pair) (sh : PlanShape) (d : Pair) : Type 0 where
+  pub lower : d.shape < p.shape
+  pub node : d.node < length g.terms
+  pub asked : Contains (asked_pairs sh.constraints.items (value_nodes g sh.path p.node)) d
 
--- at its end all is held
-pub all_held : {N : Type 0} (t : Table N) (asked : List Pair) (i : ℕ) → length asked ≤ i
-    → All (Holds t) (take i asked) → (cs : List Constraint) (vs : List ℕ) → asked ≡ asked_pairs cs vs
-    → All (Holds t) (asked_pairs cs vs)
-all_held t asked i past held cs vs same = subst (All (Holds t)) (take_all i asked past ∙ same) held
+-- the pair at an index of those that are asked
+pub asked_at : AsksBelow → (shapes : List PlanShape) → RefersLower shapes → (g : Graph) (p : Pair)
+    (sh : PlanShape) → slice_get shapes p.shape ≡ Some sh → HasTerms g (value_nodes g sh.path p.node)
+    → (asked : List Pair) → asked ≡ asked_pairs sh.constraints.items (value_nodes g sh.path p.node)
+    → (i : ℕ) (e : Pair) → i < length asked → IsOneAsked g p sh (get_or asked i e)
+asked_at asks shapes lower g p sh at known asked is i e inside =
+    let vs = value_nodes g sh.path p.node in
+    let here = subst (λ ds. Contains ds (get_or asked i e)) is (Contains-at asked i e inside) in
+    let found = asks shapes lower p.shape sh at vs (get_or asked i e) here in
+    record {
+      lower = found.0;
+      node = each_of_All (λ v. v < length g.terms) vs known (get_or asked i e).node found.1;
+      asked = here;
+    }
+
+-- ---- the pairs that are asked, one after the other
+
+module _ {N : Type 0} where
+  -- a step of a loop over what has to be held
+  pub more_held : (shapes : List PlanShape) (t u : Pair → Option (Remembered N))
+      → ((p : Pair) → IsRecalled t p → IsRecalled u p) → (asked : List Pair) (i : ℕ) (e : Pair)
+      → i < length asked → All (IsHeld shapes t) (take i asked) → IsHeld shapes u (get_or asked i e)
+      → All (IsHeld shapes u) (take (i + 1) asked)
+  more_held shapes t u stays asked i e inside before here =
+      subst (All (IsHeld shapes u)) (sym (take_more asked i e inside))
+      (All-append (IsHeld shapes u) (take i asked) (get_or asked i e ∷ [])
+      (All_of_each (IsHeld shapes u) (take i asked)
+      (λ p c.
+      let was = each_of_All (IsHeld shapes t) (take i asked) before p c in
+      record { held = λ on. stays p (was.held on) }))
+      (All_of_each (IsHeld shapes u) (get_or asked i e ∷ [])
+      (λ p c. subst (IsHeld shapes u) (sym ((Contains-one (get_or asked i e) p).0 c)) here)))
+
+  -- at its end all is held
+  pub all_held : (shapes : List PlanShape) (t : Pair → Option (Remembered N)) (asked all : List Pair) (i : ℕ)
+      → length asked ≤ i → All (IsHeld shapes t) (take i asked) → asked ≡ all → All (IsHeld shapes t) all
+  all_held shapes t asked all i past held same =
+      subst (All (IsHeld shapes t)) (take_all i asked past ∙ same) held
+
+module _ (asks : AsksBelow) (shapes : List PlanShape) (lower : RefersLower shapes) (g : Graph) (p : Pair)
+    (sh : PlanShape) (at : slice_get shapes p.shape ≡ Some sh) (on : sh.deactivated ≡ false) where
+  -- what the shape asks at the node
+  abbrev pub asked_here : List Pair
+  asked_here = asked_pairs sh.constraints.items (value_nodes g sh.path p.node)
+
+  -- what is asked of a shape that is evaluated is right below
+  asked_is_below : (d : Pair) → Contains asked_here d → is_evaluated_at shapes d ≡ true
+      → Contains (pairs_below shapes g p) d
+  asked_is_below d asked evaluated =
+      Contains-filter (is_evaluated_at shapes) (asked_at_node g (slice_get shapes p.shape) p.node) d
+      (subst (λ o. Contains (asked_at_node g o p.node) d) (sym at)
+      (subst (λ off. Contains (if off then [] else asked_here) d) (sym on) asked)) evaluated
+
+  -- and what is right below is asked
+  asked_there : (d : Pair) → Contains (pairs_below shapes g p) d → Contains asked_here d
+  asked_there d c =
+      let found = below_asked shapes g p d c in
+      subst (λ (s : PlanShape). Contains (asked_pairs s.constraints.items (value_nodes g s.path p.node)) d)
+      (some_is found.shape sh (sym found.at ∙ at)) found.asked
+    where
+      some_is : (x y : PlanShape) → Some x ≡ Some y → x ≡ y
+      some_is x y e = cc
+
+  asked_nested : (d : Pair) → Contains asked_here d → is_evaluated_at shapes d ≡ true
+      → Contains (nested_in shapes g p) d
+  asked_nested d asked evaluated =
+      subst (λ ds. Contains ds d) (sym (nested_unfolds asks shapes lower g p))
+      (Contains-flat_map (λ b. b ∷ nested_in shapes g b) (pairs_below shapes g p) d d
+      (asked_is_below d asked evaluated) (Contains-head d (nested_in shapes g d)))
+
+  nested_of_asked : (d : Pair) → Contains asked_here d → is_evaluated_at shapes d ≡ true → (e : Pair)
+      → Contains (nested_in shapes g d) e → Contains (nested_in shapes g p) e
+  nested_of_asked d asked evaluated e c =
+      subst (λ ds. Contains ds e) (sym (nested_unfolds asks shapes lower g p))
+      (Contains-flat_map (λ b. b ∷ nested_in shapes g b) (pairs_below shapes g p) d e
+      (asked_is_below d asked evaluated) (Contains-tail d e (nested_in shapes g d) c))
+
+  -- where all that is asked is held, all that is nested is remembered
+  pub nested_recalled : {N : Type 0} (has : N → List Key → Type 0) (t : Pair → Option (Remembered N))
+      → IsRecallOf has shapes g t → All (IsHeld shapes t) asked_here → AreRecalled t (nested_in shapes g p)
+  nested_recalled has t is held = record {
+    each = λ e c.
+        let at_one = Contains-from_flat_map (λ b. b ∷ nested_in shapes g b) (pairs_below shapes g p) e
+        (subst (λ ds. Contains ds e) (nested_unfolds asks shapes lower g p) c) in
+        let a = at_one.0 in
+        let here : IsRecalled t a =
+        (each_of_All (IsHeld shapes t) asked_here held a (asked_there a at_one.1)).held
+        (below_evaluated shapes g p a at_one.1) in
+        elim (Contains-cases a e (nested_in shapes g a) at_one.2) [
+          | inl same ↦ subst (IsRecalled t) (sym same) here
+          | inr deeper ↦ (is.closed.each a here).each e deeper
+        ];
+  }
+
+  -- ---- one of them is answered, remembered and counted
+
+  module _ (known : AllKnown g) (d : Pair) (one : IsOneAsked g p sh d) {N : Type 0}
+      (first before mid after : Pair → Option (Remembered N)) (answer : Remembered N)
+      (to_find : IsToFind shapes before d) (also : RemembersAlso mid after d answer) where
+    -- what its own answer brought is of lower shapes
+    still_absent : (m n : ℕ) → Brings before mid (nested_in shapes g d) m n → IsRecalled mid d → ⊥
+    still_absent m n brings there = elim ((brings.known d).0 there) [
+      | inl was ↦ true≢false (sym was ∙ ap is_some to_find.absent)
+      | inr c ↦
+          let below = (nested_is asks shapes lower g known (length shapes) d one.node d
+          (brings.are_among d c)).lower in
+          absurd (omega (arith, below))
+    ]
+
+    pub brings_below : (k m n : ℕ) → Brings first before (nested_in shapes g p) k m
+        → Brings before mid (nested_in shapes g d) m n
+        → Brings first after (nested_in shapes g p) k (n + 1)
+    brings_below k m n so_far inner =
+        Brings-then first before after (nested_in shapes g p) k m (n + 1) so_far
+        (Brings-then before mid after (nested_in shapes g p) m n (n + 1)
+        (Brings-more (nested_in shapes g p)
+        (λ e c. nested_of_asked d one.asked to_find.evaluated e c) inner)
+        (Brings-more (nested_in shapes g p)
+        (λ e c. subst (Contains (nested_in shapes g p)) (sym ((Contains-one d e).0 c))
+        (asked_nested d one.asked to_find.evaluated))
+        (Brings-one mid after d answer also (still_absent m n inner) n)))
+
+    pub stays_below : (m n : ℕ) → Brings before mid (nested_in shapes g d) m n → (q : Pair)
+        → IsRecalled before q → IsRecalled after q
+    stays_below m n inner q was =
+        by_pair mid after d answer also (λ e o. IsSome o) refl q ((inner.known q).1 (inl was))
+
+    pub held_below : IsHeld shapes after d
+    held_below = record { held = λ on. ap is_some (recalled_here mid after d answer also) }
+
+-- a shape that is passed over nests none
+pub off_nests_none : AsksBelow → (shapes : List PlanShape) → RefersLower shapes → (g : Graph) (p : Pair)
+    (sh : PlanShape) → slice_get shapes p.shape ≡ Some sh → sh.deactivated ≡ true → nested_in shapes g p ≡ []
+off_nests_none asks shapes lower g p sh at off =
+    nested_unfolds asks shapes lower g p
+    ∙ ap (λ o. flat_map (λ d. d ∷ nested_in shapes g d)
+    (filter (is_evaluated_at shapes) (asked_at_node g o p.node))) at
+    ∙ ap (λ b. flat_map (λ d. d ∷ nested_in shapes g d) (filter (is_evaluated_at shapes)
+    (if b then [] else asked_pairs sh.constraints.items (value_nodes g sh.path p.node)))) off
+
+-- ---- the answer of a pair that is passed over, and of any other
 
 -- what is noted after nothing was is all that is there
 noted : {N : Type 0} {notes : N → N → List Key → Type 0} → IsNoting notes → (has : N → List Key → Type 0)
@@ -185,34 +250,38 @@ module _ (follows : AnswersFollow) (shapes : List PlanShape) (lower : RefersLowe
               (subst (λ ks. SameMembers ks (pair_reads shapes g p)) reads found.reads);
         }
 
-    -- a shape over a table that holds all that it asks
-    pub on_answer : (t : Table N) → IsTable has shapes g t → sh.deactivated ≡ false → (vs : List ℕ)
-        → vs ≡ value_nodes g sh.path p.node → All (Holds t) (asked_pairs sh.constraints.items vs)
-        → (answer : PairAnswer N)
-        → answer.rows.items ≡ hits_of_each g (held_rows t) sh.constraints.items (at_of p) vs
-        → (old mid : N) → has old [] → notes old mid (value_reads g sh.path p.node)
-        → notes mid answer.reads (reads_of_each g (pair_reads shapes g) sh.constraints.items (at_of p) vs)
-        → IsAnswer has shapes g p answer
-    on_answer t table on vs values held answer rows old mid none first second =
+    -- a shape over answers for all that it asks; ks and vs are its constraints and value nodes, as they are
+    -- read, and what was noted may be packed
+    pub on_answer : (t : Pair → Option (Remembered N)) → AreRight has shapes g t → sh.deactivated ≡ false
+        → All (IsHeld shapes t) (asked_pairs sh.constraints.items (value_nodes g sh.path p.node))
+        → (ks : List Constraint) → ks ≡ sh.constraints.items → (vs us : List ℕ) → vs ≡ us
+        → us ≡ value_nodes g sh.path p.node → (answer : PairAnswer N)
+        → answer.rows.items ≡ hits_of_each g (rows_told shapes t) ks (at_of p) vs
+        → (old mid new : N) → has old [] → notes old mid (value_reads g sh.path p.node)
+        → notes mid new (reads_of_each g (keys_told shapes g t) ks (at_of p) vs)
+        → ((keys : List Key) → has new keys → has answer.reads keys) → IsAnswer has shapes g p answer
+    on_answer t right on held ks stated vs us found values answer rows old mid new none first second packed =
         let cs = sh.constraints.items in
         let ws = value_nodes g sh.path p.node in
-        let asked : All (Holds t) (asked_pairs cs ws) =
-        subst (λ us. All (Holds t) (asked_pairs cs us)) values held in
-        let found = follows shapes lower g known plan p sh e inside (held_rows t) (pair_reads shapes g)
-        (λ d c. rows_told has shapes g t table d (each_of_All (Holds t) (asked_pairs cs ws) asked d c)) in
-        let all_rows : shape_results g (held_rows t) (Some sh) p
-        ≡ hits_of_each g (held_rows t) cs (at_of p) ws =
-        ap (λ b. if b then [] else hits_of_each g (held_rows t) cs (at_of p) ws) on in
+        let m = rows_told shapes t in
+        let r = keys_told shapes g t in
+        let follow = follows shapes lower g known plan p sh e inside m r
+        (λ d c. told_same has shapes g t right d
+        (each_of_All (IsHeld shapes t) (asked_pairs cs ws) held d c)) in
+        let all_rows : shape_results g m (Some sh) p ≡ hits_of_each g m cs (at_of p) ws =
+        ap (λ b. if b then [] else hits_of_each g m cs (at_of p) ws) on in
         let reads = value_reads g sh.path p.node in
-        let more = reads_of_each g (pair_reads shapes g) cs (at_of p) ws in
-        let all_reads : shape_reads g (pair_reads shapes g) (Some sh) p ≡ reads ++ more =
+        let more = reads_of_each g r cs (at_of p) ws in
+        let all_reads : shape_reads g r (Some sh) p ≡ reads ++ more =
         ap (λ b. if b then [] else reads ++ more) on in
-        let added : notes mid answer.reads more =
-        subst (λ us. notes mid answer.reads (reads_of_each g (pair_reads shapes g) cs (at_of p) us)) values
-        second in
+        let added : notes mid new more =
+        subst (λ ns. notes mid new (reads_of_each g r cs (at_of p) ns)) (found ∙ values)
+        (subst (λ ds. notes mid new (reads_of_each g r ds (at_of p) vs)) stated second) in
         record {
-          rows = rows ∙ ap (hits_of_each g (held_rows t) cs (at_of p)) values ∙ sym all_rows ∙ found.rows;
-          reads = noted laws has has_more old answer.reads none (reads ++ more) (pair_reads shapes g p)
+          rows = rows ∙ ap (λ ds. hits_of_each g m ds (at_of p) vs) stated
+              ∙ ap (hits_of_each g m cs (at_of p)) (found ∙ values) ∙ sym all_rows ∙ follow.rows;
+          reads = packed (pair_reads shapes g p)
+              (noted laws has has_more old new none (reads ++ more) (pair_reads shapes g p)
               (laws.then reads more first added)
-              (subst (λ ks. SameMembers ks (pair_reads shapes g p)) all_reads found.reads);
+              (subst (λ keys. SameMembers keys (pair_reads shapes g p)) all_reads follow.reads));
         }

@@ -6,8 +6,11 @@ pub mod ItemLemmas
 pub mod KnownKeyLemmas
 pub mod KnownRowLemmas
 pub mod LevelLemmas
+pub mod NestedLemmas
 pub mod NumberLemmas
 pub mod PartLemmas
 pub mod PlaceLemmas
+pub mod RecalledLemmas
 pub mod ShapeLemmas
 pub mod TargetLemmas
+pub mod ToldLemmas

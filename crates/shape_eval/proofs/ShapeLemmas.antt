@@ -55,7 +55,7 @@ values_known g known (Some path) node inside = reached_known g known Forward (ro
 
 module _ (paths_agree : PathsAgree) (agrees : (c : Constraint) → AgreesAt c)
     (g h : Graph) (known : AllKnown g) (known' : AllKnown h) where
-  values_same : (path : Option Path) (node : ℕ) → node < length g.terms
+  pub values_same : (path : Option Path) (node : ℕ) → node < length g.terms
       → Agree g h (Contains (value_reads g path node))
       → (value_nodes g path node ≡ value_nodes h path node)
       × SameMembers (value_reads g path node) (value_reads h path node)

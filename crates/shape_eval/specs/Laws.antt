@@ -1,5 +1,5 @@
 -- What is true of results and targets, over any graphs.
-use Rattle.std.specs.Prelude.{◌≡◌, ℕ, ◌<◌, List, length, All, Contains, IfSome}
+use Rattle.std.specs.Prelude.{◌≡◌, ℕ, ◌<◌, true, List, ◌∷◌, flat_map, length, All, Contains, IfSome}
 use Rattle.shx_term.specs.declared.term.Term.{Term}
 use Rattle.shx_term.specs.Members.{SameMembers}
 use Rattle.shx_term.specs.Vocabulary.{HasVocabulary}
@@ -13,6 +13,7 @@ use Rattle.comp_core.specs.declared.row.ResultRow.{ResultRow}
 use Rattle.comp_core.specs.Laws.{SameAnswers}
 use Rattle.comp_core.specs.Rows.{detail_of}
 use Rattle.shape_eval.specs.declared.shape.PlanShape.{PlanShape}
+use Rattle.shape_eval.specs.Nested.{is_evaluated_at, nested_in, pairs_below}
 use Rattle.shape_eval.specs.Plan.{IsKnownPlan, RefersLower}
 use Rattle.shape_eval.specs.Results.{pair_reads, reads_within, results, results_within}
 use Rattle.shape_eval.specs.Targets.{target_nodes, target_reads}
@@ -47,6 +48,46 @@ LevelsDoNotMatter =
     → (k l : ℕ) (p : Pair) → p.shape < k → p.shape < l → p.node < length g.terms
     → SameAnswers (results_within k shapes g) (results_within l shapes g)
     (reads_within k shapes g) (reads_within l shapes g) p
+
+-- ---- nested pairs
+
+-- what is read for a nested pair is read for the pair
+abbrev pub NestedReadsAreRead : Type 0
+NestedReadsAreRead =
+    (shapes : List PlanShape) → RefersLower shapes → (g : Graph) → AllKnown g → IsKnownPlan g.terms shapes
+    → (p : Pair) → p.node < length g.terms → (d : Pair) → Contains (nested_in shapes g p) d
+    → (key : Key) → Contains (pair_reads shapes g d) key → Contains (pair_reads shapes g p) key
+
+-- nothing but what is read for a pair matters to which pairs are nested in it
+abbrev pub NestedDependOnReads : Type 0
+NestedDependOnReads =
+    (shapes : List PlanShape) → RefersLower shapes → (g h : Graph) → AllKnown g → AllKnown h
+    → IsKnownPlan g.terms shapes → (p : Pair) → p.node < length g.terms
+    → Agree g h (Contains (pair_reads shapes g p)) → nested_in shapes g p ≡ nested_in shapes h p
+
+-- a nested pair is one of a lower shape that is evaluated, at a node that has a term
+pub record IsNestedPair (shapes : List PlanShape) (g : Graph) (p d : Pair) : Type 0 where
+  pub lower : d.shape < p.shape
+  pub node : d.node < length g.terms
+  pub evaluated : is_evaluated_at shapes d ≡ true
+
+abbrev pub NestedAreLower : Type 0
+NestedAreLower =
+    (shapes : List PlanShape) → RefersLower shapes → (g : Graph) → AllKnown g → (p : Pair)
+    → p.node < length g.terms → (d : Pair) → Contains (nested_in shapes g p) d → IsNestedPair shapes g p d
+
+-- what is nested in a nested pair is nested in the pair
+abbrev pub NestedAreClosed : Type 0
+NestedAreClosed =
+    (shapes : List PlanShape) → RefersLower shapes → (g : Graph) (p d e : Pair)
+    → Contains (nested_in shapes g p) d → Contains (nested_in shapes g d) e
+    → Contains (nested_in shapes g p) e
+
+-- nested in a pair are those right below it, and what is nested in these
+abbrev pub NestedAreBelow : Type 0
+NestedAreBelow =
+    (shapes : List PlanShape) → RefersLower shapes → (g : Graph) (p : Pair)
+    → nested_in shapes g p ≡ flat_map (λ d. d ∷ nested_in shapes g d) (pairs_below shapes g p)
 
 -- ---- the numbers in what is found and read
 

@@ -1,8 +1,11 @@
+pub mod Answered
 pub mod Constraint
 pub mod Known
 pub mod Laws
+pub mod Nested
 pub mod Plan
 pub mod Planned
+pub mod Recalled
 pub mod Report
 pub mod Results
 pub mod Targets

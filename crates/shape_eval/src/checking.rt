@@ -6,8 +6,8 @@ ghost use Rattle.graph_view.specs.Valid.{IsValidView};
 ghost use Rattle.comp_core.specs.declared.pair.Pair.{Pair};
 ghost use Rattle.shape_eval.specs.Constraint.{constraint_numbers};
 ghost use Rattle.shape_eval.specs.Known.{IsKnownOf};
+ghost use Rattle.shape_eval.specs.Nested.{asked_pairs};
 ghost use Rattle.shape_eval.specs.Results.{hits_of_each, reads_of_each, value_nodes, value_reads};
-ghost use Rattle.shape_eval.specs.inner.Answers.{asked_pairs};
 
 use crate::{Constraint, Known};
 use comp_core::{At, Component, Conform, Pair, ResultRow};

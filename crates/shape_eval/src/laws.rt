@@ -7,12 +7,15 @@ ghost use Rattle.graph_view.specs.Key.{Touches};
 ghost use Rattle.comp_core.specs.declared.pair.Pair.{Pair};
 ghost use Rattle.shape_eval.specs.declared.shape.PlanShape.{PlanShape};
 ghost use Rattle.shape_eval.specs.Laws.{IsSamePair, LevelsDoNotMatter, ResultsDependOnReads};
+ghost use Rattle.shape_eval.specs.Laws.{NestedAreBelow, NestedAreClosed, NestedAreLower};
+ghost use Rattle.shape_eval.specs.Laws.{NestedDependOnReads, NestedReadsAreRead};
 ghost use Rattle.shape_eval.specs.Laws.{PairReadsHaveTerms, ResultsHaveTerms, TargetReadsHaveTerms};
 ghost use Rattle.shape_eval.specs.Laws.{TargetsDependOnReads};
 ghost use Rattle.shape_eval.specs.Plan.{IsKnownPlan, RefersLower};
 ghost use Rattle.shape_eval.specs.Results.{pair_reads};
 
 use crate::Constraint;
+use crate::answering::answers_follow;
 use comp_core::Component;
 use graph_view::{look_ups_agree, look_ups_give_what_is_held};
 use path_eval::paths_depend_on_their_reads;
@@ -56,6 +59,27 @@ pub fn edits_beside_a_pair()
         → ((k : Key) → Contains (pair_reads shapes g p) k → Touches t k → ⊥) → IsSamePair shapes g h p }
 {
     results_depend_on_reads();
+}
+
+/// What is read for a nested pair is read for the pair that it is nested in, so no edit touches it and leaves
+/// that one out; and nothing but what is read for a pair matters to which pairs are nested in it.
+pub fn nested_pairs_are_read()
+    ensures read { NestedReadsAreRead }
+    ensures depend { NestedDependOnReads }
+{
+    answers_follow();
+    Constraint::laws();
+    paths_depend_on_their_reads();
+}
+
+/// Nested in a pair are those right below it and what is nested in these, all of them of lower shapes that
+/// are evaluated; and what is nested in a nested pair is nested in the pair.
+pub fn nested_pairs_stand_below()
+    ensures below { NestedAreBelow }
+    ensures lower { NestedAreLower }
+    ensures closed { NestedAreClosed }
+{
+    answers_follow();
 }
 
 /// The numbers in the results of a pair have terms, and their shapes are of the plan.

@@ -12,7 +12,8 @@
 //! | `targets.rt` | `eval_target`: the target nodes of a shape |
 //! | `answering.rt` | the pairs that a pair asks are answered first, and then its constraints are checked |
 //! | `checking.rt` | the constraints of a shape, checked at a node over answers that are held |
-//! | `table.rt` | the answers that are held while one pair is evaluated |
+//! | `told.rt` | what is told of pairs while one is evaluated |
+//! | `answers.rt` | `Answers`: answers that are remembered, found by hash |
 //! | `known.rt`, `matchers.rt` | `Known`: what one evaluation finds and the next knows |
 //! | `laws.rt` | results and target nodes depend on what is read for them alone; their numbers have terms |
 //!
@@ -23,6 +24,7 @@
 #![tactic(auto)]
 
 mod answering;
+mod answers;
 mod checking;
 mod constraint;
 mod constraint_component;
@@ -33,17 +35,19 @@ mod pairs;
 mod plan;
 mod planning;
 mod shape;
-mod table;
 mod target;
 mod targets;
+mod told;
 
+pub use answers::Answers;
+pub use comp_core::PairAnswer;
 pub use constraint::Constraint;
 pub use known::Known;
 pub use laws::{
-    edits_beside_a_pair, levels_do_not_matter, reads_have_terms, results_depend_on_reads,
-    results_have_terms, targets_depend_on_reads,
+    edits_beside_a_pair, levels_do_not_matter, nested_pairs_are_read, nested_pairs_stand_below,
+    reads_have_terms, results_depend_on_reads, results_have_terms, targets_depend_on_reads,
 };
-pub use pairs::{PairAnswer, eval_pair};
+pub use pairs::eval_pair;
 pub use plan::Plan;
 pub use shape::PlanShape;
 pub use target::Target;

@@ -9,13 +9,14 @@ use super::cells::{Cells, cells_of};
 use super::results::are_due;
 use super::rows::{nesting, together, values, worked, wrong};
 use super::terms::id_of;
-use comp_core::Pair;
+use comp_core::{Component, Pair};
 use due_view::{DueView, is_known, is_valid};
 use graph_view::{GraphView, Reads};
 use row_tools::{RowFault, all_blocks_met, cut, number};
 use shape_eval::{
-    Known, PairAnswer, Plan, edits_beside_a_pair, eval_pair, levels_do_not_matter,
-    reads_have_terms, results_depend_on_reads, results_have_terms, targets_depend_on_reads,
+    Answers, Constraint, Known, PairAnswer, Plan, edits_beside_a_pair, eval_pair,
+    levels_do_not_matter, nested_pairs_are_read, nested_pairs_stand_below, reads_have_terms,
+    results_depend_on_reads, results_have_terms, targets_depend_on_reads,
 };
 use shx_term::{Pool, Steps};
 use std::alloc::Global;
@@ -32,11 +33,12 @@ fn pair_of(alloc: Global, pool: &Pool, cell: &str) -> Result<Pair, RowFault> {
 }
 
 // The answer of a pair, which takes one step, whatever nests.
-fn found<V: GraphView, L: Ledger>(
+fn found<V: GraphView, K: Ledger, L: Ledger>(
     alloc: Global,
     view: &V,
     plan: &Plan,
     pair: Pair,
+    nested: &mut Steps<K>,
     steps: &mut Steps<L>,
 ) -> Result<PairAnswer<Reads>, RowFault>
     requires valid { IsValidView (V.graph view.now) }
@@ -44,10 +46,22 @@ fn found<V: GraphView, L: Ledger>(
     ensures { OnOk result (steps.new ≡ steps.old + 1) }
 {
     let mut known = Known::new(alloc);
+    let mut answers: Answers<Reads> = Answers::new(alloc);
     if pair.shape >= plan.len() || !is_known(view, pair.node) {
         return Err(RowFault::Unread);
     }
-    match eval_pair(alloc, view, plan, &mut known, pair.shape, pair.node, steps) {
+    let found = eval_pair(
+        alloc,
+        view,
+        plan,
+        &mut known,
+        pair.shape,
+        pair.node,
+        &mut answers,
+        nested,
+        steps,
+    );
+    match found {
         Ok(answer) => Ok(answer),
         Err(_) => Err(RowFault::Unread),
     }
@@ -55,24 +69,29 @@ fn found<V: GraphView, L: Ledger>(
 
 // Whether the pair of a block has the results that are due, over its graph. Nothing but its keys may be
 // looked up.
-fn is_met<L: Ledger>(
+fn is_met<K: Ledger, L: Ledger>(
     alloc: Global,
     block: &Block,
     cells: &Cells,
-    blank: Blank,
+    nested: Blank,
+    steps: Blank,
 ) -> Result<bool, RowFault>
-    requires name { blank.name ≡ L.name }
-    requires parts { blank.parts ≡ L.parts }
-    requires some { blank.parts ≡ 1 }
+    requires nested_name { nested.name ≡ K.name }
+    requires nested_parts { nested.parts ≡ K.parts }
+    requires nested_some { nested.parts ≡ 1 }
+    requires steps_name { steps.name ≡ L.name }
+    requires steps_parts { steps.parts ≡ L.parts }
+    requires steps_some { steps.parts ≡ 1 }
 {
     let Block { graph, plan, keys } = block;
     let pair = pair_of(alloc, graph.pool(), cells.asked)?;
     let view = DueView::new(graph, keys);
-    let mut steps: Steps<L> = Steps::open(blank);
+    let mut nested: Steps<K> = Steps::open(nested);
+    let mut steps: Steps<L> = Steps::open(steps);
     if !is_valid(graph) {
         return Err(RowFault::Unread);
     }
-    let answer = found(alloc, &view, plan, pair, &mut steps)?;
+    let answer = found(alloc, &view, plan, pair, &mut nested, &mut steps)?;
     let is_due = are_due(alloc, graph.pool(), &answer.rows, cells.due)?;
     Ok(is_due && view.are_read(&answer.reads))
 }
@@ -80,7 +99,7 @@ fn is_met<L: Ledger>(
 fn is_as_said(alloc: Global, text: &str) -> Result<bool, RowFault> {
     let cells = cells_of(text)?;
     let block = block_of(alloc, &cells)?;
-    is_met::<Brand>(alloc, &block, &cells, Blank::new(1))
+    is_met::<Brand, Brand>(alloc, &block, &cells, Blank::new(1), Blank::new(1))
 }
 
 fn is_refused(alloc: Global, block: &str) -> Result<bool, RowFault> {
@@ -124,4 +143,7 @@ fn laws_of_plans_are_at_hand() {
     edits_beside_a_pair();
     results_have_terms();
     reads_have_terms();
+    nested_pairs_are_read();
+    nested_pairs_stand_below();
+    Constraint::laws();
 }

@@ -1,6 +1,9 @@
 use Rattle.std.specs.Prelude.{take, All}
+use Rattle.comp_core.specs.Memo.{RemembersSame}
 use Rattle.shape_eval.specs.Known.{IsKnownOf}
-use Rattle.shape_eval.specs.inner.Answers.{Holds, IsTable, KeepsHeld}
+use Rattle.shape_eval.specs.Nested.{nested_in}
+use Rattle.shape_eval.specs.Recalled.{Brings, IsRecallOf}
+use Rattle.shape_eval.specs.inner.Told.{IsHeld}
 use Rattle.shape_eval.proofs.answering.+answer.Given as goal
 
 abbrev pub decreases-answer : goal.decreases-answer
@@ -9,7 +12,9 @@ decreases-answer g l = l.pair.shape
 abbrev pub invariant-loop-below : goal.invariant-loop-below
 invariant-loop-below g l = record {
   known : IsKnownOf l.known (g.V.GraphView.graph l.view);
-  table : IsTable g.N.Notes.has l.shapes (g.V.GraphView.graph l.view) l.table;
-  kept : KeepsHeld l.fn.table l.table;
-  held : All (Holds l.table) (take l.below-index l.below-items);
+  recall : IsRecallOf g.M.Noted.Notes.has l.shapes (g.V.GraphView.graph l.view) (g.M.Memo.recalled l.memo);
+  brings : Brings (g.M.Memo.recalled l.fn.memo) (g.M.Memo.recalled l.memo)
+      (nested_in l.shapes (g.V.GraphView.graph l.view) l.pair) l.fn.nested l.nested;
+  kept : RemembersSame (g.M.Memo.kept l.fn.memo) (g.M.Memo.kept l.memo);
+  held : All (IsHeld l.shapes (g.M.Memo.recalled l.memo)) (take l.below-index l.below-items);
 }

@@ -30,12 +30,19 @@ module _ {terms : List Term} {shapes : ℕ} {renewal : Renewal} (may : MayBeAdop
   all = entries_of renewal.targets.items renewal.evaluated.items
 
   abbrev empty_kept : Kept
-  empty_kept = record { records = only_staged []; results = first; pairs = 0; coming = 0 }
+  empty_kept = record {
+    records = only_staged [];
+    results = first;
+    recall = record { kept = []; staged = [] };
+    pairs = 0;
+    coming = 0;
+  }
 
   abbrev staged_kept : Kept
   staged_kept = record {
     records = only_staged all;
     results = mid;
+    recall = record { kept = []; staged = [] };
     pairs = 0;
     coming = length renewal.entering.items;
   }

@@ -1,29 +1,31 @@
 -- What is so over a graph is so over one that holds the same under any keys: the pairs, the report, what is
--- kept, and which pairs a change touches.
-use Rattle.std.specs.Prelude.{◌≡◌, ℕ, ◌<◌, Bool, true, false, not, ◌||◌, List, [], filter, map}
-use Rattle.std.specs.Prelude.{flat_map, length, slice_get, Contains}
-use Rattle.std.specs.List.{list_any}
-use Rattle.std.specs.Cmp.{both_ways}
-use Rattle.std.proofs.Common.{refl, sym, ap, ◌∙◌, subst}
+-- kept and remembered, which pairs a change touches, and which nested ones it brings.
+use Rattle.std.specs.Prelude.{◌≡◌, ℕ, ◌+◌, ◌<◌, Bool, true, false, not, ◌||◌, List, [], ◌++◌, Option, filter}
+use Rattle.std.specs.Prelude.{map, flat_map, length, slice_get, Contains}
+use Rattle.std.specs.Set.{distinct_count}
+use Rattle.std.proofs.Common.{refl, sym, ap, ◌∙◌, subst, arith, length-append}
 use Rattle.std.proofs.lemmas.Option.{slice_get_within}
 use Rattle.shx_term.specs.Members.{SameMembers}
 use Rattle.shx_term.specs.declared.triple.Triple.{Triple}
 use Rattle.shx_term.proofs.MemberLemmas.{Contains-test, filter_agree, flat_map_agree}
-use Rattle.shx_term.proofs.SetLemmas.{SameMembers-sym, SameMembers-then}
+use Rattle.shx_term.proofs.SetLemmas.{SameMembers-then}
 use Rattle.graph_view.specs.declared.key.Key.{Key}
 use Rattle.graph_view.specs.Agree.{Agree}
 use Rattle.graph_view.specs.Graph.{Graph, AllKnown}
-use Rattle.graph_view.specs.Key.{is_touching}
 use Rattle.graph_view.proofs.AgreeLemmas.{Agree-term}
 use Rattle.graph_view.proofs.ValidLemmas.{AllKnown-valid}
 use Rattle.comp_core.specs.declared.pair.Pair.{Pair}
 use Rattle.comp_core.specs.Pairs.{same_pair, same_pair_equiv, same_pair_exact}
 use Rattle.shape_eval.specs.declared.shape.PlanShape.{PlanShape}
-use Rattle.shape_eval.specs.Laws.{IsSamePair, IsSameTarget, ResultsDependOnReads, TargetsDependOnReads}
+use Rattle.shape_eval.specs.Laws.{IsSamePair, IsSameTarget, NestedDependOnReads, ResultsDependOnReads}
+use Rattle.shape_eval.specs.Laws.{TargetsDependOnReads}
+use Rattle.shape_eval.specs.Nested.{nested_in, nested_pairs}
 use Rattle.shape_eval.specs.Plan.{Planned}
+use Rattle.shape_eval.specs.Recalled.{AreRecalled, IsRecalled}
 use Rattle.shape_eval.specs.Report.{at_shape, pairs, report}
 use Rattle.shape_eval.specs.Results.{pair_reads, results}
 use Rattle.shape_eval.specs.Targets.{target_nodes, target_reads}
+use Rattle.read_records.specs.Recall.{Answer, kept_of}
 use Rattle.read_records.specs.Records.{Recorded}
 use Rattle.read_records.specs.declared.reader.Reader.{Reader}
 use Rattle.read_records.specs.declared.reader.Reader.TheVariants.{OfPair, OfTarget}
@@ -31,29 +33,14 @@ use Rattle.pair_results.specs.PairResults.{Kept as KeptResults}
 use Rattle.edit_engine.specs.MayBeAsked.{MayBeAsked}
 use Rattle.edit_engine.specs.Pairs.{pairs_of}
 use Rattle.edit_engine.specs.Recorded.{AreRecorded, Holds}
+use Rattle.edit_engine.specs.Remembered.{AreAllRecalled, BringsFresh, fresh, staying}
 use Rattle.edit_engine.specs.Touched.{is_among_pairs, is_any_touched, touched_pairs}
 use Rattle.edit_engine.specs.declared.kept.Kept.{Kept}
 use Rattle.edit_engine.specs.inner.Kept.{AreResults, IsKeptOf}
+use Rattle.edit_engine.specs.inner.Recall.{RemembersNested}
+use Rattle.edit_engine.proofs.KeptPairLemmas.{some_answer}
 use Rattle.edit_engine.proofs.KnownPairLemmas.{node_known}
-use Rattle.edit_engine.proofs.TestLemmas.{any_from, any_to}
-
--- ---- tests of what has the same members
-
-any_alike : {X : Type 0} (p : X → Bool) (xs ys : List X) → SameMembers xs ys → list_any p xs ≡ true
-    → list_any p ys ≡ true
-any_alike p xs ys same h =
-    let found = any_from p xs h in
-    any_to p ys found.0 ((same.each found.0).0 found.1) found.2
-
-any_same : {X : Type 0} (p : X → Bool) (xs ys : List X) → SameMembers xs ys → list_any p xs ≡ list_any p ys
-any_same p xs ys same =
-    both_ways (list_any p xs) (list_any p ys) (any_alike p xs ys same)
-    (any_alike p ys xs (SameMembers-sym same))
-
-touched_same : (changed : List Triple) (keys others : List Key) → SameMembers keys others
-    → is_any_touched changed keys ≡ is_any_touched changed others
-touched_same changed keys others same =
-    λ i. list_any (λ t. any_same (is_touching t) keys others same i) changed
+use Rattle.edit_engine.proofs.TouchLemmas.{touched_same}
 
 -- ---- targets, pairs and what is kept
 
@@ -99,10 +86,13 @@ module _ (plan : Planned) (g h : Graph) (alike : AreAlike plan g h) where
   node_before : (ns : List ℕ) (p : Pair) → Contains (pairs_of shapes ns g) p → p.node < length g.terms
   node_before ns p c = node_known shapes g known alike.before.known ns p c
 
-  same_results : (ns : List ℕ) (p : Pair) → Contains (pairs_of shapes ns g) p → IsSamePair shapes g h p
-  same_results ns p c =
+  same_pair_at : (p : Pair) → p.node < length g.terms → IsSamePair shapes g h p
+  same_pair_at p inside =
       alike.results_law shapes alike.before.refers g h known (AllKnown-valid h alike.after.valid)
-      alike.before.known p (node_before ns p c) (alike.agree (pair_reads shapes g p))
+      alike.before.known p inside (alike.agree (pair_reads shapes g p))
+
+  same_results : (ns : List ℕ) (p : Pair) → Contains (pairs_of shapes ns g) p → IsSamePair shapes g h p
+  same_results ns p c = same_pair_at p (node_before ns p c)
 
   pub report_alike : report plan g ≡ report plan h
   report_alike =
@@ -138,15 +128,64 @@ module _ (plan : Planned) (g h : Graph) (alike : AreAlike plan g h) where
         (subst (λ ps. Contains ps (at_shape n id)) (pairs_alike ns) c));
   }
 
-  -- what is kept of one graph is kept of the other
-  pub IsKeptOf-alike : (ns : List ℕ) (kept : Kept) → IsKeptOf shapes ns g kept → IsKeptOf shapes ns h kept
-  IsKeptOf-alike ns kept all = record {
-    records = AreRecorded-alike ns kept.records all.records;
-    results = AreResults-alike ns kept.results all.results;
-    count = all.count ∙ ap length (pairs_alike ns);
-    places = all.places;
-    idle = all.idle;
-  }
+  module _ (nested_law : NestedDependOnReads) where
+    same_nested : (p : Pair) → p.node < length g.terms → nested_in shapes g p ≡ nested_in shapes h p
+    same_nested p inside =
+        nested_law shapes alike.before.refers g h known (AllKnown-valid h alike.after.valid)
+        alike.before.known p inside (alike.agree (pair_reads shapes g p))
+
+    nested_of : (ns : List ℕ)
+        → flat_map (nested_in shapes g) (pairs_of shapes ns g)
+        ≡ flat_map (nested_in shapes h) (pairs_of shapes ns h)
+    nested_of ns =
+        flat_map_agree (nested_in shapes g) (nested_in shapes h) (pairs_of shapes ns g)
+        (λ p c. same_nested p (node_before ns p c))
+        ∙ ap (flat_map (nested_in shapes h)) (pairs_alike ns)
+
+    pub nested_alike : nested_pairs plan g ≡ nested_pairs plan h
+    nested_alike = nested_of plan.targeted
+
+    -- what is remembered of one graph is remembered of the other
+    remembers_alike : (ns : List ℕ) (recalled : Pair → Option Answer)
+        → RemembersNested shapes g (pairs_of shapes ns g) recalled
+        → RemembersNested shapes h (pairs_of shapes ns h) recalled
+    remembers_alike ns recalled is = record {
+      recall = record {
+        right = record {
+          each = λ p a e.
+              let right = is.recall.right.each p a e in
+              let same = same_pair_at p right.node in
+              record {
+                rows = right.rows ∙ same.rows;
+                reads = SameMembers-then right.reads same.reads;
+                node = node_after p right.node;
+              };
+        };
+        closed = record {
+          each = λ p there.
+              let a = some_answer (recalled p) there in
+              let same = same_nested p (is.recall.right.each p a.0 a.1).node in
+              subst (AreRecalled recalled) same (is.recall.closed.each p there);
+        };
+      };
+      nested = subst (AreRecalled recalled) (nested_of ns) is.nested;
+    }
+      where
+        node_after : (p : Pair) → p.node < length g.terms → p.node < length h.terms
+        node_after p inside =
+            omega (arith, ap length (alike.agree []).terms, length-append g.terms (alike.agree []).more)
+
+    -- what is kept of one graph is kept of the other
+    pub IsKeptOf-alike : (ns : List ℕ) (kept : Kept) → IsKeptOf shapes ns g kept → IsKeptOf shapes ns h kept
+    IsKeptOf-alike ns kept all = record {
+      records = AreRecorded-alike ns kept.records all.records;
+      results = AreResults-alike ns kept.results all.results;
+      count = all.count ∙ ap length (pairs_alike ns);
+      places = all.places;
+      idle = all.idle;
+      recall = remembers_alike ns (kept_of kept.recall) all.recall;
+      settled = all.settled;
+    }
 
   -- and a change touches the same pairs
   module _ (changed : List Triple) where
@@ -173,6 +212,49 @@ module _ (plan : Planned) (g h : Graph) (alike : AreAlike plan g h) where
     touched_alike new =
         filter_agree (λ p. is_old g p || is_read g p) (λ p. is_old h p || is_read h p) (pairs plan new)
         (λ p c. touched_at p (is_among_pairs (pairs plan g) p) refl)
+
+  -- of pairs whose nodes have terms in the first, the same stay
+  staying_alike : (changed : List Triple) (kept : List Pair)
+      → ((p : Pair) → Contains kept p → p.node < length g.terms)
+      → staying shapes g changed kept ≡ staying shapes h changed kept
+  staying_alike changed kept inside =
+      filter_agree (λ p. not (is_any_touched changed (pair_reads shapes g p)))
+      (λ p. not (is_any_touched changed (pair_reads shapes h p))) kept
+      (λ p c. ap not (touched_same changed (pair_reads shapes g p) (pair_reads shapes h p)
+      (same_pair_at p (inside p c)).reads))
+
+  -- and a change brings the same nested pairs, where the nodes of those that are remembered do
+  pub brings_alike : (after : Graph) (changed : List Triple) (old new : Pair → Option Answer) (m n : ℕ)
+      → ((p : Pair) → IsRecalled old p → p.node < length g.terms)
+      → BringsFresh plan h after changed old new m n → BringsFresh plan g after changed old new m n
+  brings_alike after changed old new m n inside brings = record {
+    counted = λ kept all.
+        subst (λ stay. n ≡ m + distinct_count same_pair (fresh plan after stay)) (sym (stay kept all))
+        (brings.counted kept all);
+    kept = λ kept all.
+        subst (λ stay. AreAllRecalled new (stay ++ fresh plan after stay)) (sym (stay kept all))
+        (brings.kept kept all);
+  }
+    where
+      stay : (kept : List Pair) → AreAllRecalled old kept
+          → staying shapes g changed kept ≡ staying shapes h changed kept
+      stay kept all = staying_alike changed kept (λ p c. inside p ((all.each p).0 c))
+
+-- of two new graphs with the same nested pairs it brings the same
+pub brings_among : (plan : Planned) (old g h : Graph) → nested_pairs plan g ≡ nested_pairs plan h
+    → (changed : List Triple) (before after : Pair → Option Answer) (m n : ℕ)
+    → BringsFresh plan old h changed before after m n → BringsFresh plan old g changed before after m n
+brings_among plan old g h same changed before after m n brings = record {
+  counted = λ kept all.
+      brings.counted kept all ∙ ap (λ ps. m + distinct_count same_pair ps) (sym (left kept));
+  kept = λ kept all.
+      subst (λ ps. AreAllRecalled after (staying plan.shapes old changed kept ++ ps)) (sym (left kept))
+      (brings.kept kept all);
+}
+  where
+    left : (kept : List Pair) → fresh plan g (staying plan.shapes old changed kept)
+        ≡ fresh plan h (staying plan.shapes old changed kept)
+    left kept = ap (filter (λ p. not (is_among_pairs (staying plan.shapes old changed kept) p))) same
 
 -- of two new graphs with the same pairs a change touches the same
 pub touched_among : (plan : Planned) (old g h : Graph) → pairs plan g ≡ pairs plan h

@@ -1,7 +1,7 @@
 -- What a change touches, and what that makes of targets and pairs.
 use Rattle.std.specs.Prelude.{◌≡◌, ℕ, ◌<◌, true, not, ◌||◌, nat_eq, List, [], ◌++◌, Option}
 use Rattle.std.specs.Prelude.{Some, None, flat_map, length, All, Contains, ◌↔◌}
-use Rattle.std.specs.List.{IsDistinct, list_any}
+use Rattle.std.specs.List.{IsDistinct}
 use Rattle.std.proofs.Common.{refl, sym, ap, ◌∙◌, subst, inl, inr, true≢false}
 use Rattle.std.proofs.lemmas.Bool.{not-true}
 use Rattle.std.proofs.lemmas.List.{map-append}
@@ -16,12 +16,10 @@ use Rattle.shx_term.proofs.MemberLemmas.{each_of_All}
 use Rattle.graph_view.specs.declared.key.Key.{Key}
 use Rattle.graph_view.specs.Agree.{Agree, IsUntouched}
 use Rattle.graph_view.specs.Graph.{Graph}
-use Rattle.graph_view.specs.Key.{is_touching, Touches}
+use Rattle.graph_view.specs.Key.{Touches}
 use Rattle.graph_view.specs.Patched.{IsBeside, patched}
-use Rattle.graph_view.specs.Reads.{IsTouchedBy}
 use Rattle.graph_view.specs.Valid.{IsValidTriple, IsValidView}
 use Rattle.graph_view.proofs.AgreeLemmas.{Agree-fewer}
-use Rattle.graph_view.proofs.KeyLemmas.{touching}
 use Rattle.graph_view.proofs.PatchedLemmas.{IsDistinct-append, is_not}
 use Rattle.graph_view.proofs.SameGraphLemmas.{IsDistinct-filter}
 use Rattle.graph_view.proofs.ValidLemmas.{AllKnown-valid}
@@ -55,32 +53,10 @@ use Rattle.edit_engine.proofs.RenewedPairLemmas.{AreApart-difference, AreApart-f
 use Rattle.edit_engine.proofs.RenewedPairLemmas.{among_or_not}
 use Rattle.edit_engine.proofs.ReaderLemmas.{Contains-pairs_among, Contains-targets_among, pairs_distinct}
 use Rattle.edit_engine.proofs.ReaderLemmas.{targets_distinct}
-use Rattle.edit_engine.proofs.TestLemmas.{any_from, any_to, or_cases, or_left, or_right}
+use Rattle.edit_engine.proofs.TestLemmas.{or_cases, or_left, or_right}
+use Rattle.edit_engine.proofs.TouchLemmas.{HasTouched, touched_test}
 
 -- ---- touched keys
-
--- one of the triples touches one of the keys
-record HasTouched (changed : List Triple) (keys : List Key) : Type 0 where
-  pub triple : Triple
-  pub changes : Contains changed triple
-  pub touched : IsTouchedBy triple keys
-
-touched_test : (changed : List Triple) (keys : List Key)
-    → (is_any_touched changed keys ≡ true) ↔ HasTouched changed keys
-touched_test changed keys = (
-  λ h.
-      let at = any_from (λ t. list_any (is_touching t) keys) changed h in
-      let key = any_from (is_touching at.0) keys at.2 in
-      record {
-        triple = at.0;
-        changes = at.1;
-        touched = (key.0, (key.1, (touching at.0 key.0).0 key.2));
-      },
-  λ h.
-      any_to (λ t. list_any (is_touching t) keys) changed h.triple h.changes
-      (any_to (is_touching h.triple) keys h.touched.0 h.touched.1.0
-      ((touching h.triple h.touched.0).1 h.touched.1.1)),
-)
 
 some_is : {X : Type 0} (x y : X) → Some x ≡ Some y → x ≡ y
 some_is x y e = cc
@@ -346,6 +322,15 @@ module _ {plan : Planned} {g h : Graph} {added removed : List Triple} {state : R
         (pairs_distinct readers change.touched.sorted)) enter.once
         (λ p c d. ((enter.each p).0 d).1 ((staying p).0 c).0)
 
+  pub touched_are : TargetsDependOnReads → {made : Renewal}
+      → RenewsTargets plan.shapes g h (targets_among readers) made
+      → SameMembers (pairs_staying readers made.leaving.keys ++ made.entering.items)
+      (touched_pairs plan g h (added ++ removed))
+  touched_are depend {made} renews =
+      evaluated_same made.entering.items made.leaving.keys
+      (entering_of_all depend made.entering.items renews.entering)
+      (leaving_of_all depend made.leaving.keys renews.leaving)
+
   -- all parts of a renewal together
   pub IsRenewal-made : TargetsDependOnReads → {made staying evaluated : Renewal}
       → RenewsTargets plan.shapes g h (targets_among readers) made → made.evaluated.items ≡ []
@@ -384,7 +369,7 @@ module _ {plan : Planned} {g h : Graph} {added removed : List Triple} {state : R
         entering = subst (IsDifference same_pair (pairs plan h) (pairs plan g)) (sym entering) enter;
         leaving = subst (IsDifference same_pair (pairs plan g) (pairs plan h)) (sym leaving) leave;
         pairs = subst (λ ps. SameMembers ps (touched_pairs plan g h (added ++ removed))) (sym pairs_are)
-            (evaluated_same made.entering.items made.leaving.keys enter leave);
+            (touched_are depend renews);
         pairs_once = subst (IsDistinct same_pair) (sym pairs_are)
             (evaluated_once made.entering.items made.leaving.keys enter leave);
         right = subst (All (IsRight plan.shapes h)) (sym all)

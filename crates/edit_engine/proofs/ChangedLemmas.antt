@@ -1,20 +1,16 @@
 -- A change of the graph: what it does not touch is as it was, in whatever order the triples stand.
-use Rattle.std.specs.Prelude.{◌≡◌, ℕ, Bool, true, false, not, ◌||◌, List, [], ◌∷◌, ◌++◌, map}
-use Rattle.std.specs.Prelude.{length, slice_get, Some, All, Contains}
+use Rattle.std.specs.Prelude.{◌≡◌, ℕ, Bool, true, not, ◌||◌, List, [], ◌++◌, length, All, Contains}
 use Rattle.std.specs.List.{IsDistinct, list_any}
-use Rattle.std.proofs.Common.{refl, sym, ap, ◌∙◌, subst, inl, inr, true≢false}
+use Rattle.std.proofs.Common.{refl, sym, ◌∙◌, subst, inl, inr}
 use Rattle.std.proofs.lemmas.List.Elements.{Contains-append_left, Contains-append_right}
 use Rattle.std.proofs.lemmas.List.{length-map}
 use Rattle.shx_term.specs.Members.{SameMembers}
 use Rattle.shx_term.specs.TermOrder.{same_term}
 use Rattle.shx_term.specs.declared.term.Term.{Term}
 use Rattle.shx_term.specs.declared.triple.Triple.{Triple}
-use Rattle.shx_term.proofs.MemberLemmas.{All_of_each, Contains-cases, Contains-filter, Contains-from_filter}
-use Rattle.shx_term.proofs.MemberLemmas.{Contains-from_map}
-use Rattle.shx_term.proofs.MemberLemmas.{Contains-test, each_of_All}
-use Rattle.shx_term.proofs.MemberLemmas.{flat_map_agree}
-use Rattle.shx_term.proofs.MemberLemmas.{none_in_empty}
-use Rattle.shx_term.proofs.SetLemmas.{SameMembers-itself, SameMembers-sym, SameMembers-then}
+use Rattle.shx_term.proofs.MemberLemmas.{All_of_each, Contains-filter, Contains-from_filter}
+use Rattle.shx_term.proofs.MemberLemmas.{Contains-from_map, Contains-test, each_of_All}
+use Rattle.shx_term.proofs.SetLemmas.{SameMembers-itself, SameMembers-sym}
 use Rattle.graph_view.specs.Agree.{Agree, IsUntouched}
 use Rattle.graph_view.specs.Graph.{Graph, AllKnown}
 use Rattle.graph_view.specs.Key.{is_touching, Touches}
@@ -30,44 +26,30 @@ use Rattle.graph_view.proofs.ValidLemmas.{AllKnown-valid, IsValidView-exchanged}
 use Rattle.comp_core.specs.declared.pair.Pair.{Pair}
 use Rattle.comp_core.specs.Pairs.{same_pair, same_pair_equiv, same_pair_exact}
 use Rattle.shape_eval.specs.declared.shape.PlanShape.{PlanShape}
-use Rattle.shape_eval.specs.Laws.{IsSameTarget, ResultsDependOnReads, TargetsDependOnReads}
+use Rattle.shape_eval.specs.Laws.{NestedDependOnReads, ResultsDependOnReads, TargetsDependOnReads}
 use Rattle.shape_eval.specs.Plan.{IsKnownPlan, Planned}
-use Rattle.shape_eval.specs.Report.{at_shape, pairs}
+use Rattle.shape_eval.specs.Report.{pairs}
 use Rattle.shape_eval.specs.Results.{pair_reads}
-use Rattle.shape_eval.specs.Targets.{target_nodes, target_reads}
 use Rattle.read_records.specs.declared.reader.Reader.TheVariants.{OfPair, OfTarget}
+use Rattle.read_records.specs.Recall.{KeepsRecalled, KeepsSame, RecallState, recalled}
 use Rattle.read_records.specs.Records.{Commits}
 use Rattle.pair_results.specs.PairResults.{Commits as CommitsRows}
 use Rattle.edit_engine.specs.declared.renewal.Renewal.{Renewal}
 use Rattle.edit_engine.specs.MayBeAsked.{MayBeAsked}
+use Rattle.edit_engine.specs.Pairs.{pairs_of}
 use Rattle.edit_engine.specs.Renewal.{IsRenewal, pairs_evaluated}
 use Rattle.edit_engine.specs.Touched.{is_among_pairs, is_any_touched, touched_pairs}
 use Rattle.edit_engine.specs.declared.kept.Kept.{Kept}
 use Rattle.edit_engine.specs.inner.Kept.{IsIdle, IsKeptOf, SameKept}
+use Rattle.edit_engine.specs.inner.Recall.{RemembersNested}
 use Rattle.edit_engine.specs.inner.Staged.{IsStaged, MayBeStaged}
-use Rattle.edit_engine.proofs.StagedLemmas.{SameRecords-then, SameRows-then}
+use Rattle.edit_engine.proofs.AlikeLemmas.{IsKeptOf-alike}
 use Rattle.edit_engine.proofs.KnownPairLemmas.{pair_known}
 use Rattle.edit_engine.proofs.PairLemmas.{length-differences, length-same_members, pair_or_not}
 use Rattle.edit_engine.proofs.PairLemmas.{pairs_distinct}
-use Rattle.edit_engine.proofs.RenewLemmas.{IsKeptOf-renewed, MayBeStaged-renews, Renews}
-
--- ---- tests
-
-or_left : (a b : Bool) → a ≡ true → a || b ≡ true
-or_left true b e = refl
-or_left false b e = absurd (true≢false (sym e))
-
-or_right : (a b : Bool) → b ≡ true → a || b ≡ true
-or_right true b e = refl
-or_right false b e = e
-
--- a test that one of the elements passes
-any_to : {X : Type 0} (p : X → Bool) (xs : List X) (x : X) → Contains xs x → p x ≡ true → list_any p xs ≡ true
-any_to p [] x c h = absurd (none_in_empty x c)
-any_to p (y ∷ ys) x c h = elim (Contains-cases y x ys c) [
-  | inl e ↦ or_left (p y) (list_any p ys) (ap p (sym e) ∙ h)
-  | inr d ↦ or_right (p y) (list_any p ys) (any_to p ys x d h)
-]
+use Rattle.edit_engine.proofs.RenewLemmas.{AreKept, IsKeptOf-renewed, MayBeStaged-renews, Renews}
+use Rattle.edit_engine.proofs.StagedLemmas.{SameRecords-then, SameRows-then}
+use Rattle.edit_engine.proofs.TestLemmas.{any_to, or_left, or_right}
 
 -- keys that no triple touches are beside the change
 untouched : (added removed : List Triple) (keys : List Key)
@@ -140,68 +122,6 @@ module _ (plan : Planned) (g h : Graph) (added removed : List Triple) (renewal :
         (pairs_distinct plan.shapes h plan.targeted asked.once) is.leaving is.entering;
   }
 
--- ---- graphs that hold the same triples
-
-module _ (plan : Planned) (g h : Graph) (asked : MayBeAsked plan g) (known : AllKnown h)
-    (terms : h.terms ≡ g.terms) (same : SameMembers g.triples h.triples) where
-  known_before : AllKnown g
-  known_before = AllKnown-valid g asked.valid
-
-  agree_on : (keys : List Key) → Agree g h (Contains keys)
-  agree_on keys = Agree-on_terms terms (AgreeOn-same same)
-
-  module _ (results_law : ResultsDependOnReads) (targets_law : TargetsDependOnReads) where
-    same_target : (n : ℕ) → IsSameTarget plan.shapes g h n
-    same_target n =
-        targets_law plan.shapes g h known_before known asked.known n (agree_on (target_reads plan.shapes g n))
-
-    same_pairs : pairs plan g ≡ pairs plan h
-    same_pairs =
-        flat_map_agree (λ n. map (at_shape n) (target_nodes plan.shapes g n))
-        (λ n. map (at_shape n) (target_nodes plan.shapes h n)) plan.targeted
-        (λ n c. ap (map (at_shape n)) (same_target n).nodes)
-
-    pub IsKeptOf-same : (kept : Kept) → IsKeptOf plan.shapes plan.targeted g kept
-        → IsKeptOf plan.shapes plan.targeted h kept
-    IsKeptOf-same kept is =
-        let was = λ (p : Pair) (c : Contains (pairs plan h) p).
-        subst (λ ps. Contains ps p) (sym same_pairs) c in
-        let now = λ (p : Pair) (c : Contains (pairs plan g) p). subst (λ ps. Contains ps p) same_pairs c in
-        let alike = λ (p : Pair) (c : Contains (pairs plan g) p).
-        results_law plan.shapes asked.refers g h known_before known asked.known p
-        (pair_known plan.shapes g known_before asked.known plan.targeted asked.within p c).node
-        (agree_on (pair_reads plan.shapes g p)) in
-        record {
-          records = record {
-            targets = λ n c.
-                let holds = is.records.targets n c in
-                record {
-                  reads = holds.reads;
-                  recorded = holds.recorded;
-                  same = SameMembers-then holds.same (same_target n).reads;
-                };
-            pairs = λ p c.
-                let holds = is.records.pairs p (was p c) in
-                record {
-                  reads = holds.reads;
-                  recorded = holds.recorded;
-                  same = SameMembers-then holds.same (alike p (was p c)).reads;
-                };
-            no_target = is.records.no_target;
-            no_pair = λ p free. is.records.no_pair p (λ c. free (now p c));
-          };
-          results = record {
-            pairs = λ p node c at.
-                is.results.pairs p node (was p c) (subst (λ ts. slice_get ts p.node ≡ Some node) terms at)
-                ∙ (alike p (was p c)).rows;
-            others = λ n node none. is.results.others n node (λ id at c.
-                none id (subst (λ ts. slice_get ts id ≡ Some node) (sym terms) at) (now (at_shape n id) c));
-          };
-          count = is.count ∙ ap length same_pairs;
-          places = is.places;
-          idle = is.idle;
-        }
-
 -- a plan may be asked of the changed graph
 pub MayBeAsked-exchanged : (plan : Planned) (g h : Graph) (added removed : List Triple) → MayBeAsked plan g
     → All (IsValidTriple g.terms) added → h.terms ≡ g.terms
@@ -238,34 +158,53 @@ length-evaluated plan g h changed renewal asked is =
     ∙ length-same_members (pairs_evaluated renewal.evaluated.items) (touched_pairs plan g h changed)
     is.pairs_once once is.pairs
 
+-- what is kept of a graph is kept of one that holds the same triples
+IsKeptOf-same : ResultsDependOnReads → TargetsDependOnReads → NestedDependOnReads → (plan : Planned)
+    (g h : Graph) → MayBeAsked plan g → MayBeAsked plan h → h.terms ≡ g.terms
+    → SameMembers g.triples h.triples → (kept : Kept) → IsKeptOf plan.shapes plan.targeted g kept
+    → IsKeptOf plan.shapes plan.targeted h kept
+IsKeptOf-same results_law targets_law nested_law plan g h asked asked' terms same kept is =
+    IsKeptOf-alike plan g h (record {
+      before = asked;
+      after = asked';
+      agree = λ keys. Agree-on_terms terms (AgreeOn-same same);
+      results_law = results_law;
+      targets_law = targets_law;
+    }) nested_law plan.targeted kept is
+
 -- the changed graph may hold its triples in another order than the patched one
-pub IsKeptOf-made : ResultsDependOnReads → TargetsDependOnReads
+pub IsKeptOf-made : ResultsDependOnReads → TargetsDependOnReads → NestedDependOnReads
     → (plan : Planned) (g h : Graph) (added removed : List Triple) (renewal : Renewal) → MayBeAsked plan g
     → All (IsValidTriple g.terms) added
     → IsRenewal plan g (patched g added removed) (added ++ removed) renewal → h.terms ≡ g.terms
     → SameMembers h.triples (patched g added removed).triples
-    → IsDistinct same_term g.terms → (old mid new : Kept) → IsKeptOf plan.shapes plan.targeted g old
+    → IsDistinct same_term g.terms → (old mid new : Kept) → AreKept plan.shapes plan.targeted g old
     → IsStaged g.terms old mid renewal → Commits mid.records new.records → CommitsRows mid.results new.results
     → length new.results.shapes ≡ length mid.results.shapes → new.pairs ≡ mid.coming → IsIdle new
+    → (recall : RecallState) → RemembersNested plan.shapes (patched g added removed)
+    (pairs plan (patched g added removed)) (recalled recall) → KeepsRecalled recall new.recall
+    → new.recall.staged ≡ []
     → IsKeptOf plan.shapes plan.targeted h new
-IsKeptOf-made results_law targets_law plan g h added removed renewal asked fit is terms same once old mid new
-    kept staged commits rows places pairs idle =
+IsKeptOf-made results_law targets_law nested_law plan g h added removed renewal asked fit is terms same once
+    old mid new kept staged commits rows places count idle recall remembers keeps settled =
     let patch = patched g added removed in
     let asked_patch =
     MayBeAsked-exchanged plan g patch added removed asked fit refl (SameMembers-itself patch.triples) in
     let asked_h = MayBeAsked-exchanged plan g h added removed asked fit terms same in
     let renews = Renews-changed plan g patch added removed renewal asked
     (AllKnown-valid patch asked_patch.valid) refl (Agree-patched g added removed) results_law is in
+    let remembers' = subst (RemembersNested plan.shapes patch (pairs plan patch))
+    (λ i p. sym (keeps.each p) i) remembers in
     let kept_patch = IsKeptOf-renewed plan.shapes plan.targeted plan.targeted g patch renewal renews old mid
-    new kept staged commits rows once places pairs idle in
-    IsKeptOf-same plan patch h asked_patch (AllKnown-valid h asked_h.valid) terms (SameMembers-sym same)
-    results_law targets_law new kept_patch
+    new kept staged commits rows once places count idle remembers' settled in
+    IsKeptOf-same results_law targets_law nested_law plan patch h asked_patch asked_h terms
+    (SameMembers-sym same) new kept_patch
 
 -- what is staged for a change may be staged
 pub MayBeStaged-changed : ResultsDependOnReads → (plan : Planned) (g : Graph) (added removed : List Triple)
     (renewal : Renewal) → MayBeAsked plan g → All (IsValidTriple g.terms) added
     → IsRenewal plan g (patched g added removed) (added ++ removed) renewal → (kept : Kept)
-    → IsKeptOf plan.shapes plan.targeted g kept → MayBeStaged g.terms kept renewal
+    → AreKept plan.shapes plan.targeted g kept → MayBeStaged g.terms kept renewal
 MayBeStaged-changed results_law plan g added removed renewal asked fit is kept holds =
     let patch = patched g added removed in
     let known = AllKnown-valid patch (IsValidView-patched g added removed asked.valid fit) in
@@ -303,13 +242,33 @@ IsKeptOf-unchanged shapes ns g old new is same = record {
   count = same.pairs ∙ is.count;
   places = same.places ∙ is.places;
   idle = same.idle;
+  recall = subst (RemembersNested shapes g (pairs_of shapes ns g)) (λ i p. sym (same.recall.each p) i)
+      is.recall;
+  settled = same.settled;
 }
 
+-- whatever was remembered for the time being
+pub SameKept-beside : (old new : Kept) (recall : RecallState) → KeepsSame old.recall recall
+    → SameKept (record old { recall = recall }) new → SameKept old new
+SameKept-beside old new recall keeps same = record {
+  records = same.records;
+  rows = same.rows;
+  recall = record { each = λ p. same.recall.each p ∙ keeps.each p };
+  settled = same.settled;
+  places = same.places;
+  pairs = same.pairs;
+  idle = same.idle;
+}
+
+-- what was staged is forgotten
 pub SameKept-dropped : (terms : List Term) (old mid new : Kept) (renewal : Renewal)
-    → IsStaged terms old mid renewal → mid.pairs ≡ old.pairs → SameKept mid new → SameKept old new
-SameKept-dropped terms old mid new renewal staged pairs dropped = record {
+    → IsStaged terms old mid renewal → mid.pairs ≡ old.pairs → mid.recall ≡ old.recall → SameKept mid new
+    → SameKept old new
+SameKept-dropped terms old mid new renewal staged pairs recall dropped = record {
   records = SameRecords-then staged.records dropped.records;
   rows = SameRows-then staged.rows dropped.rows;
+  recall = subst (λ (state : RecallState). KeepsSame state new.recall) recall dropped.recall;
+  settled = dropped.settled;
   places = dropped.places ∙ staged.places;
   pairs = dropped.pairs ∙ pairs;
   idle = dropped.idle;

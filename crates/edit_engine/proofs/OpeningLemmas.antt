@@ -14,18 +14,20 @@ use Rattle.shape_eval.specs.Plan.{IsKnownPlan}
 use Rattle.shape_eval.specs.Report.{at_shape}
 use Rattle.shape_eval.specs.Targets.{target_nodes}
 use Rattle.read_records.specs.declared.reader.Reader.TheVariants.{OfPair, OfTarget}
+use Rattle.read_records.specs.Recall.{kept_of}
 use Rattle.edit_engine.specs.declared.renewal.Renewal.{Renewal}
 use Rattle.edit_engine.specs.Pairs.{pairs_of}
 use Rattle.edit_engine.specs.Renewal.{IsOpening, IsReadNow, pairs_evaluated, shapes_renewed}
 use Rattle.edit_engine.specs.declared.kept.Kept.{Kept}
 use Rattle.edit_engine.specs.inner.Kept.{IsKeptOf, KeepsNothing}
+use Rattle.edit_engine.specs.inner.Recall.{RemembersNested}
 use Rattle.edit_engine.specs.inner.Parts.{Evaluates, IsEmptyRenewal, OpensTarget, OpensTargets, SameTargets}
 use Rattle.edit_engine.specs.inner.Staged.{IsAdopted, MayBeAdopted}
 use Rattle.edit_engine.proofs.RenewedPairLemmas.{none_apart}
 use Rattle.edit_engine.proofs.KnownPairLemmas.{pair_known}
 use Rattle.edit_engine.proofs.PairLemmas.{pairs_distinct}
 use Rattle.edit_engine.proofs.RenewalLemmas.{read_more, renewed_more}
-use Rattle.edit_engine.proofs.RenewLemmas.{IsKeptOf-renewed, Renews}
+use Rattle.edit_engine.proofs.RenewLemmas.{AreKept, IsKeptOf-renewed, Renews}
 
 -- ---- target by target
 
@@ -80,9 +82,9 @@ module _ {shapes : List PlanShape} {g : Graph} where
 -- ---- what is kept of it
 
 -- of no shape nothing is kept
-IsKeptOf-none : (shapes : List PlanShape) (g : Graph) (kept : Kept) → KeepsNothing kept
-    → length kept.results.shapes ≡ length shapes → IsKeptOf shapes [] g kept
-IsKeptOf-none shapes g kept nothing places = record {
+AreKept-none : (shapes : List PlanShape) (g : Graph) (kept : Kept) → KeepsNothing kept
+    → length kept.results.shapes ≡ length shapes → AreKept shapes [] g kept
+AreKept-none shapes g kept nothing places = record {
   records = record {
     targets = λ n c. absurd (none_in_empty n c);
     pairs = λ p c. absurd (none_in_empty p c);
@@ -95,7 +97,6 @@ IsKeptOf-none shapes g kept nothing places = record {
   };
   count = nothing.pairs;
   places = places;
-  idle = nothing.idle;
 }
 
 module _ {shapes : List PlanShape} {g : Graph} {ns : List ℕ} {renewal : Renewal}
@@ -143,8 +144,10 @@ module _ {shapes : List PlanShape} {g : Graph} {ns : List ℕ} {renewal : Renewa
   }
 
   pub IsKeptOf-adopted : (new : Kept) → IsDistinct same_term g.terms
-      → IsAdopted g.terms (length shapes) renewal new → IsKeptOf shapes ns g new
-  IsKeptOf-adopted new distinct adopted =
+      → IsAdopted g.terms (length shapes) renewal new
+      → RemembersNested shapes g (pairs_of shapes ns g) (kept_of new.recall) → new.recall.staged ≡ []
+      → IsKeptOf shapes ns g new
+  IsKeptOf-adopted new distinct adopted recall settled =
       IsKeptOf-renewed shapes [] ns g g renewal Renews-opening adopted.old adopted.mid new
-      (IsKeptOf-none shapes g adopted.old adopted.nothing adopted.room) adopted.staged adopted.records
-      adopted.rows distinct adopted.places adopted.pairs adopted.idle
+      (AreKept-none shapes g adopted.old adopted.nothing adopted.room) adopted.staged adopted.records
+      adopted.rows distinct adopted.places adopted.pairs adopted.idle recall settled

@@ -23,19 +23,38 @@ use Rattle.shape_eval.specs.Results.{pair_reads, results}
 use Rattle.shape_eval.specs.Targets.{target_reads}
 use Rattle.read_records.specs.declared.reader.Reader.{Reader}
 use Rattle.read_records.specs.declared.reader.Reader.TheVariants.{OfPair, OfTarget}
+use Rattle.read_records.specs.Recall.{RecallState, kept_of}
 use Rattle.read_records.specs.Records.{Commits, after_change, change_of, reads_of}
 use Rattle.pair_results.specs.PairResults.{Commits as CommitsRows, rows_at}
 use Rattle.edit_engine.specs.declared.renewal.Renewal.{Renewal}
 use Rattle.edit_engine.specs.Pairs.{pairs_of}
-use Rattle.edit_engine.specs.Recorded.{Holds}
+use Rattle.edit_engine.specs.Recorded.{AreRecorded, Holds}
 use Rattle.edit_engine.specs.Renewal.{IsReadNow, IsRight, pairs_evaluated, shapes_renewed}
 use Rattle.edit_engine.specs.declared.kept.Kept.{Kept}
-use Rattle.edit_engine.specs.inner.Kept.{IsIdle, IsKeptOf}
+use Rattle.edit_engine.specs.inner.Kept.{AreResults, IsIdle, IsKeptOf}
+use Rattle.edit_engine.specs.inner.Recall.{RemembersNested}
 use Rattle.edit_engine.specs.inner.Staged.{IsBesideRenewal, IsStaged, MayBeStaged, pairs_renewed}
 use Rattle.edit_engine.proofs.RenewedPairLemmas.{among_or_not}
 use Rattle.edit_engine.proofs.KnownPairLemmas.{pair_known}
 use Rattle.edit_engine.proofs.PairLemmas.{length-among, numbered_or_not, pair_or_not}
 use Rattle.edit_engine.proofs.PutLemmas.{one_number}
+
+-- records and results are kept of these shapes, and no others
+pub record AreKept (shapes : List PlanShape) (ns : List ℕ) (g : Graph) (kept : Kept) : Type 0 where
+  pub records : AreRecorded shapes ns g kept.records
+  pub results : AreResults shapes ns g kept.results
+  pub count : kept.pairs ≡ length (pairs_of shapes ns g)
+  pub places : length kept.results.shapes ≡ length shapes
+
+-- whatever is remembered beside them
+pub AreKept-beside : {shapes : List PlanShape} {ns : List ℕ} {g : Graph} {kept : Kept} (recall : RecallState)
+    → IsKeptOf shapes ns g kept → AreKept shapes ns g (record kept { recall = recall })
+AreKept-beside recall is = record {
+  records = is.records;
+  results = is.results;
+  count = is.count;
+  places = is.places;
+}
 
 -- from some shapes in one graph to those in another with the same terms: whatever is not renewed is as it was
 pub record Renews (shapes : List PlanShape) (ns ms : List ℕ) (g h : Graph) (renewal : Renewal) : Type 0 where
@@ -77,7 +96,7 @@ module _ (shapes : List PlanShape) (ns ms : List ℕ) (g h : Graph) (renewal : R
   -- ---- it may be staged
 
   pub MayBeStaged-renews : (kept : Kept) → AllKnown g → AllKnown h → IsKnownPlan g.terms shapes
-      → All (λ n. n < length shapes) ns → All (λ n. n < length shapes) ms → IsKeptOf shapes ns g kept
+      → All (λ n. n < length shapes) ns → All (λ n. n < length shapes) ms → AreKept shapes ns g kept
       → MayBeStaged g.terms kept renewal
   MayBeStaged-renews kept known known' plan within within' is =
       let plan' = subst (λ ts. IsKnownPlan ts shapes) (sym renews.terms) plan in
@@ -104,7 +123,7 @@ module _ (shapes : List PlanShape) (ns ms : List ℕ) (g h : Graph) (renewal : R
 
   -- ---- once it is made
 
-  module _ (old mid new : Kept) (kept : IsKeptOf shapes ns g old) (staged : IsStaged g.terms old mid renewal)
+  module _ (old mid new : Kept) (kept : AreKept shapes ns g old) (staged : IsStaged g.terms old mid renewal)
       (commits : Commits mid.records new.records) (rows : CommitsRows mid.results new.results) where
     -- what is recorded of a reader follows from what was staged for it
     recorded : (reader : Reader) (change : Option (Option (List Key))) → change_of mid.records reader ≡ change
@@ -236,8 +255,9 @@ module _ (shapes : List PlanShape) (ns ms : List ℕ) (g h : Graph) (renewal : R
       ]
 
       pub IsKeptOf-renewed : length new.results.shapes ≡ length mid.results.shapes → new.pairs ≡ mid.coming
-          → IsIdle new → IsKeptOf shapes ms h new
-      IsKeptOf-renewed places pairs idle =
+          → IsIdle new → RemembersNested shapes h after (kept_of new.recall) → new.recall.staged ≡ []
+          → IsKeptOf shapes ms h new
+      IsKeptOf-renewed places pairs idle recall settled =
           let here = λ (id : ℕ) (node : Term) (at : slice_get h.terms id ≡ Some node).
           subst (λ ts. slice_get ts id ≡ Some node) renews.terms at in
           let there = λ (id : ℕ) (node : Term) (at : slice_get g.terms id ≡ Some node).
@@ -260,4 +280,6 @@ module _ (shapes : List PlanShape) (ns ms : List ℕ) (g h : Graph) (renewal : R
                 omega arith;
             places = places ∙ staged.places ∙ kept.places;
             idle = idle;
+            recall = recall;
+            settled = settled;
           }

@@ -1,5 +1,5 @@
 -- What a plan is asked of a graph depends on which triples it holds, and not on their order.
-use Rattle.std.specs.Prelude.{◌≡◌}
+use Rattle.std.specs.Prelude.{◌≡◌, ℕ, ◌<◌, Option, length}
 use Rattle.std.specs.List.{IsDistinct}
 use Rattle.std.proofs.Common.{sym, ap, ◌∙◌, subst}
 use Rattle.shx_term.specs.declared.edit.Edit.{Edit}
@@ -9,14 +9,19 @@ use Rattle.shx_term.proofs.SetLemmas.{SameMembers-sym}
 use Rattle.graph_view.specs.Graph.{Graph}
 use Rattle.graph_view.specs.SameGraph.{SameGraph}
 use Rattle.graph_view.proofs.AgreeLemmas.{AgreeOn-same, Agree-on_terms}
-use Rattle.shape_eval.specs.Laws.{ResultsDependOnReads, TargetsDependOnReads}
+use Rattle.comp_core.specs.declared.pair.Pair.{Pair}
+use Rattle.shape_eval.specs.Laws.{NestedDependOnReads, ResultsDependOnReads, TargetsDependOnReads}
+use Rattle.shape_eval.specs.Nested.{nested_pairs}
 use Rattle.shape_eval.specs.Plan.{IsKnownPlan, Planned}
+use Rattle.shape_eval.specs.Recalled.{IsRecalled}
 use Rattle.shape_eval.specs.Report.{pairs, report}
+use Rattle.read_records.specs.Recall.{Answer}
 use Rattle.edit_engine.specs.Edits.{changed_by, edited}
 use Rattle.edit_engine.specs.MayBeAsked.{MayBeAsked}
+use Rattle.edit_engine.specs.Remembered.{BringsFresh}
 use Rattle.edit_engine.specs.Touched.{touched_pairs}
-use Rattle.edit_engine.proofs.AlikeLemmas.{AreAlike, pairs_alike, report_alike, touched_alike}
-use Rattle.edit_engine.proofs.AlikeLemmas.{touched_among}
+use Rattle.edit_engine.proofs.AlikeLemmas.{AreAlike, brings_alike, brings_among, nested_alike, pairs_alike}
+use Rattle.edit_engine.proofs.AlikeLemmas.{report_alike, touched_alike, touched_among}
 use Rattle.edit_engine.proofs.SameGraphEditLemmas.{SameGraph-edited, changed-same}
 use Rattle.edit_engine.proofs.ValidEditLemmas.{MayBeAsked-edited, valid_members}
 
@@ -59,3 +64,26 @@ module _ (results_law : ResultsDependOnReads) (targets_law : TargetsDependOnRead
       touched_alike plan g h alike (changed_by g edit) (edited g edit)
       ∙ touched_among plan h (edited g edit) (edited h edit) after (changed_by g edit)
       ∙ ap (touched_pairs plan h (edited h edit)) (changed-same g h edit same)
+
+  -- what becomes of nested pairs
+  module _ (nested_law : NestedDependOnReads) where
+    pub nested-same : (plan : Planned) (g h : Graph) → SameGraph g h → MayBeAsked plan h
+        → nested_pairs plan g ≡ nested_pairs plan h
+    nested-same plan g h same asked =
+        nested_alike plan g h (AreAlike-same plan g h same asked) nested_law
+
+    pub fresh-same : (plan : Planned) (g h : Graph) (edit : Edit) → SameGraph g h → MayBeAsked plan h
+        → IsDistinct same_triple h.triples → IsValidEdit edit → (old new : Pair → Option Answer)
+        (before after : ℕ) → ((p : Pair) → IsRecalled old p → p.node < length h.terms)
+        → BringsFresh plan h (edited h edit) (changed_by h edit) old new before after
+        → BringsFresh plan g (edited g edit) (changed_by g edit) old new before after
+    fresh-same plan g h edit same asked distinct fit old new before after inside brings =
+        let nested = nested-same plan (edited g edit) (edited h edit)
+        (SameGraph-edited g h edit same distinct) (MayBeAsked-edited plan h edit asked fit) in
+        subst (λ changed. BringsFresh plan g (edited g edit) changed old new before after)
+        (sym (changed-same g h edit same))
+        (brings_among plan g (edited g edit) (edited h edit) nested (changed_by h edit) old new before after
+        (brings_alike plan g h (AreAlike-same plan g h same asked) (edited h edit) (changed_by h edit) old new
+        before after
+        (λ p there. subst (λ terms. p.node < length terms) (sym same.terms) (inside p there))
+        brings))

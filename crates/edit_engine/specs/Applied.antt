@@ -10,6 +10,7 @@ use Rattle.edit_engine.specs.declared.edit.EditFault.TheVariants.{TooManyTriples
 use Rattle.edit_engine.specs.Edits.{Outcome, NoEffect, PastTriples, PastTerms, Effect}
 use Rattle.edit_engine.specs.Edits.{changed_by, edited, outcome, terms_entered}
 use Rattle.edit_engine.specs.EngineState.{EngineState}
+use Rattle.edit_engine.specs.Remembered.{BringsFresh, answer_of}
 use Rattle.edit_engine.specs.Touched.{touched_pairs}
 
 abbrev pub outcome_of : EngineState → Edit → Outcome
@@ -28,39 +29,63 @@ pub record SamePlan (old new : EngineState) : Type 0 where
   pub term_limit : new.term_limit ≡ old.term_limit
   pub triple_limit : new.triple_limit ≡ old.triple_limit
 
+-- from one state to another, by an edit: exactly the nested pairs that are fresh were counted, and they are
+-- remembered beside those that stay
+abbrev pub BringsFreshBy : EngineState → Edit → EngineState → ℕ → ℕ → Type 0
+BringsFreshBy old edit new before after =
+    BringsFresh old.plan old.graph (edited old.graph edit) (changed_by old.graph edit)
+    (answer_of old.remembered) (answer_of new.remembered) before after
+
 -- the graph is the edited one, and as many pairs were evaluated as the edit touches
-pub record IsEdited (old : EngineState) (edit : Edit) (change : Change) (new : EngineState) : Type 0 where
+pub record IsEdited (old : EngineState) (edit : Edit) (change : Change) (new : EngineState)
+    (before after : ℕ) : Type 0 where
   pub changed : change.changed ≡ true
   pub graph : SameGraph (edited old.graph edit) new.graph
   pub evaluated : change.evaluated
       ≡ length (touched_pairs old.plan old.graph (edited old.graph edit) (changed_by old.graph edit))
+  pub nested : BringsFreshBy old edit new before after
 
 -- nothing changed, and no pair was evaluated
-pub record IsUnchanged (old : EngineState) (change : Change) (new : EngineState) : Type 0 where
-  pub changed : change.changed ≡ false
-  pub evaluated : change.evaluated ≡ 0
-  pub same : new ≡ old
+pub record IsUnchanged (old : EngineState) (change : Change) (new : EngineState) (before after : ℕ) : Type 0
+  where
+    pub changed : change.changed ≡ false
+    pub evaluated : change.evaluated ≡ 0
+    pub same : new ≡ old
+    pub nested : after ≡ before
 
--- an edit that came through, by what comes of it
-abbrev pub applied_as : EngineState → Edit → Change → EngineState → Outcome → Type 0
-applied_as old edit change new NoEffect = IsUnchanged old change new
-applied_as old edit change new PastTriples = ⊥
-applied_as old edit change new PastTerms = ⊥
-applied_as old edit change new Effect = IsEdited old edit change new
+-- an edit that came through, by what comes of it, with where the counter of nested evaluations stood before
+-- and stands after
+abbrev pub applied_as : EngineState → Edit → Change → EngineState → ℕ → ℕ → Outcome → Type 0
+applied_as old edit change new before after NoEffect = IsUnchanged old change new before after
+applied_as old edit change new before after PastTriples = ⊥
+applied_as old edit change new before after PastTerms = ⊥
+applied_as old edit change new before after Effect = IsEdited old edit change new before after
 
-abbrev pub Applies : EngineState → Edit → Change → EngineState → Type 0
-Applies old edit change new = applied_as old edit change new (outcome_of old edit)
+abbrev pub Applies : EngineState → Edit → Change → EngineState → ℕ → ℕ → Type 0
+Applies old edit change new before after = applied_as old edit change new before after (outcome_of old edit)
 
--- nothing changed, and no step was counted, since this is what comes of the edit
+-- where two counters stand, that of evaluations and that of nested ones
+pub record Counted : Type 0 where
+  pub evaluated : ℕ
+  pub nested : ℕ
+
+abbrev pub counted_at : ℕ → ℕ → Counted
+counted_at evaluated nested = record { evaluated = evaluated; nested = nested }
+
+-- nothing changed, and nothing was counted, since this is what comes of the edit
 pub record IsRefused (old : EngineState) (edit : Edit) (cause : Outcome) (new : EngineState)
-    (before after : ℕ) : Type 0 where
+    (before after : Counted) : Type 0 where
   pub cause_is : outcome_of old edit ≡ cause
   pub same : new ≡ old
-  pub steps : after ≡ before
+  pub counted : after ≡ before
 
--- an edit that was refused, by its fault; where memory was wanted, only terms of an insertion may have been
--- entered
-abbrev pub Refuses : EngineState → Edit → EditFault → EngineState → ℕ → ℕ → Type 0
+-- nothing changed but that these terms may have been entered, and what was evaluated may have been counted
+pub record WantsMemory (old : EngineState) (edit : Edit) (new : EngineState) : Type 0 where
+  pub graph : HasMoreTerms (terms_entered edit) old.graph new.graph
+  pub remembered : new.remembered ≡ old.remembered
+
+-- an edit that was refused, by its fault
+abbrev pub Refuses : EngineState → Edit → EditFault → EngineState → Counted → Counted → Type 0
 Refuses old edit TooManyTriples new before after = IsRefused old edit PastTriples new before after
 Refuses old edit TooManyTerms new before after = IsRefused old edit PastTerms new before after
-Refuses old edit Memory new before after = HasMoreTerms (terms_entered edit) old.graph new.graph
+Refuses old edit Memory new before after = WantsMemory old edit new

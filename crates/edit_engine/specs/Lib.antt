@@ -5,6 +5,7 @@ pub mod EngineState
 pub mod MayBeAsked
 pub mod Pairs
 pub mod Recorded
+pub mod Remembered
 pub mod Renewal
 pub mod Touched
 pub mod inner

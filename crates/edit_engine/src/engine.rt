@@ -6,7 +6,7 @@ use std::marker::Model;
 /// A graph and a plan, with the report of the plan on the graph, which edits keep current.
 ///
 /// It keeps the results of each pair of a targeted shape and one of its target nodes, and for each pair, and
-/// each target, the keys that were read.
+/// each target, the keys that were read; and both of the pairs that are nested in these.
 #[derive(Drop)]
 pub struct Engine<V: GraphEdit> {
     pub(crate) plan: Plan,
@@ -15,6 +15,7 @@ pub struct Engine<V: GraphEdit> {
 }
 
 impl<V: GraphEdit> Model for Engine<V> {
+    ghost use Rattle.read_records.specs.Recall.{all_kept};
     ghost use Rattle.shape_eval.specs.Planned.{plan_of};
     ghost use Rattle.edit_engine.specs.MayBeAsked.{MayBeAsked};
     ghost use Rattle.edit_engine.specs.EngineState.{EngineState};
@@ -24,15 +25,17 @@ impl<V: GraphEdit> Model for Engine<V> {
 
     ghost use Rattle.std.proofs.Props.{props};
     ghost use Rattle.std.specs.Coded.{codes};
+    ghost use Rattle.std.specs.FinMap as map;
     ghost use Rattle.path_eval.specs.contracts.path.Path as path;
 
-    ghost coded = { Prim.hlevel (codes, props, path.the_row.coded) };
+    ghost coded = { Prim.hlevel (codes, props, path.the_row.coded, map.code) };
 
     ghost view = { λ a. record {
       plan = plan_of a.plan;
       graph = V.GraphView.graph a.view;
       term_limit = V.GraphView.term_limit a.view;
       triple_limit = V.triple_limit a.view;
+      remembered = all_kept a.kept.recall;
     } };
 
     ghost invariant = { λ a. MayBeAsked (plan_of a.plan) (V.GraphView.graph a.view)

@@ -1,6 +1,7 @@
 //! What is kept of a graph's targets and pairs, and how it is renewed at once.
-ghost use Rattle.std.specs.Prelude.{◌≡◌, length, IfOk, OnOk, OnErr};
+ghost use Rattle.std.specs.Prelude.{◌≡◌, [], length, IfOk, OnOk, OnErr};
 ghost use Rattle.pair_results.specs.PairResults.{Commits as CommitsRows, SameRows};
+ghost use Rattle.read_records.specs.Recall.{KeepsRecalled, KeepsSame};
 ghost use Rattle.read_records.specs.Records.{Commits, SameRecords};
 ghost use Rattle.edit_engine.specs.inner.Kept.{IsIdle, SameKept};
 ghost use Rattle.edit_engine.specs.inner.Staged.{IsAdopted, IsStaged, MayBeAdopted, MayBeStaged};
@@ -8,15 +9,16 @@ ghost use Rattle.edit_engine.specs.inner.Staged.{IsAdopted, IsStaged, MayBeAdopt
 use crate::renewal::Renewal;
 use crate::staging::{gather, stage_gathered, stage_leaving, terms_are_distinct};
 use pair_results::PairResults;
-use read_records::Records;
+use read_records::{Recall, Records};
 use shx_term::{Memory, Pool};
 use std::alloc::{AllocError, Global};
 
-/// What was read for each target and each pair, and the results of each pair.
+/// What was read for each target and each pair, the results of each pair, and what nested pairs come to.
 #[derive(Drop)]
 pub(crate) struct Kept {
     pub(crate) records: Records,
     pub(crate) results: PairResults,
+    pub(crate) recall: Recall,
     /// How many pairs there are.
     pub(crate) pairs: u64,
     /// How many there are once what is staged is made.
@@ -31,9 +33,11 @@ impl Kept {
         pool: &Pool,
         shapes: u32,
         renewal: Renewal,
+        recall: Recall,
     ) -> Result<Kept, Memory>
         requires { MayBeAdopted pool.now.terms shapes renewal }
-        ensures { IfOk result (IsAdopted pool.now.terms shapes renewal) }
+        ensures adopted { IfOk result (IsAdopted pool.now.terms shapes renewal) }
+        ensures recall { IfOk result (λ kept. kept.recall ≡ recall) }
     {
         terms_are_distinct(pool);
         let pairs = renewal.entering.len() as u64;
@@ -50,12 +54,14 @@ impl Kept {
         Ok(Kept {
             records,
             results,
+            recall,
             pairs,
             coming: pairs,
         })
     }
 
-    /// Stages a renewal, which takes all the memory that it needs. Where it is refused, nothing changes.
+    /// Stages a renewal, which takes all the memory that it needs, beside what is staged of nested pairs.
+    /// Where it is refused, nothing is staged, and the same is kept.
     pub(crate) fn stage(
         &mut self,
         alloc: Global,
@@ -66,6 +72,7 @@ impl Kept {
         requires known { MayBeStaged pool.now.terms self.old renewal }
         ensures staged { OnOk result (IsStaged pool.now.terms self.old self.new renewal) }
         ensures pairs { self.new.pairs ≡ self.old.pairs }
+        ensures recall { OnOk result (self.new.recall ≡ self.old.recall) }
         ensures refused { OnErr result (SameKept self.old self.new) }
     {
         let staged = self.stage_all(alloc, pool, renewal);
@@ -80,6 +87,7 @@ impl Kept {
         requires known { MayBeStaged pool.now.terms self.old renewal }
         ensures staged { OnOk result (IsStaged pool.now.terms self.old self.new renewal) }
         ensures pairs { self.new.pairs ≡ self.old.pairs }
+        ensures recall { self.new.recall ≡ self.old.recall }
         ensures records { SameRecords self.old.records self.new.records }
         ensures rows { SameRows self.old.results self.new.results }
         ensures places { length self.new.results.shapes ≡ length self.old.results.shapes }
@@ -113,6 +121,7 @@ impl Kept {
     {
         self.records.drop_staged();
         self.results.drop_staged();
+        self.recall.drop_staged();
         self.coming = self.pairs;
     }
 
@@ -122,10 +131,13 @@ impl Kept {
         ensures rows { CommitsRows self.old.results self.new.results }
         ensures places { length self.new.results.shapes ≡ length self.old.results.shapes }
         ensures pairs { self.new.pairs ≡ self.old.coming }
+        ensures recall { KeepsRecalled self.old.recall self.new.recall }
         ensures idle { IsIdle self.new }
+        ensures settled { self.new.recall.staged ≡ [] }
     {
         self.records.commit();
         self.results.commit();
+        self.recall.commit();
         self.pairs = self.coming;
     }
 }

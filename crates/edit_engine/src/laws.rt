@@ -9,8 +9,12 @@ ghost use Rattle.shape_eval.specs.Plan.{IsKnownPlan, IsPlan, Planned, planned};
 ghost use Rattle.shape_eval.specs.Report.{pairs, report};
 ghost use Rattle.edit_engine.specs.Applied.{HasMoreTerms};
 ghost use Rattle.edit_engine.specs.MayBeAsked.{MayBeAsked};
+ghost use Rattle.edit_engine.specs.inner.Recall.{ChangesLeaveWhatStays};
 
-use shape_eval::{results_depend_on_reads, targets_depend_on_reads};
+use shape_eval::{
+    nested_pairs_are_read, nested_pairs_stand_below, results_depend_on_reads,
+    targets_depend_on_reads,
+};
 
 /// A plan targets shapes of its own, each once.
 pub fn plans_target_shapes_once()
@@ -36,4 +40,14 @@ pub fn entered_terms_change_no_report()
 {
     results_depend_on_reads();
     targets_depend_on_reads();
+}
+
+/// What a change of a graph leaves of what is remembered: those pairs whose reads it does not touch, with all
+/// that is nested in them.
+pub(crate) fn changes_leave_what_stays()
+    ensures { ChangesLeaveWhatStays }
+{
+    results_depend_on_reads();
+    nested_pairs_are_read();
+    nested_pairs_stand_below();
 }

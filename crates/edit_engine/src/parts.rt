@@ -1,26 +1,30 @@
 //! How the parts of a renewal are gathered.
-ghost use Rattle.std.specs.Prelude.{◌≡◌, ◌+◌, ◌<◌, [], ◌++◌, length, map, nat_eq, All, IfOk, OnOk};
+ghost use Rattle.std.specs.Prelude.{◌≡◌, ◌+◌, ◌<◌, [], ◌∷◌, ◌++◌, length, map, nat_eq, All, IfOk, OnOk};
 ghost use Rattle.std.specs.List.{IsDistinct};
 ghost use Rattle.std.specs.Option.{option_to_list};
+ghost use Rattle.shx_term.specs.Members.{SameMembers};
 ghost use Rattle.graph_view.specs.Patched.{IsPatch, patched};
 ghost use Rattle.graph_view.specs.Valid.{IsValidView};
+ghost use Rattle.comp_core.specs.Memo.{RemembersSame};
 ghost use Rattle.shape_eval.specs.Known.{IsKnownOf};
 ghost use Rattle.shape_eval.specs.Plan.{IsKnownPlan};
 ghost use Rattle.shape_eval.specs.Planned.{plan_of};
+ghost use Rattle.shape_eval.specs.Recalled.{IsRecallOf};
 ghost use Rattle.shape_eval.specs.Report.{at_shape};
 ghost use Rattle.edit_engine.specs.Pairs.{IsKnownPair};
 ghost use Rattle.edit_engine.specs.Renewal.{IsRight};
 ghost use Rattle.edit_engine.specs.inner.Parts.{Evaluates, IsEmptyRenewal, OpensTarget, RenewsTargets};
 ghost use Rattle.edit_engine.specs.inner.Parts.{AlsoLeave, OnlyEnters, OnlyLeaves, OnlyRenews, RenewsTarget};
 ghost use Rattle.edit_engine.specs.inner.Parts.{SameTargets, pairs_staying, reads_renewed, targets_among};
+ghost use Rattle.edit_engine.specs.inner.Recall.{BringsNested};
 
 use crate::renewal::{Evaluated, Renewal, TargetReads};
 use crate::target_change::target_change;
-use comp_core::{Pair, ShapeNo};
+use comp_core::{Memo, Pair, ShapeNo};
 use graph_view::{GraphView, Reads};
 use indexmap::IndexSet;
 use read_records::Reader;
-use shape_eval::{Known, PairAnswer, Plan, eval_pair, eval_target};
+use shape_eval::{Known, Plan, eval_pair, eval_target};
 use shx_term::{Id, Memory, Steps, Triple};
 use std::alloc::Global;
 use std::sync::ledger::Ledger;
@@ -152,31 +156,41 @@ impl Renewal {
     }
 
     /// Evaluates the pairs among these readers that still are pairs. Each evaluation counts a step.
-    pub(crate) fn evaluate_touched<V: GraphView, L: Ledger>(
+    pub(crate) fn evaluate_touched<V: GraphView, M: Memo<Noted = Reads>, K: Ledger, L: Ledger>(
         &mut self,
         alloc: Global,
         view: &V,
         plan: &Plan,
         touched: &[Reader],
+        memo: &mut M,
+        nested: &mut Steps<K>,
         steps: &mut Steps<L>,
     ) -> Result<(), Memory>
         requires valid { IsValidView (V.graph view.now) }
         requires plan { IsKnownPlan (V.graph view.now).terms (plan_of plan.now).shapes }
         requires known { All (IsKnownPair (plan_of plan.now).shapes (V.graph view.now))
             (pairs_staying touched.now self.old.leaving.keys) }
+        requires recall { IsRecallOf SameMembers (plan_of plan.now).shapes (V.graph view.now)
+            (M.recalled memo.old) }
         ensures evaluated { OnOk result (Evaluates (plan_of plan.now).shapes (V.graph view.now)
             self.old.evaluated.items self.new.evaluated.items
             (pairs_staying touched.now self.old.leaving.keys)) }
         ensures targets { SameTargets self.old self.new }
         ensures steps { OnOk result (steps.new
             ≡ steps.old + length (pairs_staying touched.now self.old.leaving.keys)) }
+        ensures nested { OnOk result (BringsNested (plan_of plan.now).shapes (V.graph view.now)
+            (M.recalled memo.old) (M.recalled memo.new)
+            (pairs_staying touched.now self.old.leaving.keys) nested.old nested.new) }
+        ensures kept { RemembersSame (M.kept memo.old) (M.kept memo.new) }
     {
         let mut known = Known::new(alloc);
         for reader in touched {
             if let Reader::OfPair(pair) = reader
                 && !self.leaving.contains(pair)
             {
-                let evaluated = evaluate(alloc, view, plan, &mut known, *pair, steps)?;
+                let evaluated = evaluate(
+                    alloc, view, plan, &mut known, *pair, memo, nested, steps,
+                )?;
                 self.evaluated.push(evaluated)?;
             }
         }
@@ -184,25 +198,32 @@ impl Renewal {
     }
 
     /// Evaluates the pairs that were none before. Each evaluation counts a step.
-    pub(crate) fn evaluate_entering<V: GraphView, L: Ledger>(
+    pub(crate) fn evaluate_entering<V: GraphView, M: Memo<Noted = Reads>, K: Ledger, L: Ledger>(
         &mut self,
         alloc: Global,
         view: &V,
         plan: &Plan,
+        memo: &mut M,
+        nested: &mut Steps<K>,
         steps: &mut Steps<L>,
     ) -> Result<(), Memory>
         requires valid { IsValidView (V.graph view.now) }
         requires plan { IsKnownPlan (V.graph view.now).terms (plan_of plan.now).shapes }
         requires known { All (IsKnownPair (plan_of plan.now).shapes (V.graph view.now))
             self.old.entering.items }
+        requires recall { IsRecallOf SameMembers (plan_of plan.now).shapes (V.graph view.now)
+            (M.recalled memo.old) }
         ensures evaluated { OnOk result (Evaluates (plan_of plan.now).shapes (V.graph view.now)
             self.old.evaluated.items self.new.evaluated.items self.old.entering.items) }
         ensures targets { SameTargets self.old self.new }
         ensures steps { OnOk result (steps.new ≡ steps.old + length self.old.entering.items) }
+        ensures nested { OnOk result (BringsNested (plan_of plan.now).shapes (V.graph view.now)
+            (M.recalled memo.old) (M.recalled memo.new) self.old.entering.items nested.old nested.new) }
+        ensures kept { RemembersSame (M.kept memo.old) (M.kept memo.new) }
     {
         let mut known = Known::new(alloc);
         for pair in &self.entering {
-            let evaluated = evaluate(alloc, view, plan, &mut known, *pair, steps)?;
+            let evaluated = evaluate(alloc, view, plan, &mut known, *pair, memo, nested, steps)?;
             self.evaluated.push(evaluated)?;
         }
         Ok(())
@@ -210,26 +231,32 @@ impl Renewal {
 }
 
 // Evaluates a pair, which counts a step.
-fn evaluate<'p, V: GraphView, L: Ledger>(
+fn evaluate<'p, V: GraphView, M: Memo<Noted = Reads>, K: Ledger, L: Ledger>(
     alloc: Global,
     view: &V,
     plan: &'p Plan,
     known: &mut Known<'p>,
     pair: Pair,
+    memo: &mut M,
+    nested: &mut Steps<K>,
     steps: &mut Steps<L>,
 ) -> Result<Evaluated, Memory>
     requires valid { IsValidView (V.graph view.now) }
     requires plan { IsKnownPlan (V.graph view.now).terms (plan_of plan.now).shapes }
     requires pair { IsKnownPair (plan_of plan.now).shapes (V.graph view.now) pair }
     requires known { IsKnownOf known.old (V.graph view.now) }
+    requires recall { IsRecallOf SameMembers (plan_of plan.now).shapes (V.graph view.now)
+        (M.recalled memo.old) }
     ensures known { IsKnownOf known.new (V.graph view.now) }
     ensures pair { IfOk result (λ found. found.pair ≡ pair) }
     ensures right { IfOk result (IsRight (plan_of plan.now).shapes (V.graph view.now)) }
     ensures step { steps.new ≡ steps.old + 1 }
+    ensures nested { OnOk result (BringsNested (plan_of plan.now).shapes (V.graph view.now)
+        (M.recalled memo.old) (M.recalled memo.new) (pair ∷ []) nested.old nested.new) }
+    ensures kept { RemembersSame (M.kept memo.old) (M.kept memo.new) }
 {
-    let mut answer: PairAnswer<Reads> = eval_pair(
-        alloc, view, plan, known, pair.shape, pair.node, steps,
+    let answer = eval_pair(
+        alloc, view, plan, known, pair.shape, pair.node, memo, nested, steps,
     )?;
-    answer.reads.pack(alloc)?;
     Ok(Evaluated { pair, answer })
 }

@@ -1,19 +1,24 @@
 //! What is true of graphs that hold the same triples over the same terms, in whatever order, as contracts of
 //! functions that do nothing.
-ghost use Rattle.std.specs.Prelude.{◌≡◌, ℕ, length};
+ghost use Rattle.std.specs.Prelude.{◌≡◌, ◌<◌, ℕ, Option, length};
 ghost use Rattle.std.specs.List.{IsDistinct};
 ghost use Rattle.shx_term.specs.declared.edit.Edit.{Edit};
 ghost use Rattle.shx_term.specs.Edit.{IsValidEdit};
 ghost use Rattle.shx_term.specs.Triple.{same_triple};
 ghost use Rattle.graph_view.specs.Graph.{Graph};
 ghost use Rattle.graph_view.specs.SameGraph.{SameGraph};
+ghost use Rattle.comp_core.specs.declared.pair.Pair.{Pair};
+ghost use Rattle.read_records.specs.Recall.{Answer};
+ghost use Rattle.shape_eval.specs.Nested.{nested_pairs};
 ghost use Rattle.shape_eval.specs.Plan.{Planned};
+ghost use Rattle.shape_eval.specs.Recalled.{IsRecalled};
 ghost use Rattle.shape_eval.specs.Report.{pairs, report};
 ghost use Rattle.edit_engine.specs.Edits.{changed_by, edited, outcome};
 ghost use Rattle.edit_engine.specs.MayBeAsked.{MayBeAsked};
+ghost use Rattle.edit_engine.specs.Remembered.{BringsFresh};
 ghost use Rattle.edit_engine.specs.Touched.{touched_pairs};
 
-use shape_eval::{results_depend_on_reads, targets_depend_on_reads};
+use shape_eval::{nested_pairs_are_read, results_depend_on_reads, targets_depend_on_reads};
 
 /// A plan that may be asked of one may be asked of the other, and has the same pairs and the same report.
 pub fn same_graphs_answer_alike()
@@ -22,12 +27,16 @@ pub fn same_graphs_answer_alike()
         → pairs plan g ≡ pairs plan h }
     ensures report { (plan : Planned) (g h : Graph) → SameGraph g h → MayBeAsked plan h
         → report plan g ≡ report plan h }
+    ensures nested { (plan : Planned) (g h : Graph) → SameGraph g h → MayBeAsked plan h
+        → nested_pairs plan g ≡ nested_pairs plan h }
 {
     results_depend_on_reads();
     targets_depend_on_reads();
+    nested_pairs_are_read();
 }
 
-/// The same comes of an edit of either, they are the same after it, and it touches the same pairs.
+/// The same comes of an edit of either, they are the same after it, it touches the same pairs, and brings the
+/// same nested ones.
 pub fn same_graphs_are_edited_alike()
     ensures outcome { (most_triples most_terms : ℕ) (g h : Graph) (edit : Edit) → SameGraph g h
         → outcome most_triples most_terms g edit ≡ outcome most_triples most_terms h edit }
@@ -37,7 +46,13 @@ pub fn same_graphs_are_edited_alike()
         → IsDistinct same_triple h.triples → IsValidEdit edit
         → touched_pairs plan g (edited g edit) (changed_by g edit)
         ≡ touched_pairs plan h (edited h edit) (changed_by h edit) }
+    ensures fresh { (plan : Planned) (g h : Graph) (edit : Edit) → SameGraph g h → MayBeAsked plan h
+        → IsDistinct same_triple h.triples → IsValidEdit edit → (old new : Pair → Option Answer)
+        (before after : ℕ) → ((p : Pair) → IsRecalled old p → p.node < length h.terms)
+        → BringsFresh plan h (edited h edit) (changed_by h edit) old new before after
+        → BringsFresh plan g (edited g edit) (changed_by g edit) old new before after }
 {
     results_depend_on_reads();
     targets_depend_on_reads();
+    nested_pairs_are_read();
 }

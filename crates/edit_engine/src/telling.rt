@@ -1,15 +1,21 @@
 //! What an engine tells of the present graph.
-ghost use Rattle.std.specs.Prelude.{◌≡◌, length};
+ghost use Rattle.std.specs.Prelude.{◌≡◌, [], length};
 ghost use Rattle.std.specs.List.{IsDistinct};
+ghost use Rattle.shx_term.specs.Members.{SameMembers};
 ghost use Rattle.shx_term.specs.Triple.{same_triple};
 ghost use Rattle.comp_core.specs.Rows.{is_empty};
+ghost use Rattle.read_records.specs.Recall.{all_kept};
+ghost use Rattle.shape_eval.specs.Nested.{nested_pairs};
+ghost use Rattle.shape_eval.specs.Recalled.{AreRecalled, IsRecallOf};
 ghost use Rattle.shape_eval.specs.Planned.{plan_of};
 ghost use Rattle.shape_eval.specs.Report.{pairs, report};
 ghost use Rattle.edit_engine.specs.MayBeAsked.{MayBeAsked};
+ghost use Rattle.edit_engine.specs.Remembered.{answer_of};
 
 use crate::Engine;
 use graph_view::{GraphEdit, GraphView};
 use pair_results::{Rows, results_stand_in_term_order};
+use read_records::Recall;
 use shape_eval::Plan;
 
 impl<V: GraphEdit> Engine<V> {
@@ -45,6 +51,18 @@ impl<V: GraphEdit> Engine<V> {
         // The terms of the pool are distinct.
         let _ = self.view.pool().len();
         self.kept.results.rows(self.plan.targeted())
+    }
+
+    /// What is remembered of nested pairs: what they come to on the present graph. It takes no memory.
+    pub fn recall(&self) -> &Recall
+        ensures same { all_kept result.now ≡ self.now.remembered }
+        ensures settled { result.now.staged ≡ [] }
+        ensures right { IsRecallOf SameMembers self.now.plan.shapes self.now.graph
+            (answer_of self.now.remembered) }
+        ensures nested { AreRecalled (answer_of self.now.remembered)
+            (nested_pairs self.now.plan self.now.graph) }
+    {
+        &self.kept.recall
     }
 
     /// The plan. It takes no memory.

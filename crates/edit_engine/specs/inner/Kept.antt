@@ -1,4 +1,5 @@
--- What is kept of some shapes: what was read for their targets and pairs, and the results of the pairs.
+-- What is kept of some shapes: what was read for their targets and pairs, the results of the pairs, and what
+-- is nested in them.
 use Rattle.std.specs.Prelude.{◌≡◌, ℕ, List, [], Some, None, length, slice_get, Contains}
 use Rattle.shx_term.specs.declared.term.Term.{Term}
 use Rattle.graph_view.specs.Graph.{Graph}
@@ -7,11 +8,13 @@ use Rattle.shape_eval.specs.declared.shape.PlanShape.{PlanShape}
 use Rattle.shape_eval.specs.Report.{at_shape}
 use Rattle.shape_eval.specs.Results.{results}
 use Rattle.read_records.specs.declared.reader.Reader.{Reader}
+use Rattle.read_records.specs.Recall.{KeepsSame, kept_of}
 use Rattle.read_records.specs.Records.{SameRecords, reads_of}
 use Rattle.pair_results.specs.PairResults.{HasNothing, Kept as KeptResults, SameRows, rows_at}
 use Rattle.edit_engine.specs.Pairs.{pairs_of}
 use Rattle.edit_engine.specs.Recorded.{AreRecorded}
 use Rattle.edit_engine.specs.declared.kept.Kept.{Kept}
+use Rattle.edit_engine.specs.inner.Recall.{RemembersNested}
 
 -- the results of these pairs are kept, and no others
 pub record AreResults (shapes : List PlanShape) (ns : List ℕ) (g : Graph) (kept : KeptResults) : Type 0 where
@@ -20,7 +23,7 @@ pub record AreResults (shapes : List PlanShape) (ns : List ℕ) (g : Graph) (kep
   pub others : (n : ℕ) (node : Term) → ((id : ℕ) → slice_get g.terms id ≡ Some node
       → Contains (pairs_of shapes ns g) (at_shape n id) → ⊥) → rows_at kept n node ≡ []
 
--- nothing is staged
+-- nothing is staged of records and results
 pub record IsIdle (kept : Kept) : Type 0 where
   pub records : kept.records.staged ≡ []
   pub results : kept.results.staged ≡ []
@@ -29,6 +32,8 @@ pub record IsIdle (kept : Kept) : Type 0 where
 pub record SameKept (old new : Kept) : Type 0 where
   pub records : SameRecords old.records new.records
   pub rows : SameRows old.results new.results
+  pub recall : KeepsSame old.recall new.recall
+  pub settled : new.recall.staged ≡ []
   pub places : length new.results.shapes ≡ length old.results.shapes
   pub pairs : new.pairs ≡ old.pairs
   pub idle : IsIdle new
@@ -47,3 +52,5 @@ pub record IsKeptOf (shapes : List PlanShape) (ns : List ℕ) (g : Graph) (kept 
   pub count : kept.pairs ≡ length (pairs_of shapes ns g)
   pub places : length kept.results.shapes ≡ length shapes
   pub idle : IsIdle kept
+  pub recall : RemembersNested shapes g (pairs_of shapes ns g) (kept_of kept.recall)
+  pub settled : kept.recall.staged ≡ []

@@ -6,7 +6,7 @@ use edit_engine::Engine;
 use graph_view::{GraphEdit, Notes, Unnoted};
 use pair_results::Rows;
 use row_tools::{RowFault, cut, number};
-use shape_eval::{Known, PairAnswer, eval_pair, eval_target};
+use shape_eval::{Answers, Known, eval_pair, eval_target};
 use shx_term::{Id, Memory, Steps};
 use std::alloc::Global;
 use std::sync::ledger::Ledger;
@@ -44,25 +44,29 @@ impl Beside<'_> {
 }
 
 // Adds a pair.
-fn add_pair<V: GraphEdit, L: Ledger>(
+fn add_pair<V: GraphEdit, K: Ledger, L: Ledger>(
     alloc: Global,
     engine: &Engine<V>,
     shape: ShapeNo,
     node: Id,
     beside: &mut Beside,
+    nested: &mut Steps<K>,
     steps: &mut Steps<L>,
 ) -> Result<(), Memory>
     requires shape { shape < length engine.now.plan.shapes }
     requires node { node < length engine.now.graph.terms }
 {
     let mut known = Known::new(alloc);
-    let answer: PairAnswer<Unnoted> = eval_pair(
+    let mut answers: Answers<Unnoted> = Answers::new(alloc);
+    let answer = eval_pair(
         alloc,
         engine.view(),
         engine.plan(),
         &mut known,
         shape,
         node,
+        &mut answers,
+        nested,
         steps,
     )?;
     beside.take(&answer.rows);
@@ -70,11 +74,12 @@ fn add_pair<V: GraphEdit, L: Ledger>(
 }
 
 // Adds the pairs of a shape.
-fn add_shape<V: GraphEdit, L: Ledger>(
+fn add_shape<V: GraphEdit, K: Ledger, L: Ledger>(
     alloc: Global,
     engine: &Engine<V>,
     shape: ShapeNo,
     beside: &mut Beside,
+    nested: &mut Steps<K>,
     steps: &mut Steps<L>,
 ) -> Result<(), Memory>
     requires { shape < length engine.now.plan.shapes }
@@ -82,17 +87,18 @@ fn add_shape<V: GraphEdit, L: Ledger>(
     let mut reads = Unnoted::new(alloc);
     let nodes = eval_target(alloc, engine.view(), engine.plan(), shape, &mut reads)?;
     for node in &nodes {
-        add_pair(alloc, engine, shape, *node, beside, steps)?;
+        add_pair(alloc, engine, shape, *node, beside, nested, steps)?;
     }
     Ok(())
 }
 
 /// Whether the engine's report is the one made from nothing, and has these counts of pairs and results, where
 /// counts are due.
-pub(super) fn is_current<V: GraphEdit, L: Ledger>(
+pub(super) fn is_current<V: GraphEdit, K: Ledger, L: Ledger>(
     alloc: Global,
     engine: &Engine<V>,
     due: &str,
+    nested: &mut Steps<K>,
     steps: &mut Steps<L>,
 ) -> Result<bool, RowFault> {
     if due.is_empty() {
@@ -107,7 +113,7 @@ pub(super) fn is_current<V: GraphEdit, L: Ledger>(
         are_kept: true,
     };
     for shape in engine.plan().targeted() {
-        add_shape(alloc, engine, *shape, &mut beside, steps)?;
+        add_shape(alloc, engine, *shape, &mut beside, nested, steps)?;
     }
     Ok(beside.is_due(pairs, results) && has_counts(engine, pairs, results))
 }

@@ -8,7 +8,7 @@ ghost use Rattle.edit_engine.specs.MayBeAsked.{MayBeAsked};
 use super::beside::is_current;
 use super::opened::{Opened, open_texts};
 use super::rows::ROWS;
-use super::watched::{Watched, watched_key};
+use super::watched::{Watched, watch_of};
 use edit_engine::{Change, EditFault, Engine};
 use graph_view::{GraphEdit, GraphView};
 use row_tools::{RowFault, all_blocks_met, cut, in_four};
@@ -21,8 +21,8 @@ use std::sync::ledger::{Blank, Ledger};
 use std::test::Fail;
 use ttl_read::Document;
 
-// What a line of a script asks for behind a data text.
-fn read(alloc: Global, document: &Document, line: &str) -> Result<Command, RowFault>
+/// What a line of a script asks for behind a data text.
+pub(super) fn read(alloc: Global, document: &Document, line: &str) -> Result<Command, RowFault>
     ensures { IfOk result IsValidCommand }
 {
     match read_line(alloc, line.as_bytes(), document, &Limits::program()) {
@@ -75,7 +75,7 @@ fn is_met<V: GraphEdit, L: Ledger, M: Ledger>(
     let command = read(alloc, document, edit)?;
     Ok(
         is_told(alloc, engine, &command, due, nested, steps)?
-            && is_current(alloc, engine, counts, steps)?,
+            && is_current(alloc, engine, counts, nested, steps)?,
     )
 }
 
@@ -107,7 +107,9 @@ fn goes_on<V: GraphEdit, L: Ledger, M: Ledger>(
     nested: &mut Steps<M>,
     steps: &mut Steps<L>,
 ) -> Result<bool, RowFault> {
-    if !block.start.starts_with("watch ") && !is_current(alloc, engine, block.start, steps)? {
+    if !block.start.starts_with("watch ")
+        && !is_current(alloc, engine, block.start, nested, steps)?
+    {
         return Ok(false);
     }
     for step in block.steps.lines() {
@@ -123,6 +125,7 @@ fn goes_through<L: Ledger, M: Ledger>(
     alloc: Global,
     plan: Plan,
     view: Watched,
+    most: u64,
     document: &Document,
     block: &Block,
     steps: Blank,
@@ -139,6 +142,7 @@ fn goes_through<L: Ledger, M: Ledger>(
     let mut steps: Steps<L> = Steps::open(steps);
     let mut nested: Steps<M> = Steps::open(nested);
     let mut engine = Engine::open(alloc, plan, view, &mut nested, &mut steps)?;
+    engine.view().allow(most);
     goes_on(alloc, &mut engine, document, block, &mut nested, &mut steps)
 }
 
@@ -146,18 +150,18 @@ fn goes_through<L: Ledger, M: Ledger>(
 pub(super) fn goes_as_said(alloc: Global, row: &str) -> Result<bool, RowFault> {
     let block = block_of(row)?;
     let opened = open_texts(alloc, block.shapes, block.data, 8)?;
-    let key = watched_key(alloc, opened.graph.pool(), block.start)?;
+    let (watch, most) = watch_of(alloc, opened.graph.pool(), block.start)?;
     let Opened {
         plan,
         graph,
         document,
     } = opened;
-    let terms = graph.pool().len();
-    let view = Watched { graph, key, terms };
+    let view = Watched::new(graph, watch);
     goes_through::<Brand, Brand>(
         alloc,
         plan,
         view,
+        most,
         &document,
         &block,
         Blank::new(1),

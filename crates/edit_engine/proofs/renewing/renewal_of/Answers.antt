@@ -1,9 +1,12 @@
 use Rattle.std.proofs.Common.{refl, ◌++◌, subst}
 use Rattle.graph_view.specs.Graph.{Graph}
 use Rattle.shape_eval.specs.Planned.{plan_of}
+use Rattle.read_records.specs.Recall.{recalled}
 use Rattle.edit_engine.specs.Renewal.{IsRenewal}
+use Rattle.edit_engine.specs.inner.Recall.{RenewsRecall}
 use Rattle.edit_engine.proofs.ChangeLemmas.{IsChange-patched, IsRenewal-made, entering_known, staying_known}
 use Rattle.edit_engine.proofs.ChangeLemmas.{targets_once, targets_within}
+use Rattle.edit_engine.proofs.RecallChangeLemmas.{IsRecallOf-masked, RenewsRecall-made}
 use Rattle.edit_engine.proofs.renewing.renewal_of.Goals as goal
 
 pub renew_targets-requires-clause-within : goal.renew_targets-requires-clause-within
@@ -59,3 +62,30 @@ returns-clause-renewal g c =
     {staying = c.evaluate_touched.new.self} targets c.renew_targets.ensures.evaluated staying
     c.evaluate_touched.ensures.targets c.in_ok-evaluate_entering.ensures.evaluated
     c.evaluate_entering.ensures.targets)
+
+pub evaluate_touched-requires-clause-recall : goal.evaluate_touched-requires-clause-recall
+evaluate_touched-requires-clause-recall g c =
+    IsRecallOf-masked (IsChange-patched c.patches_agree.ensures.beside c.patches_agree.ensures.valid
+    c.requires.plan c.requires.recorded c.requires.valid c.new-after.ensures.graph c.deref.ensures.value
+    c.in_ok-touched.ensures) c.changes_leave_what_stays.ensures c.requires.remembers c.requires.settled
+    c.mask_change.ensures.kept c.mask_change.ensures.only c.in_ok-mask_change.ensures.masked
+
+pub evaluate_entering-requires-clause-recall : goal.evaluate_entering-requires-clause-recall
+evaluate_entering-requires-clause-recall g c = c.in_ok-evaluate_touched.ensures.nested.remembers.recall
+
+pub returns-clause-recall : goal.returns-clause-recall
+returns-clause-recall g c =
+    let change = IsChange-patched c.patches_agree.ensures.beside c.patches_agree.ensures.valid
+    c.requires.plan c.requires.recorded c.requires.valid c.new-after.ensures.graph refl
+    c.in_ok-touched.ensures in
+    let targets = rw c.deref.ensures.value at c.in_ok-renew_targets.ensures.targets in
+    let staying = rw c.deref-2.ensures.value at c.in_ok-evaluate_touched.ensures.nested in
+    subst (λ (k : Graph). RenewsRecall (plan_of c.args.plan.now) (g.V.GraphView.graph c.args.view.now) k
+    (c.args.added.now ++ c.args.removed.now) (recalled c.args.recall.now)
+    (recalled c.evaluate_entering.new.memo) c.args.nested.now c.evaluate_entering.new.nested)
+    c.new-after.ensures.graph
+    (RenewsRecall-made change c.changes_leave_what_stays.ensures c.requires.remembers c.requires.settled
+    c.mask_change.ensures.kept c.mask_change.ensures.only c.in_ok-mask_change.ensures.masked
+    c.targets_depend_on_reads.ensures c.renew_targets.new.self c.evaluate_touched.new.self
+    c.evaluate_touched.new.memo c.evaluate_entering.new.memo targets staying
+    c.evaluate_touched.ensures.targets.entering c.in_ok-evaluate_entering.ensures.nested)

@@ -6,6 +6,7 @@ use Rattle.edit_engine.proofs.AppliedLemmas.{Applies-inserted, IsPatch-inserted,
 use Rattle.edit_engine.proofs.AppliedLemmas.{stated_where_held}
 use Rattle.edit_engine.proofs.EnterLemmas.{AreAlike-entered, is_whole_again}
 use Rattle.edit_engine.proofs.PatchLemmas.{All-one, length-added}
+use Rattle.edit_engine.proofs.RememberedLemmas.{recalled_nodes}
 use Rattle.edit_engine.proofs.engine.Engine.insert.Goals as goal
 
 pub invariant_of-self : goal.invariant_of-self
@@ -14,6 +15,7 @@ invariant_of-self g c =
     (g.V.GraphView.graph c.enter_terms.new.graph) c.self.inside.kept c.self.invariant
     c.enter_terms.ensures.more (c.enter_terms.ensures.valid c.self.invariant.0.valid c.requires)
     c.results_depend_on_reads.ensures c.targets_depend_on_reads.ensures
+    c.nested_pairs_are_read.ensures.depend
 
 pub invariant_of-self-2 : goal.invariant_of-self-2
 invariant_of-self-2 g c =
@@ -21,6 +23,7 @@ invariant_of-self-2 g c =
     (g.V.GraphView.graph c.enter_terms.new.graph) c.self.inside.kept c.self.invariant
     c.enter_terms.ensures.more (c.enter_terms.ensures.valid c.self.invariant.0.valid c.requires)
     c.results_depend_on_reads.ensures c.targets_depend_on_reads.ensures
+    c.nested_pairs_are_read.ensures.depend
 
 pub make-requires-clause-patch : goal.make-requires-clause-patch
 make-requires-clause-patch g c =
@@ -64,11 +67,13 @@ returns-clause-applied g c =
     c.enter_terms.ensures.more (c.enter_terms.ensures.valid c.self.invariant.0.valid c.requires)
     c.results_depend_on_reads.ensures c.targets_depend_on_reads.ensures in
     Applies-inserted _ c.args.self.now c.make.new.self c.self.view_is c.args.stated.now c.in_ok-triple.triple
-    c.in_ok-evaluated.evaluated new alike c.in_ok-triple.ensures.terms c.enter_terms.ensures.more.triples
-    c.in_ok-triple.ensures.triple
+    c.in_ok-evaluated.evaluated c.args.nested.now c.make.new.nested new alike c.in_ok-triple.ensures.terms
+    c.enter_terms.ensures.more.triples c.in_ok-triple.ensures.triple
     (record {
       absent = stated ∙ c.if-holds.false;
       few = omega (arith, c.len.ensures.count, c.limit.ensures.value, c.if-len-limit.false);
       room = room;
     })
     c.in_ok-evaluated.ensures.graph c.in_ok-evaluated.ensures.evaluated
+    (recalled_nodes c.self.inside.kept.recall c.self.invariant.1.recall.recall)
+    c.in_ok-evaluated.ensures.nested

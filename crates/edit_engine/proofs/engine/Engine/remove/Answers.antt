@@ -23,8 +23,9 @@ returns-in_ok-evaluated-in-Some-clause-applied g c =
     let number = numbered_found graph.terms c.pool.result.now.terms c.args.stated.now c.find.result
     c.in-Some.triple c.pool.ensures.terms c.find.ensures c.in-Some.ensures in
     Applies-removed _ c.args.self.now c.make.new.self c.self.view_is c.args.stated.now c.in-Some.triple
-    c.in_ok-evaluated-in-Some.evaluated number (c.contains.ensures.0 c.if-contains.true)
-    c.in_ok-evaluated-in-Some.ensures.graph c.in_ok-evaluated-in-Some.ensures.evaluated
+    c.in_ok-evaluated-in-Some.evaluated c.args.nested.now c.make.new.nested number
+    (c.contains.ensures.0 c.if-contains.true) c.in_ok-evaluated-in-Some.ensures.graph
+    c.in_ok-evaluated-in-Some.ensures.evaluated c.in_ok-evaluated-in-Some.ensures.nested
 
 pub returns-in_default-clause-applied : goal.returns-in_default-clause-applied
 returns-in_default-clause-applied g c =
@@ -32,4 +33,4 @@ returns-in_default-clause-applied g c =
     let number = numbered_found graph.terms c.pool.result.now.terms c.args.stated.now c.find.result
     c.in-Some.triple c.pool.ensures.terms c.find.ensures c.in-Some.ensures in
     Applies-not_there _ c.args.self.now c.self.view_is c.args.stated.now c.in-Some.triple c.contains.result
-    number c.contains.ensures c.if-contains.false
+    number c.contains.ensures c.if-contains.false c.args.nested.now

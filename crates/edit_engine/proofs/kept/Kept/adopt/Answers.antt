@@ -14,8 +14,8 @@ of_all-requires c =
           c.requires.targets_once c.requires.pairs_once;
     })
 
-pub returns : goal.returns
-returns c =
+pub returns-clause-adopted : goal.returns-clause-adopted
+returns-clause-adopted c =
     let made = c.in_ok-results.ensures in
     let all = c.in_ok-all.ensures in
     let commit = c.commit.ensures in

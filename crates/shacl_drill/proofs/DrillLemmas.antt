@@ -158,6 +158,8 @@ module _ (n : ℕ) (ended status : Status) (held held' : MemoryHeld) (sink sink'
               (subst (λ bytes. Tells (summary n bytes (status_number ended)) Conforms sink sink' status) text
               (is.told (λ same. other (sym whole.status_is ∙ same))));
           evaluations = λ other. whole.evaluations (is.reported (λ same. other (sym whole.status_is ∙ same)));
+          nested_evaluations = λ other.
+              whole.nested_evaluations (is.reported (λ same. other (sym whole.status_is ∙ same)));
         }
 
   module _ (empty : held.bytes ≡ []) (is : IsTold n ended held'.bytes sink sink' status)
@@ -204,22 +206,19 @@ module _ (n : ℕ) (ended status : Status) (held held' : MemoryHeld) (sink sink'
 -- ---- by what the words ask for
 
 pub drilled_none : (words : List (List ℕ)) (before after : Surroundings) (status : Status)
-    → AskForNone words → after.nested ≡ before.nested
-    → Tells usage_text BadWords before.sink after.sink status → IsDrill words before after status
-drilled_none words before after status none still told = record {
+    → AskForNone words → Tells usage_text BadWords before.sink after.sink status
+    → IsDrill words before after status
+drilled_none words before after status none told = record {
   usage = λ _. told;
   run = λ n asked. absurd (none n asked);
-  nested_still = still;
 }
 
 pub drilled_size : (words : List (List ℕ)) (n : ℕ) (before after : Surroundings) (status : Status)
-    → AskFor words n → after.nested ≡ before.nested
-    → EndsSilent Memory before.sink after.sink status ⊎ TellsRun n before after status
+    → AskFor words n → EndsSilent Memory before.sink after.sink status ⊎ TellsRun n before after status
     → IsDrill words before after status
-drilled_size words n before after status asked still told = record {
+drilled_size words n before after status asked told = record {
   usage = λ none. absurd (none n asked);
   run = λ m other.
       subst (λ size. EndsSilent Memory before.sink after.sink status ⊎ TellsRun size before after status)
       (one_size words n m asked other) told;
-  nested_still = still;
 }

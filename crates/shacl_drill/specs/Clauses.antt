@@ -46,12 +46,13 @@ pub record EndsSilent (ending : Status) (before after : SinkState) (status : Sta
   pub nothing_put : after ≡ before
 
 -- of the output of the run: where a text was refused, nothing is told; otherwise the summary is, and as many
--- pairs were evaluated
+-- pairs were evaluated, and as many nested ones
 pub record TellsOf (n : ℕ) (output : Output) (before after : Surroundings) (status : Status) : Type 0 where
   pub refused : output.status ≡ Refused → EndsSilent Refused before.sink after.sink status
   pub told : output.status ≢ Refused
       → Tells (summary n output.text (status_number output.status)) Conforms before.sink after.sink status
   pub evaluations : output.status ≢ Refused → after.steps ≡ before.steps + output.work.evaluated
+  pub nested_evaluations : output.status ≢ Refused → after.nested ≡ before.nested + output.work.nested
 
 -- ---- the run
 
@@ -82,5 +83,3 @@ pub record IsDrill (words : List (List ℕ)) (before after : Surroundings) (stat
   -- where they ask for n nodes, memory was wanted, or the run over the texts of n nodes is told of
   pub run : (n : ℕ) → AskFor words n
       → EndsSilent Memory before.sink after.sink status ⊎ TellsRun n before after status
-  -- no nested evaluation is counted so far
-  pub nested_still : after.nested ≡ before.nested

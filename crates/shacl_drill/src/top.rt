@@ -74,7 +74,6 @@ fn run_over<P: PatternHost, L: Ledger, M: Ledger>(
     ensures ran { IfOk result (IsRanOver size
         (surroundings (sink_told sink.old) (P.state patterns.old) nested.old steps.old)
         (surroundings (sink_told sink.new) (P.state patterns.new) nested.new steps.new)) }
-    ensures nested_still { nested.new ≡ nested.old }
 {
     let words = run_words(alloc)?;
     let mut inputs = HonestInputs::new(named_texts(alloc, size)?, PIECE);

@@ -1,6 +1,6 @@
 -- How a run ends, by what was put.
-use Rattle.std.proofs.Common.{◌≡◌, ◌≢◌, ℕ, ◌+◌, ◌≤◌, List, [], ◌∷◌, ◌++◌, Option, None, Some, Result, Ok, Err}
-use Rattle.std.proofs.Common.{refl, sym, ap, ◌∙◌, subst, arith, append-nil, append_assoc}
+use Rattle.std.proofs.Common.{◌≡◌, ◌≢◌, ℕ, List, [], ◌∷◌, ◌++◌, Option, None, Some, Result, Ok, Err}
+use Rattle.std.proofs.Common.{refl, sym, ap, ◌∙◌, subst, append-nil, append_assoc}
 use Rattle.std.proofs.Common.{length-append}
 use Rattle.std.specs.Prelude.{IfSome, IsErrAnd}
 use Rattle.std.proofs.lemmas.Option.{none-some, same_Some}
@@ -14,12 +14,13 @@ use Rattle.shacl_run.specs.declared.status.Status.TheVariants.{InputFault, Write
 use Rattle.shacl_run.specs.declared.stop.Stop.{Stop}
 use Rattle.shacl_run.specs.declared.stop.Stop.TheVariants.{Input, Write, Memory}
 use Rattle.shacl_run.specs.inner.Ends.{PutsFront, Ends}
-use Rattle.shacl_run.specs.Outside.{Outside}
+use Rattle.shacl_run.specs.Outside.{Outside, counts}
 use Rattle.shacl_run.specs.Run.{Output}
 use Rattle.shacl_run.specs.inner.Serving.{Prefixed}
 use Rattle.shacl_run.specs.Status.{IsAnswered, IsCutShort, IsReported}
-use Rattle.shacl_run.specs.Work.{Work}
+use Rattle.shacl_run.specs.Work.{NoneFell, Work, and_then}
 use Rattle.shacl_run.specs.inner.Stops.{stop_status}
+use Rattle.shacl_run.proofs.WorkLemmas.{NoneFell-by, NoneFell-then, work_then}
 
 -- where two lists together are empty, each of them is
 pub append_none : (xs ys : List ℕ) → xs ++ ys ≡ [] → (xs ≡ []) × (ys ≡ [])
@@ -40,20 +41,18 @@ PutsFront-nothing due status s s' same other = rw same (record {
   begins = nothing_due due status other;
 })
 
--- of two moments, nothing was put, no input failed and no nested evaluation was counted
+-- of two moments, nothing was put and no input failed
 pub record IsStill (before after : Outside) : Type 0 where
   pub sink : after.sink ≡ before.sink
   pub inputs : after.inputs.faults ≡ before.inputs.faults
-  pub nested : after.nested ≡ before.nested
 
 pub IsStill-itself : (at : Outside) → IsStill at at
-IsStill-itself at = record { sink = refl; inputs = refl; nested = refl }
+IsStill-itself at = record { sink = refl; inputs = refl }
 
 -- an input failed, and nothing was put
 pub Ends-input : (due : Option Output) (before after : Outside) → after.sink ≡ before.sink
-    → Rose before.inputs.faults after.inputs.faults → after.nested ≡ before.nested
-    → Ends due InputFault before after
-Ends-input due before after same rose nested = record {
+    → Rose before.inputs.faults after.inputs.faults → Ends due InputFault before after
+Ends-input due before after same rose = record {
   whole = λ answered. absurd answered;
   front = λ _. PutsFront-nothing due InputFault before.sink after.sink same (λ is. cc);
   causes = record {
@@ -62,7 +61,6 @@ Ends-input due before after same rose nested = record {
     used_up = λ is. cc;
     quiet_inputs = λ other. absurd (other refl);
     quiet_sink = λ _. ap (λ (s : SinkState). s.faults) same;
-    nested_still = nested;
   };
 }
 
@@ -78,7 +76,6 @@ Ends-memory due before after still = record {
     used_up = λ is. cc;
     quiet_inputs = λ _. still.inputs;
     quiet_sink = λ _. ap (λ (s : SinkState). s.faults) still.sink;
-    nested_still = still.nested;
   };
 }
 
@@ -91,12 +88,10 @@ cut_or_answered WriteFault answered cut = absurd answered
 cut_or_answered no_memory answered cut = absurd answered
 cut_or_answered _ answered cut = absurd cut
 
--- of two moments, no input failed, no nested evaluation was counted, and where reports were given to the end,
--- so much work was done
+-- of two moments, no input failed, and where reports were given to the end, so much work was done
 pub record IsWorked (work : Work) (status : Status) (before after : Outside) : Type 0 where
   pub inputs : after.inputs.faults ≡ before.inputs.faults
-  pub nested : after.nested ≡ before.nested
-  pub steps : IsReported status → after.steps ≡ before.steps + work.evaluated
+  pub counted : IsReported status → counts after ≡ and_then (counts before) work
 
 -- what is due was put
 pub Ends-whole : (due : Option Output) (output : Output) (before after : Outside)
@@ -107,7 +102,8 @@ Ends-whole due output before after told answered worked put = record {
   whole = λ _. record {
     written = output.text;
     put = put;
-    risen = λ reported. omega (arith, worked.steps reported);
+    risen = λ reported.
+        NoneFell-by (counts before) (counts after) output.work (worked.counted reported);
     defined = defined due told;
   };
   front = λ cut. absurd (cut_or_answered output.status answered cut);
@@ -117,26 +113,25 @@ Ends-whole due output before after told answered worked put = record {
     used_up = λ is. absurd (answered_apart output.status WriteFault answered (λ no. no) is);
     quiet_inputs = λ _. worked.inputs;
     quiet_sink = λ _. put.quiet;
-    nested_still = worked.nested;
   };
 } where
   defined : (due : Option Output) → IfSome due (λ told. told ≡ output)
       → IfSome due (λ told. (output.status ≡ told.status) × (output.text ≡ told.text)
-      × (IsReported output.status → after.steps ≡ before.steps + told.work.evaluated))
+      × (IsReported output.status → counts after ≡ and_then (counts before) told.work))
   defined None told = tt
   defined (Some other) told = (
     sym (ap (λ (o : Output). o.status) told),
     sym (ap (λ (o : Output). o.text) told),
-    λ reported. worked.steps reported
-        ∙ sym (ap (λ (o : Output). before.steps + o.work.evaluated) told),
+    λ reported. worked.counted reported
+        ∙ sym (ap (λ (o : Output). and_then (counts before) o.work) told),
   )
 
 -- the sink failed within what is due
 pub Ends-short : (due : Option Output) (text : List ℕ) (before after : Outside)
     → IfSome due (λ told. (rest : List ℕ) × (told.text ≡ text ++ rest))
-    → after.inputs.faults ≡ before.inputs.faults → after.nested ≡ before.nested
-    → FellShort before.sink after.sink text → Ends due WriteFault before after
-Ends-short due text before after begins quiet nested short = record {
+    → after.inputs.faults ≡ before.inputs.faults → FellShort before.sink after.sink text
+    → Ends due WriteFault before after
+Ends-short due text before after begins quiet short = record {
   whole = λ answered. absurd answered;
   front = λ _. record {
     written = short.front;
@@ -150,7 +145,6 @@ Ends-short due text before after begins quiet nested short = record {
     used_up = λ _. short.used_up;
     quiet_inputs = λ _. quiet;
     quiet_sink = λ other. absurd (other refl);
-    nested_still = nested;
   };
 } where
   front_of : (due : Option Output) → IfSome due (λ told. (rest : List ℕ) × (told.text ≡ text ++ rest))
@@ -166,50 +160,47 @@ Ends-short due text before after begins quiet nested short = record {
 -- one answer is all that is due, and it was put
 pub Ends-answer : (output : Output) (before after : Outside) → IsAnswered output.status
     → (IsReported output.status → ⊥) → after.inputs.faults ≡ before.inputs.faults
-    → after.nested ≡ before.nested → Put before.sink after.sink output.text
-    → Ends (Some output) output.status before after
-Ends-answer output before after answered unreported quiet nested put =
+    → Put before.sink after.sink output.text → Ends (Some output) output.status before after
+Ends-answer output before after answered unreported quiet put =
     Ends-whole (Some output) output before after refl answered
-    (record { inputs = quiet; nested = nested; steps = λ reported. absurd (unreported reported) }) put
+    (record { inputs = quiet; counted = λ reported. absurd (unreported reported) }) put
 
 -- ... or the sink failed within it
 pub Ends-answer_short : (output : Output) (before after : Outside)
-    → after.inputs.faults ≡ before.inputs.faults → after.nested ≡ before.nested
-    → FellShort before.sink after.sink output.text → Ends (Some output) WriteFault before after
-Ends-answer_short output before after quiet nested short =
-    Ends-short (Some output) output.text before after ([], sym (append-nil output.text)) quiet nested short
+    → after.inputs.faults ≡ before.inputs.faults → FellShort before.sink after.sink output.text
+    → Ends (Some output) WriteFault before after
+Ends-answer_short output before after quiet short =
+    Ends-short (Some output) output.text before after ([], sym (append-nil output.text)) quiet short
 
--- a text was put, no input failed, and no nested evaluation was counted
+-- a text was put, no input failed, and no count fell
 pub record PutsFirst (text : List ℕ) (before after : Outside) : Type 0 where
   pub put : Put before.sink after.sink text
   pub inputs : after.inputs.faults ≡ before.inputs.faults
-  pub nested : after.nested ≡ before.nested
-  pub risen : before.steps ≤ after.steps
+  pub risen : NoneFell (counts before) (counts after)
 
 -- ... and then the run ended with what is due after it
 module _ (text : List ℕ) (work : Work) (status : Status) (before within after : Outside) where
   -- where something is due, so much work was done for the text
   abbrev pub IsWorkedFor : Option Output → Type 0
-  IsWorkedFor due = IfSome due (λ told. within.steps ≡ before.steps + work.evaluated)
+  IsWorkedFor due = IfSome due (λ told. counts within ≡ and_then (counts before) work)
 
   defined : (due later : Option Output) (written : List ℕ) → IfSome due (Prefixed text work later)
       → IsWorkedFor due
       → IfSome later (λ told. (status ≡ told.status) × (written ≡ told.text)
-      × (IsReported status → after.steps ≡ within.steps + told.work.evaluated))
+      × (IsReported status → counts after ≡ and_then (counts within) told.work))
       → IfSome due (λ told. (status ≡ told.status) × (text ++ written ≡ told.text)
-      × (IsReported status → after.steps ≡ before.steps + told.work.evaluated))
-  defined None later written prefixed steps d = tt
-  defined (Some told) None written prefixed steps d = absurd (none-some prefixed.rest prefixed.is)
-  defined (Some told) (Some rest) written prefixed steps d =
+      × (IsReported status → counts after ≡ and_then (counts before) told.work))
+  defined None later written prefixed worked d = tt
+  defined (Some told) None written prefixed worked d = absurd (none-some prefixed.rest prefixed.is)
+  defined (Some told) (Some rest) written prefixed worked d =
       let is : rest ≡ prefixed.rest = same_Some rest prefixed.rest prefixed.is in (
         d.0 ∙ ap (λ (o : Output). o.status) is ∙ sym (ap (λ (o : Output). o.status) prefixed.whole),
         ap (λ bytes. text ++ bytes) (d.1 ∙ ap (λ (o : Output). o.text) is)
             ∙ sym (ap (λ (o : Output). o.text) prefixed.whole),
         λ reported.
-            let later = d.2 reported in
-            let same = ap (λ (o : Output). o.work.evaluated) is in
-            let whole = ap (λ (o : Output). o.work.evaluated) prefixed.whole in
-            omega (arith, later, same, whole, steps),
+            work_then (counts before) (counts within) (counts after) work rest.work worked (d.2 reported)
+            ∙ ap (λ (o : Output). and_then (counts before) (and_then work o.work)) is
+            ∙ sym (ap (λ (o : Output). and_then (counts before) o.work) prefixed.whole),
       )
 
   begins : (due later : Option Output) (written : List ℕ) → IfSome due (Prefixed text work later)
@@ -231,12 +222,12 @@ module _ (text : List ℕ) (work : Work) (status : Status) (before within after 
   pub Ends-after : PutsFirst text before within → (due later : Option Output)
       → IfSome due (Prefixed text work later) → IsWorkedFor due
       → Ends later status within after → Ends due status before after
-  Ends-after first due later prefixed steps ends = record {
+  Ends-after first due later prefixed worked ends = record {
     whole = λ answered. let a = ends.whole answered in record {
       written = text ++ a.written;
       put = Put-then first.put a.put;
-      risen = λ reported. omega (arith, first.risen, a.risen reported);
-      defined = defined due later a.written prefixed steps a.defined;
+      risen = λ reported. NoneFell-then first.risen (a.risen reported);
+      defined = defined due later a.written prefixed worked a.defined;
     };
     front = λ cut. let a = ends.front cut in record {
       written = text ++ a.written;
@@ -250,7 +241,6 @@ module _ (text : List ℕ) (work : Work) (status : Status) (before within after 
       used_up = λ is room told. let left = first.put.fell.told room told in a.used_up is left.0 left.1;
       quiet_inputs = λ other. a.quiet_inputs other ∙ first.inputs;
       quiet_sink = λ other. a.quiet_sink other ∙ first.put.quiet;
-      nested_still = a.nested_still ∙ first.nested;
     };
   }
 
@@ -287,7 +277,6 @@ Ends-beside due status before after inputs inputs' patterns patterns' same same'
     used_up = a.used_up;
     quiet_inputs = λ other. sym same' ∙ a.quiet_inputs other ∙ same;
     quiet_sink = a.quiet_sink;
-    nested_still = a.nested_still;
   };
 }
 
@@ -310,14 +299,13 @@ Ends-from_still due status before within after still unreported ends = record {
     used_up = λ is room told. a.used_up is room (ap (λ (s : SinkState). s.room) still.sink ∙ told);
     quiet_inputs = λ other. a.quiet_inputs other ∙ still.inputs;
     quiet_sink = λ other. a.quiet_sink other ∙ ap (λ (s : SinkState). s.faults) still.sink;
-    nested_still = a.nested_still ∙ still.nested;
   };
 } where
   defined : (due : Option Output) (written : List ℕ)
       → IfSome due (λ told. (status ≡ told.status) × (written ≡ told.text)
-      × (IsReported status → after.steps ≡ within.steps + told.work.evaluated))
+      × (IsReported status → counts after ≡ and_then (counts within) told.work))
       → IfSome due (λ told. (status ≡ told.status) × (written ≡ told.text)
-      × (IsReported status → after.steps ≡ before.steps + told.work.evaluated))
+      × (IsReported status → counts after ≡ and_then (counts before) told.work))
   defined None written d = tt
   defined (Some told) written d = (d.0, d.1, λ reported. absurd (unreported reported))
 

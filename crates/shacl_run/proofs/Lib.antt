@@ -5,6 +5,7 @@ pub mod FilesLemmas
 pub mod JudgeLemmas
 pub mod LineReadingLemmas
 pub mod NamesLemmas
+pub mod NestedLemmas
 pub mod OpenedLemmas
 pub mod PrepareLemmas
 pub mod ReachedLemmas
@@ -19,3 +20,4 @@ pub mod StandsLemmas
 pub mod ValidationLemmas
 pub mod ValidationRunLemmas
 pub mod VerdictLemmas
+pub mod WorkLemmas

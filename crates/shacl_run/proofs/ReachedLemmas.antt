@@ -1,6 +1,6 @@
 -- What a script that is answered line by line has come to.
-use Rattle.std.proofs.Common.{◌≡◌, ℕ, ◌+◌, Bool, true, false, List, ◌∷◌, ◌++◌, Option, None, Some}
-use Rattle.std.proofs.Common.{refl, sym, ap, ◌∙◌, subst, append_assoc, arith}
+use Rattle.std.proofs.Common.{◌≡◌, ℕ, Bool, true, false, List, ◌∷◌, ◌++◌, Option, None, Some}
+use Rattle.std.proofs.Common.{refl, sym, ap, ◌∙◌, subst, append_assoc}
 use Rattle.std.specs.Prelude.{IfSome}
 use Rattle.std.proofs.lemmas.Option.{IfSome_then}
 use Rattle.shx_outside.specs.declared.role.Role.TheVariants.{Script}
@@ -19,14 +19,15 @@ use Rattle.shacl_run.specs.inner.Reply.{Replies, reply_text}
 use Rattle.shacl_run.specs.inner.Serving.{due_at, LinesAreReadAt, TakesStep}
 use Rattle.shacl_run.specs.inner.Validation.{IsScriptRun}
 use Rattle.shacl_run.specs.Manner.{Manner}
-use Rattle.shacl_run.specs.Outside.{Outside}
+use Rattle.shacl_run.specs.Outside.{Outside, counts}
 use Rattle.shacl_run.specs.Run.{Output, fed_text}
 use Rattle.shacl_run.specs.RunClauses.{StopsFed}
 use Rattle.shacl_run.specs.Script.{Step, step_text, serve_lines}
 use Rattle.shacl_run.specs.ScriptState.{ScriptState}
-use Rattle.shacl_run.specs.Work.{no_work}
+use Rattle.shacl_run.specs.Work.{and_then, no_work}
 use Rattle.shacl_run.proofs.EndLemmas.{Ends-after, Ends-short, PutsFirst}
 use Rattle.shacl_run.proofs.ServingLemmas.{left_of-start, not_both}
+use Rattle.shacl_run.proofs.WorkLemmas.{NoneFell-by}
 
 -- ---- what was put, whatever is due
 
@@ -45,10 +46,10 @@ PutsOn-step start at next text puts first = record {
 }
 
 pub PutsOn-short : (start at next : Outside) (text : List ℕ) → PutsOn start at
-    → next.inputs.faults ≡ at.inputs.faults → next.nested ≡ at.nested → FellShort at.sink next.sink text
+    → next.inputs.faults ≡ at.inputs.faults → FellShort at.sink next.sink text
     → Ends None WriteFault start next
-PutsOn-short start at next text puts quiet nested short =
-    puts.onward WriteFault next (Ends-short None text at next tt quiet nested short)
+PutsOn-short start at next text puts quiet short =
+    puts.onward WriteFault next (Ends-short None text at next tt quiet short)
 
 -- what is due where a script is told, and in any case
 pub by_told : (script : Option (List ℕ)) (P : Option (List ℕ) → Type 0) → P None
@@ -96,10 +97,10 @@ Reached-start manner limit s at script bytes is told lines =
 module _ (manner : Manner) (limit : ℕ) (s0 : ScriptState) (start : Outside) (script script' : ScriptRun)
     (reader reader' : ReaderState) (at next : Outside)
     (reached : Reached manner limit s0 start script reader at) (step : Step) (reply : Reply)
-    (replies : Replies manner step reply script' at.steps next.steps)
+    (replies : Replies manner step reply script' (counts at) (counts next))
     (takes : TakesStep manner reached.state step reader reader' (left_of reader (at.inputs.rest Script))
     (left_of reader' (next.inputs.rest Script)))
-    (quiet : next.inputs.faults ≡ at.inputs.faults) (nested : next.nested ≡ at.nested) where
+    (quiet : next.inputs.faults ≡ at.inputs.faults) where
   abbrev pub left : Option (List ℕ)
   left = left_of reader (at.inputs.rest Script)
 
@@ -136,7 +137,7 @@ module _ (manner : Manner) (limit : ℕ) (s0 : ScriptState) (start : Outside) (s
   written = reply_text manner.format script'.engine.plan script'.engine.graph reply
 
   -- where something is due, so much work was done
-  worked : (due : Option Output) → IfSome due (λ told. next.steps ≡ at.steps + step.work.evaluated)
+  worked : (due : Option Output) → IfSome due (λ told. counts next ≡ and_then (counts at) step.work)
   worked None = tt
   worked (Some told) = replies.work
 
@@ -154,8 +155,11 @@ module _ (manner : Manner) (limit : ℕ) (s0 : ScriptState) (start : Outside) (s
         lines = lines;
         onward = λ status after ends. reached.onward status after
             (Ends-after (step_text manner.format step) step.work status at next after
-            (record { put = put; inputs = quiet; nested = nested; risen = omega (arith, replies.work) }) due
-            (due_at manner step.state reader'.budget left') takes.due (worked due) ends);
+            (record {
+              put = put;
+              inputs = quiet;
+              risen = NoneFell-by (counts at) (counts next) step.work replies.work;
+            }) due (due_at manner step.state reader'.budget left') takes.due (worked due) ends);
         fed = λ going rest'' after stops. reached.fed (goes_on going reader.ended refl) rest'' after
             (fed_on put going rest'' after stops);
       }
@@ -166,4 +170,4 @@ module _ (manner : Manner) (limit : ℕ) (s0 : ScriptState) (start : Outside) (s
       (Ends-short (due_at manner reached.state reader.budget left) (step_text manner.format step) at next
       (IfSome_then (due_at manner reached.state reader.budget left) takes.due
       (λ told prefixed. (prefixed.rest.text, ap (λ (o : Output). o.text) prefixed.whole)))
-      quiet nested (subst (FellShort at.sink next.sink) (sym replies.text) short))
+      quiet (subst (FellShort at.sink next.sink) (sym replies.text) short))

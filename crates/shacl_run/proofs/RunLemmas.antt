@@ -1,6 +1,6 @@
 -- What a run promises, by how it ends.
 use Rattle.std.proofs.Common.{◌≡◌, ◌≢◌, ℕ, ◌-◌, List, [], ◌∷◌, ◌++◌, Option, None, Some, length}
-use Rattle.std.proofs.Common.{refl, subst, inl, inr, arith}
+use Rattle.std.proofs.Common.{refl, ap, subst, inl, inr, arith}
 use Rattle.std.specs.Prelude.{IfSome, ◌⊎◌}
 use Rattle.shx_outside.specs.Outside.{PatternState}
 use Rattle.shx_outside.specs.Told.{Grew, Fell}
@@ -20,7 +20,7 @@ use Rattle.shacl_run.specs.RunClauses.{HasCauses, IsRead, OpensInTurn, StaysWith
 use Rattle.shacl_run.specs.RunClauses.{ShapesAreReadBy}
 use Rattle.shacl_run.specs.Status.{IsAnswered, IsReported, IsCutShort}
 use Rattle.shacl_run.specs.Verdict.{Verdict}
-use Rattle.shacl_run.specs.Work.{evaluating, no_work}
+use Rattle.shacl_run.specs.Work.{Work, evaluating, no_work}
 use Rattle.command_words.specs.Words.{command_words}
 use Rattle.shacl_run.proofs.EndLemmas.{cut_or_answered}
 
@@ -50,13 +50,14 @@ module _ (status : Status) (before after : Outside) where
     output = record {
       text = puts.written;
       status = status;
-      work = evaluating (after.steps - before.steps);
+      work = evaluating (after.steps - before.steps) (after.nested - before.nested);
     };
     is = tt;
     exact = λ _. record {
       status_is = refl;
       put = puts.put;
-      evaluations = λ reported. omega (arith, puts.risen reported);
+      evaluations = λ reported. omega (arith, (puts.risen reported).evaluated);
+      nested_evaluations = λ reported. omega (arith, (puts.risen reported).nested);
     };
     prefix = λ cut. absurd (cut_or_answered status answered cut);
   }
@@ -90,7 +91,8 @@ module _ (status : Status) (before after : Outside) where
         record {
           status_is = puts.defined.0;
           put = subst (Put before.sink after.sink) puts.defined.1 puts.put;
-          evaluations = puts.defined.2;
+          evaluations = λ reported. ap (λ (w : Work). w.evaluated) (puts.defined.2 reported);
+          nested_evaluations = λ reported. ap (λ (w : Work). w.nested) (puts.defined.2 reported);
         };
     prefix = λ cut.
         let puts = run_ends.front cut in
@@ -210,7 +212,6 @@ module _ (limits : Limits) (words : List (List ℕ)) (before after : Outside) (s
         quiet_inputs = causes.quiet_inputs;
         quiet_sink = causes.quiet_sink;
         quiet_patterns = put.tells;
-        nested_still = causes.nested_still;
       }
 
   pub IsRun-ended : ((readings : Readings)

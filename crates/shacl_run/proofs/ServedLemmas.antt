@@ -1,6 +1,6 @@
 -- How the answers to a script end.
-use Rattle.std.proofs.Common.{◌≡◌, ◌≢◌, ℕ, ◌≤◌, Bool, true, false, List, [], ◌∷◌, Option, None}
-use Rattle.std.proofs.Common.{Result, Err, refl, sym, ap, subst, arith}
+use Rattle.std.proofs.Common.{◌≡◌, ◌≢◌, ℕ, Bool, true, false, List, [], ◌∷◌, Option, None}
+use Rattle.std.proofs.Common.{Result, Err, refl, sym, ap, subst}
 use Rattle.std.specs.Prelude.{IfSome, if◌then◌else◌}
 use Rattle.shx_outside.specs.declared.role.Role.TheVariants.{Script}
 use Rattle.shx_outside.specs.Outside.{InputState, SinkState}
@@ -20,12 +20,14 @@ use Rattle.shacl_run.specs.declared.stop.Stop.{Stop}
 use Rattle.shacl_run.specs.declared.stop.Stop.TheVariants.{Input, Write, Memory}
 use Rattle.shacl_run.specs.inner.Ends.{Ends}
 use Rattle.shacl_run.specs.inner.Stops.{StopCause, end_status, stop_status}
-use Rattle.shacl_run.specs.Outside.{Outside}
+use Rattle.shacl_run.specs.Outside.{Outside, counts}
 use Rattle.shacl_run.specs.Run.{Output, ending, status_of_rows, status_of_state}
 use Rattle.shacl_run.specs.ScriptState.{ScriptState}
 use Rattle.shacl_run.specs.Status.{IsAnswered, IsReported}
+use Rattle.shacl_run.specs.Work.{NoneFell}
 use Rattle.shacl_run.proofs.EndLemmas.{answered_apart, cut_or_answered, Ends-input, Ends-memory, Ends-whole}
 use Rattle.shacl_run.proofs.EndLemmas.{IsStill}
+use Rattle.shacl_run.proofs.WorkLemmas.{still_work}
 
 pub rows_answered : (rows : List ResultRow) → IsAnswered (status_of_rows rows)
 rows_answered [] = tt
@@ -38,23 +40,22 @@ state_answered s false = rows_answered (report s.plan s.graph)
 
 -- the run ends after the last line
 pub Ends-last : (due : Option Output) (format : Format) (s : ScriptState) (before after : Outside)
-    → IfSome due (λ told. told ≡ ending format false s) → IsStill before after → after.steps ≡ before.steps
-    → Ends due (status_of_state s) before after
-Ends-last due format s before after told still steps =
+    → IfSome due (λ told. told ≡ ending format false s) → IsStill before after
+    → counts after ≡ counts before → Ends due (status_of_state s) before after
+Ends-last due format s before after told still same =
     Ends-whole due (ending format false s) before after told (state_answered s s.refused) (record {
       inputs = still.inputs;
-      nested = still.nested;
-      steps = λ _. omega (arith, steps);
+      counted = λ _. still_work (counts before) (counts after) same;
     }) (subst (λ sink. Put before.sink sink []) (sym still.sink) (Put-none before.sink))
 
 -- ... whatever is due
 pub Ends-answered : (status : Status) (before after : Outside) → IsAnswered status → IsStill before after
-    → before.steps ≤ after.steps → Ends None status before after
-Ends-answered status before after answered still steps = record {
+    → NoneFell (counts before) (counts after) → Ends None status before after
+Ends-answered status before after answered still risen = record {
   whole = λ _. record {
     written = [];
     put = subst (λ sink. Put before.sink sink []) (sym still.sink) (Put-none before.sink);
-    risen = λ _. steps;
+    risen = λ _. risen;
     defined = tt;
   };
   front = λ cut. absurd (cut_or_answered status answered cut);
@@ -64,19 +65,17 @@ Ends-answered status before after answered still steps = record {
     used_up = λ is. absurd (answered_apart status WriteFault answered (λ no. no) is);
     quiet_inputs = λ _. still.inputs;
     quiet_sink = λ _. ap (λ (s : SinkState). s.faults) still.sink;
-    nested_still = still.nested;
   };
 }
 
 -- the run ends where no further line could be taken
 pub Ends-stopped : (T : Type 0) (due : Option Output) (stop : Stop) (before after : Outside)
-    → after.sink ≡ before.sink → after.nested ≡ before.nested
-    → StopCause {T = T} before.inputs.faults after.inputs.faults (Err stop)
+    → after.sink ≡ before.sink → StopCause {T = T} before.inputs.faults after.inputs.faults (Err stop)
     → Ends due (stop_status stop) before after
-Ends-stopped T due Input before after same nested cause = Ends-input due before after same cause nested
-Ends-stopped T due Write before after same nested cause = absurd cause
-Ends-stopped T due Memory before after same nested cause =
-    Ends-memory due before after (record { sink = same; inputs = cause; nested = nested })
+Ends-stopped T due Input before after same cause = Ends-input due before after same cause
+Ends-stopped T due Write before after same cause = absurd cause
+Ends-stopped T due Memory before after same cause =
+    Ends-memory due before after (record { sink = same; inputs = cause })
 
 -- a run that gave its reports to the end was answered, and read its words
 pub reported_answered : (status : Status) → IsReported status → IsAnswered status

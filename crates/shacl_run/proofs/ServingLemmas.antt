@@ -1,7 +1,7 @@
 -- A script that is answered line by line gives the output that is due.
 use Rattle.std.proofs.Common.{◌≡◌, ℕ, Bool, true, false, nat_lt, List, ◌∷◌, ◌++◌, length, Option}
 use Rattle.std.proofs.Common.{None, Some, Result, Ok, Err}
-use Rattle.std.proofs.Common.{◌<◌, inl, inr, refl, sym, ap, ◌∙◌, subst, append_assoc, arith}
+use Rattle.std.proofs.Common.{◌<◌, inl, inr, refl, sym, ap, ◌∙◌, subst, append_assoc}
 use Rattle.std.specs.Prelude.{All, IfSome}
 use Rattle.std.proofs.lemmas.List.Elements.{All-head, All-tail}
 use Rattle.shx_outside.specs.Outside.{SinkState}
@@ -32,17 +32,14 @@ use Rattle.shacl_run.specs.inner.Serving.{due_at, Prefixed, Feeds, LinesAreReadA
 use Rattle.shacl_run.specs.Work.{Work, and_then}
 use Rattle.shacl_run.proofs.EndLemmas.{append_none}
 use Rattle.shacl_run.proofs.LineReadingLemmas.{read_too_long}
-
-work_both : (first more later : Work)
-    → and_then (and_then first more) later ≡ and_then first (and_then more later)
-work_both first more later = ap (λ n. record { evaluated = n }) (omega arith)
+use Rattle.shacl_run.proofs.WorkLemmas.{and_then_assoc}
 
 behind_both : (front more : List ℕ) (first later : Work) (o : Output)
     → behind (front ++ more) (and_then first later) o ≡ behind front first (behind more later o)
 behind_both front more first later o = λ i. record {
   text = append_assoc front more o.text i;
   status = o.status;
-  work = work_both first later o.work i;
+  work = and_then_assoc first later o.work i;
 }
 
 pub not_both : (b : Bool) → b ≡ true → b ≡ false → ⊥

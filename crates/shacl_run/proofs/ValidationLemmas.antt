@@ -1,5 +1,6 @@
 -- What a validation stores is as good as the state before the script: the same pairs and the same report.
-use Rattle.std.specs.Prelude.{◌≡◌, ℕ, false, List, ◌++◌, length}
+use Rattle.std.specs.Prelude.{◌≡◌, ℕ, ◌+◌, false, List, ◌++◌, length}
+use Rattle.std.specs.Set.{distinct_count}
 use Rattle.std.proofs.Common.{sym, ap, ◌∙◌, subst}
 use Rattle.shx_term.specs.declared.limits.Limits.{Limits}
 use Rattle.shx_term.specs.declared.term.Term.{Term}
@@ -8,9 +9,12 @@ use Rattle.graph_view.specs.ListGraph.{plain_graph}
 use Rattle.graph_view.specs.SameGraph.{SameGraph}
 use Rattle.ttl_meaning.specs.declared.document.Document.{Document}
 use Rattle.comp_core.specs.declared.row.ResultRow.{ResultRow}
+use Rattle.comp_core.specs.Pairs.{same_pair}
+use Rattle.shape_eval.specs.Nested.{nested_pairs}
 use Rattle.shape_eval.specs.Plan.{Planned}
 use Rattle.shape_eval.specs.Planned.{plan_of}
 use Rattle.shape_eval.specs.Report.{pairs, report}
+use Rattle.edit_engine.specs.Remembered.{AreAllRecalled, answer_of, nested_count}
 use Rattle.text_output.specs.declared.format.Format.{Format}
 use Rattle.report_write.specs.ReportTexts.{report_text}
 use Rattle.shacl_run.specs.declared.script_run.ScriptRun.{ScriptRun}
@@ -21,6 +25,8 @@ use Rattle.shacl_run.specs.Run.{first_text, first_work, notice_text}
 use Rattle.shacl_run.specs.Script.{said_text}
 use Rattle.shacl_run.specs.Script.Said.{reports}
 use Rattle.shacl_run.specs.ScriptState.{ScriptState}
+use Rattle.shacl_run.specs.Work.{Work, and_then}
+use Rattle.shacl_run.proofs.WorkLemmas.{same_work}
 
 module _ (limits : Limits) (format : Format) (s : ScriptState) (validation : Validation)
     (is : IsValidation limits format s validation) where
@@ -31,10 +37,25 @@ module _ (limits : Limits) (format : Format) (s : ScriptState) (validation : Val
   plan = plan_of validation.plan
 
   -- as many pairs are evaluated as the state has
-  pub work-validation : pairs plan s.graph ≡ pairs plan stored
-      → length (pairs plan stored) ≡ (first_work s).evaluated
-  work-validation alike =
+  steps-validation : pairs plan s.graph ≡ pairs plan stored
+      → length (pairs plan stored) ≡ length (pairs s.plan s.graph)
+  steps-validation alike =
       ap length (sym alike) ∙ ap (λ (p : Planned). length (pairs p s.graph)) is.plan_is
+
+  -- and the same nested ones
+  nested-validation : nested_pairs plan s.graph ≡ nested_pairs plan stored
+      → nested_pairs plan stored ≡ nested_pairs s.plan s.graph
+  nested-validation alike = sym alike ∙ ap (λ (p : Planned). nested_pairs p s.graph) is.plan_is
+
+  -- so where they were counted, that is the first work
+  pub work-validation : pairs plan s.graph ≡ pairs plan stored
+      → nested_pairs plan s.graph ≡ nested_pairs plan stored → (before after : Work)
+      → after.evaluated ≡ before.evaluated + length (pairs plan stored)
+      → after.nested ≡ before.nested + nested_count plan stored → after ≡ and_then before (first_work s)
+  work-validation alike nested_alike before after evaluated nested =
+      same_work after (and_then before (first_work s))
+      (evaluated ∙ ap (λ n. before.evaluated + n) (steps-validation alike))
+      (nested ∙ ap (λ ps. before.nested + distinct_count same_pair ps) (nested-validation nested_alike))
 
   -- the results are those of the state
   pub rows-validation : report plan s.graph ≡ report plan stored → (rows : List ResultRow)
@@ -62,11 +83,15 @@ module _ (limits : Limits) (format : Format) (s : ScriptState) (validation : Val
       → script.engine.term_limit ≡ validation.graph.pool.limit
       → script.engine.triple_limit ≡ validation.graph.limit → script.document ≡ validation.document
       → script.format ≡ validation.format → script.line ≡ 0 → script.refused ≡ false
+      → nested_pairs plan s.graph ≡ nested_pairs plan stored
+      → AreAllRecalled (answer_of script.engine.remembered) (nested_pairs plan stored)
       → IsScriptRun limits format s script
-  IsScriptRun-opened script plans graph terms triples document writes line refused = record {
+  IsScriptRun-opened script plans graph terms triples document writes line refused alike recalled = record {
     stores = subst (SameGraph s.graph) (sym graph) is.stores;
     names_are = subst (λ (d : Document). HasNamesOf s.data_end d) (sym document) is.names_are;
     plan_is = plans ∙ is.plan_is;
+    kept_is = subst (AreAllRecalled (answer_of script.engine.remembered))
+        (nested-validation alike ∙ sym is.start.kept) recalled;
     line_is = line ∙ sym is.start.line;
     refused_is = refused ∙ sym is.start.refused;
     triples = triples ∙ is.limits_are.triples;

@@ -1,6 +1,5 @@
 -- A report is written, and then its script is answered.
-use Rattle.std.proofs.Common.{◌≡◌, ℕ, ◌+◌, Bool, false, nat_lt, List, [], length, Option, None, Some, Result}
-use Rattle.std.proofs.Common.{Ok, Err}
+use Rattle.std.proofs.Common.{◌≡◌, ℕ, Bool, false, nat_lt, List, [], Option, None, Some, Result, Ok, Err}
 use Rattle.std.proofs.Common.{refl, sym, ap, ◌∙◌, subst, append-nil, arith}
 use Rattle.std.proofs.lemmas.Bool.Decides.{nat_tests}
 use Rattle.std.proofs.lemmas.List.Elements.{All-nil}
@@ -22,9 +21,9 @@ use Rattle.shacl_run.specs.declared.status.Status.TheVariants.{WriteFault}
 use Rattle.shacl_run.specs.declared.stop.Stop.{Stop}
 use Rattle.shacl_run.specs.declared.stop.Stop.TheVariants.{Input, Write, Memory}
 use Rattle.shacl_run.specs.inner.Ends.{Ends}
-use Rattle.shape_eval.specs.Report.{pairs, report}
+use Rattle.shape_eval.specs.Report.{report}
 use Rattle.shacl_run.specs.Run.{Output, Opening, behind, ending, output_from, validation_output, script_text}
-use Rattle.shacl_run.specs.Outside.{Outside}
+use Rattle.shacl_run.specs.Outside.{Outside, counts}
 use Rattle.shacl_run.specs.Run.{fed_text, first_text, first_work}
 use Rattle.shacl_run.specs.Run.{opening_output, opening_fed, status_of_rows}
 use Rattle.shacl_run.specs.Manner.{Manner}
@@ -36,20 +35,21 @@ use Rattle.shacl_run.specs.ScriptState.{ScriptState}
 use Rattle.shacl_run.specs.inner.Serving.{due_at, HaveReadings, Prefixed, PutsReport}
 use Rattle.shacl_run.specs.inner.Stops.{end_status}
 use Rattle.shacl_run.specs.inner.Validation.{IsValidation}
-use Rattle.shacl_run.specs.Work.{evaluating}
+use Rattle.shacl_run.specs.Work.{Work, and_then}
 use Rattle.shacl_run.proofs.EndLemmas.{Ends-after, Ends-memory, Ends-short, Ends-whole}
 use Rattle.shacl_run.proofs.ServedLemmas.{rows_answered}
+use Rattle.shacl_run.proofs.WorkLemmas.{NoneFell-by, and_then-no_work}
 
 -- what is put in the format of a validation is put in that of the run
 pub puts_in : (manner : Manner) (s : ScriptState) (validation : Validation) (before after : SinkState)
-    (steps steps' : ℕ) (r : Result Status Stop) → IsValidation manner.limits manner.format s validation
+    (work work' : Work) (r : Result Status Stop) → IsValidation manner.limits manner.format s validation
     → ((limits : Limits) (s : ScriptState) → IsValidation limits validation.format s validation
-    → PutsReport validation.format validation.passed_over s before after steps steps' r)
-    → PutsReport manner.format validation.passed_over s before after steps steps' r
-puts_in manner s validation before after steps steps' r is puts =
+    → PutsReport validation.format validation.passed_over s before after work work' r)
+    → PutsReport manner.format validation.passed_over s before after work work' r
+puts_in manner s validation before after work work' r is puts =
     let own : IsValidation manner.limits validation.format s validation =
     subst (λ (format : Format). IsValidation manner.limits format s validation) (sym is.format_is) is in
-    subst (λ (format : Format). PutsReport format validation.passed_over s before after steps steps' r)
+    subst (λ (format : Format). PutsReport format validation.passed_over s before after work work' r)
     is.format_is (puts manner.limits s own)
 
 -- what holds where something is due holds in any case
@@ -62,23 +62,26 @@ module _ (format : Format) (notices : ℕ) (s : ScriptState) where
   pub Ends-behind_report : (due later : Option Output)
       → IfSome due (Prefixed (first_text format notices s) (first_work s) later) → (status : Status)
       → (before within after : Outside) → Put before.sink within.sink (first_text format notices s)
-      → within.inputs.faults ≡ before.inputs.faults → within.nested ≡ before.nested
-      → within.steps ≡ before.steps + (first_work s).evaluated
+      → within.inputs.faults ≡ before.inputs.faults → counts within ≡ and_then (counts before) (first_work s)
       → Ends later status within after → Ends due status before after
-  Ends-behind_report due later prefixed status before within after put quiet nested steps run_ends =
+  Ends-behind_report due later prefixed status before within after put quiet worked run_ends =
       Ends-after (first_text format notices s) (first_work s) status before within after
-      (record { put = put; inputs = quiet; nested = nested; risen = omega (arith, steps) }) due later prefixed
-      (in_any_case due (within.steps ≡ before.steps + (first_work s).evaluated) steps) run_ends
+      (record {
+        put = put;
+        inputs = quiet;
+        risen = NoneFell-by (counts before) (counts within) (first_work s) worked;
+      }) due later prefixed
+      (in_any_case due (counts within ≡ and_then (counts before) (first_work s)) worked) run_ends
 
   -- the sink failed within the report
   pub Ends-within_report : (due later : Option Output)
       → IfSome due (Prefixed (first_text format notices s) (first_work s) later) → (before after : Outside)
-      → after.inputs.faults ≡ before.inputs.faults → after.nested ≡ before.nested
+      → after.inputs.faults ≡ before.inputs.faults
       → FellShort before.sink after.sink (first_text format notices s) → Ends due WriteFault before after
-  Ends-within_report due later prefixed before after quiet nested short =
+  Ends-within_report due later prefixed before after quiet short =
       Ends-short due (first_text format notices s) before after
       (IfSome_then due prefixed (λ told first. (first.rest.text, ap (λ (o : Output). o.text) first.whole)))
-      quiet nested short
+      quiet short
 
   -- where no script is named, the report is all that is due
   abbrev pub alone : Output
@@ -90,23 +93,22 @@ module _ (format : Format) (notices : ℕ) (s : ScriptState) where
 
   pub Ends-unscripted : (due : Option Output) → IfSome due (λ told. told ≡ alone)
       → (r : Result Status Stop) (before after : Outside)
-      → PutsReport format notices s before.sink after.sink before.steps after.steps r
-      → after.inputs.faults ≡ before.inputs.faults → after.nested ≡ before.nested
-      → Ends due (end_status r) before after
-  Ends-unscripted due told (Ok status) before after (put, is, steps) quiet nested =
+      → PutsReport format notices s before.sink after.sink (counts before) (counts after) r
+      → after.inputs.faults ≡ before.inputs.faults → Ends due (end_status r) before after
+  Ends-unscripted due told (Ok status) before after (put, is, worked) quiet =
       subst (λ status. Ends due status before after) (sym is)
       (Ends-whole due alone before after told (rows_answered (report s.plan s.graph))
-      (record { inputs = quiet; nested = nested; steps = λ _. steps }) put)
-  Ends-unscripted due told (Err Input) before after puts quiet nested = absurd puts
-  Ends-unscripted due told (Err Memory) before after puts quiet nested =
-      Ends-memory due before after (record { sink = puts; inputs = quiet; nested = nested })
-  Ends-unscripted due told (Err Write) before after puts quiet nested =
+      (record { inputs = quiet; counted = λ _. worked }) put)
+  Ends-unscripted due told (Err Input) before after puts quiet = absurd puts
+  Ends-unscripted due told (Err Memory) before after puts quiet =
+      Ends-memory due before after (record { sink = puts; inputs = quiet })
+  Ends-unscripted due told (Err Write) before after puts quiet =
       Ends-short due (first_text format notices s) before after
       (IfSome_then due told (λ output same. (
         [],
         ap (λ (o : Output). o.text) same ∙ sym (append-nil (first_text format notices s)),
       )))
-      quiet nested puts
+      quiet puts
 
 module _ (manner : Manner) (notices : ℕ) (s : ScriptState) where
   -- what is due is the report, and then what is due of the script
@@ -130,15 +132,12 @@ module _ (manner : Manner) (notices : ℕ) (s : ScriptState) where
       ∙ (λ i. record {
         text = append-nil first i;
         status = status_of_unrefused i;
-        work = evaluating (no_more (length (pairs s.plan s.graph)) i);
+        work = and_then-no_work (first_work s) i;
       })
     where
       served_output : Bool → Served → Output
       served_output past served =
           behind served.text served.work (ending manner.format past served.state)
-
-      no_more : (n : ℕ) → n + (0 + 0) ≡ n
-      no_more n = omega arith
 
       status_of_unrefused : (ending manner.format false s).status ≡ status_of_rows (report s.plan s.graph)
       status_of_unrefused = rw unrefused refl

@@ -2,6 +2,7 @@
 -- and where the two counters of evaluations stand.
 use Rattle.std.specs.Prelude.{ℕ}
 use Rattle.shx_outside.specs.Outside.{InputState, SinkState, PatternState}
+use Rattle.shacl_run.specs.Work.{Work, evaluating}
 
 pub record Outside : Type 0 where
   pub inputs : InputState
@@ -18,3 +19,7 @@ outside inputs sink patterns nested steps = record {
   nested = nested;
   steps = steps;
 }
+
+-- where the counters stand
+abbrev pub counts : Outside → Work
+counts at = evaluating at.steps at.nested

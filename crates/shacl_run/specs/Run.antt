@@ -11,6 +11,7 @@ use Rattle.graph_view.specs.Key.{look}
 use Rattle.comp_core.specs.declared.row.ResultRow.{ResultRow}
 use Rattle.shape_eval.specs.Plan.{Planned}
 use Rattle.shape_eval.specs.Report.{pairs, report}
+use Rattle.edit_engine.specs.Remembered.{nested_count}
 use Rattle.shx_term.specs.declared.vocabulary.TheConstants.{SH_SPARQL}
 use Rattle.shx_term.specs.declared.term.Term.{Term}
 use Rattle.text_input.specs.Lines.{script_lines, fed_lines}
@@ -86,9 +87,9 @@ notice_text format count = if count == 0 then [] else answer_text format [] (Not
 abbrev pub first_text : Format → ℕ → ScriptState → List ℕ
 first_text format notices s = notice_text format notices ++ said_text format s reports
 
--- for it each pair is evaluated
+-- for it each pair is evaluated, and each nested one
 abbrev pub first_work : ScriptState → Work
-first_work s = evaluating (length (pairs s.plan s.graph))
+first_work s = evaluating (length (pairs s.plan s.graph)) (nested_count s.plan s.graph)
 
 -- the same, and then the answers to a script
 abbrev pub validation_output : Manner → ℕ → ScriptState → List ℕ → Output

@@ -95,11 +95,12 @@ pub record OpensOnly (readings : Readings) (verdict : Verdict) (words : List (Li
 -- ---- what is written
 
 -- the bytes written and the status are those of the output; and where reports were given to the end, as many
--- pairs were evaluated
+-- pairs were evaluated, and as many nested ones
 pub record WritesWhole (output : Output) (before after : Outside) (status : Status) : Type 0 where
   pub status_is : status ≡ output.status
   pub put : Put before.sink after.sink output.text
   pub evaluations : IsReported status → after.steps ≡ before.steps + output.work.evaluated
+  pub nested_evaluations : IsReported status → after.nested ≡ before.nested + output.work.nested
 
 -- the bytes written are a front of its text: a proper one where the sink failed
 pub record WritesFront (output : Output) (before after : SinkState) (status : Status) : Type 0 where
@@ -181,7 +182,7 @@ pub record TellsRefusal (format : Format) (bytes : List ℕ) : Type 0 where
   pub is : bytes ≡ answer_text format terms (OfShape PATTERN_REFUSED shape)
 
 -- whatever the texts are read as: bytes were put behind what the sink held; a failure comes only where its
--- count rose, and otherwise no count rose; no nested evaluation is counted so far
+-- count rose, and otherwise no count rose
 pub record HasCauses (words : List (List ℕ)) (before after : Outside) (status : Status) : Type 0 where
   pub bytes : List ℕ
   pub grew : Grew before.sink.held after.sink.held bytes
@@ -193,7 +194,6 @@ pub record HasCauses (words : List (List ℕ)) (before after : Outside) (status 
   pub quiet_sink : status ≢ WriteFault → after.sink.faults ≡ before.sink.faults
   pub quiet_patterns : IsAnswered status → after.patterns.faults ≢ before.patterns.faults
       → (status ≡ Refused) × TellsRefusal (words_format (command_words words)) bytes
-  pub nested_still : after.nested ≡ before.nested
 
 -- ---- what was read
 

@@ -4,10 +4,11 @@ use Rattle.std.specs.Prelude.{Ok, Err}
 use Rattle.shx_term.specs.declared.edit.Edit.{Edit}
 use Rattle.shx_term.specs.declared.fault_codes.TheConstants.{GRAPH_TRIPLES, GRAPH_TERMS}
 use Rattle.shx_term.specs.declared.limits.Limits.{Limits}
-use Rattle.graph_view.specs.Graph.{Graph}
+use Rattle.comp_core.specs.declared.pair.Pair.{Pair}
 use Rattle.shape_eval.specs.Report.{pairs, report}
 use Rattle.edit_engine.specs.Edits.{Outcome, NoEffect, PastTriples, PastTerms, Effect}
 use Rattle.edit_engine.specs.Edits.{changed_by, edited, outcome}
+use Rattle.edit_engine.specs.Remembered.{fresh_count, kept_pairs}
 use Rattle.edit_engine.specs.Touched.{touched_pairs}
 use Rattle.text_output.specs.declared.format.Format.{Format}
 use Rattle.report_write.specs.declared.answer.Answer.{Answer}
@@ -66,14 +67,6 @@ refusal s code at = record {
   work = no_work;
 }
 
--- the graph is another one, for which so many pairs were evaluated
-abbrev pub changed : ScriptState → Graph → ℕ → Step
-changed s g count = record {
-  said = answers (Changed count) ∷ [];
-  state = record s { graph = g; line = s.line + 1 };
-  work = evaluating count;
-}
-
 -- ---- what lines ask for
 
 -- how many pairs an edit touches
@@ -81,12 +74,28 @@ abbrev pub touched_count : ScriptState → Edit → ℕ
 touched_count s edit =
     length (touched_pairs s.plan s.graph (edited s.graph edit) (changed_by s.graph edit))
 
+-- for how many nested pairs nothing right is remembered
+abbrev pub nested_due : ScriptState → Edit → ℕ
+nested_due s edit = fresh_count s.plan s.graph (edited s.graph edit) (changed_by s.graph edit) s.kept
+
+-- which are remembered from then on
+abbrev pub kept_by : ScriptState → Edit → List Pair
+kept_by s edit = kept_pairs s.plan s.graph (edited s.graph edit) (changed_by s.graph edit) s.kept
+
+-- the graph is another one, for which so many pairs were evaluated
+abbrev pub changed : ScriptState → Edit → Step
+changed s edit = record {
+  said = answers (Changed (touched_count s edit)) ∷ [];
+  state = record s { graph = edited s.graph edit; kept = kept_by s edit; line = s.line + 1 };
+  work = evaluating (touched_count s edit) (nested_due s edit);
+}
+
 -- by what comes of it
 abbrev pub edit_step : ScriptState → Edit → Outcome → Step
 edit_step s edit NoEffect = stays s (answers Unchanged ∷ [])
 edit_step s edit PastTriples = refusal s GRAPH_TRIPLES None
 edit_step s edit PastTerms = refusal s GRAPH_TERMS None
-edit_step s edit Effect = changed s (edited s.graph edit) (touched_count s edit)
+edit_step s edit Effect = changed s edit
 
 -- how many triples, pairs and results there are
 abbrev pub count_answer : ScriptState → Answer

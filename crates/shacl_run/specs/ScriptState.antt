@@ -1,16 +1,19 @@
 -- Where a script stands.
-use Rattle.std.specs.Prelude.{ℕ, Bool, false}
+use Rattle.std.specs.Prelude.{ℕ, Bool, false, List}
 use Rattle.graph_view.specs.Graph.{Graph}
+use Rattle.comp_core.specs.declared.pair.Pair.{Pair}
+use Rattle.shape_eval.specs.Nested.{nested_pairs}
 use Rattle.shape_eval.specs.Plan.{Planned}
 use Rattle.ttl_meaning.specs.State.{State}
 
--- where a script stands: the graph, the plan of the shapes, how many lines were answered, and whether one of
--- them was refused; and the state at the end of the data text, whose base, prefixes and blank nodes are those
--- of lines
+-- where a script stands: the graph, the plan of the shapes, the nested pairs that are remembered, how many
+-- lines were answered, and whether one of them was refused; and the state at the end of the data text, whose
+-- base, prefixes and blank nodes are those of lines
 pub record ScriptState : Type 0 where
   pub graph : Graph
   pub data_end : State
   pub plan : Planned
+  pub kept : List Pair
   pub line : ℕ
   pub refused : Bool
 
@@ -20,6 +23,7 @@ start_state g end plan = record {
   graph = g;
   data_end = end;
   plan = plan;
+  kept = nested_pairs plan g;
   line = 0;
   refused = false;
 }

@@ -1,5 +1,5 @@
 //! Replies to the lines of a script.
-ghost use Rattle.std.specs.Prelude.{◌≡◌, ◌<◌, ◌≤◌, ◌+◌, ◌-◌, ◌^◌, ℕ, true, false, IfOk, OnOk};
+ghost use Rattle.std.specs.Prelude.{◌≡◌, ◌<◌, ◌+◌, ◌-◌, ◌^◌, true, false, IfOk, OnOk};
 ghost use Rattle.shacl_run.specs.Manner.{Manner};
 ghost use Rattle.text_output.specs.Writes.{Writes};
 ghost use Rattle.script_lines.specs.Lines.{IsValidCommand};
@@ -12,6 +12,7 @@ ghost use Rattle.shacl_run.specs.Names.{HasNamesOf};
 ghost use Rattle.shacl_run.specs.Readings.{HasReading, IsReadBehind};
 ghost use Rattle.shacl_run.specs.Script.{command_step, edit_step, refusal, script_step};
 ghost use Rattle.shacl_run.specs.ScriptState.{ScriptState};
+ghost use Rattle.shacl_run.specs.Work.{NoneFell, Work, evaluating};
 ghost use Rattle.shacl_run.specs.inner.Validation.{IsScriptRun};
 
 use crate::read_once::lines_are_read_once;
@@ -41,12 +42,12 @@ pub enum Reply {
 
 /// Does what a line asks for, a line that is not too long. A refused line changes nothing but the count of
 /// lines.
-pub fn reply_to<L: Ledger, M: Ledger>(
+pub fn reply_to<K: Ledger, L: Ledger>(
     alloc: Global,
     script: &mut ScriptRun,
     line: &[u8],
     limits: &Limits,
-    nested: &mut Steps<M>,
+    nested: &mut Steps<K>,
     steps: &mut Steps<L>,
 ) -> Result<Reply, Memory>
     requires few { script.old.line < 2 ^ 64 - 1 }
@@ -54,13 +55,14 @@ pub fn reply_to<L: Ledger, M: Ledger>(
         → IsScriptRun manner.limits manner.format s script.old
         → IsReadBehind limits.now s.data_end line.now (manner.lines line.now)
         → IfOk result (λ reply.
-        Replies manner (script_step manner s line.now) reply script.new steps.old steps.new) }
+        Replies manner (script_step manner s line.now) reply script.new
+        (evaluating steps.old nested.old) (evaluating steps.new nested.new)) }
     ensures read { (end : State) → HasNamesOf end script.old.document
         → IfOk result (λ reply. HasReading limits.now end line.now) }
     ensures names { script.new.document ≡ script.old.document }
     ensures line { OnOk result (script.new.line ≡ script.old.line + 1) }
-    ensures risen { OnOk result (steps.old ≤ steps.new) }
-    ensures nested { nested.new ≡ nested.old }
+    ensures risen { OnOk result
+        (NoneFell (evaluating steps.old nested.old) (evaluating steps.new nested.new)) }
 {
     // So what is read here is the reading that was told.
     lines_are_read_once();
@@ -74,9 +76,9 @@ pub fn reply_to<L: Ledger, M: Ledger>(
 /// Refuses the line at hand: it is counted, and nothing else changes.
 pub fn refuse_line(script: &mut ScriptRun, code: u32, at: Option<u64>) -> Reply
     requires { script.old.line < 2 ^ 64 - 1 }
-    ensures replies { (manner : Manner) (s : ScriptState) (steps : ℕ)
+    ensures replies { (manner : Manner) (s : ScriptState) (work : Work)
         → IsScriptRun manner.limits manner.format s script.old
-        → Replies manner (refusal s code at) result script.new steps steps }
+        → Replies manner (refusal s code at) result script.new work work }
     ensures names { script.new.document ≡ script.old.document }
     ensures line { script.new.line ≡ script.old.line + 1 }
 {
@@ -89,11 +91,11 @@ pub fn refuse_line(script: &mut ScriptRun, code: u32, at: Option<u64>) -> Reply
     })
 }
 
-fn do_command<L: Ledger, M: Ledger>(
+fn do_command<K: Ledger, L: Ledger>(
     alloc: Global,
     script: &mut ScriptRun,
     command: &Command,
-    nested: &mut Steps<M>,
+    nested: &mut Steps<K>,
     steps: &mut Steps<L>,
 ) -> Result<Reply, Memory>
     requires few { script.old.line < 2 ^ 64 - 1 }
@@ -101,11 +103,12 @@ fn do_command<L: Ledger, M: Ledger>(
     ensures replies { (manner : Manner) (s : ScriptState)
         → IsScriptRun manner.limits manner.format s script.old
         → IfOk result (λ reply.
-        Replies manner (command_step manner.limits s command.now) reply script.new steps.old steps.new) }
+        Replies manner (command_step manner.limits s command.now) reply script.new
+        (evaluating steps.old nested.old) (evaluating steps.new nested.new)) }
     ensures names { script.new.document ≡ script.old.document }
     ensures line { OnOk result (script.new.line ≡ script.old.line + 1) }
-    ensures risen { OnOk result (steps.old ≤ steps.new) }
-    ensures nested { nested.new ≡ nested.old }
+    ensures risen { OnOk result
+        (NoneFell (evaluating steps.old nested.old) (evaluating steps.new nested.new)) }
 {
     // The graph may be stored in another order than the script's.
     same_graphs_answer_alike();
@@ -122,11 +125,11 @@ fn do_command<L: Ledger, M: Ledger>(
 }
 
 // Makes an edit, and says what came of it.
-fn do_edit<L: Ledger, M: Ledger>(
+fn do_edit<K: Ledger, L: Ledger>(
     alloc: Global,
     script: &mut ScriptRun,
     edit: &Edit,
-    nested: &mut Steps<M>,
+    nested: &mut Steps<K>,
     steps: &mut Steps<L>,
 ) -> Result<Reply, Memory>
     requires few { script.old.line < 2 ^ 64 - 1 }
@@ -135,15 +138,17 @@ fn do_edit<L: Ledger, M: Ledger>(
         → IsScriptRun manner.limits manner.format s script.old
         → IfOk result (λ reply. Replies manner
         (edit_step s edit.now (outcome manner.limits.triples manner.limits.terms s.graph edit.now)) reply
-        script.new steps.old steps.new) }
+        script.new (evaluating steps.old nested.old) (evaluating steps.new nested.new)) }
     ensures names { script.new.document ≡ script.old.document }
     ensures line { OnOk result (script.new.line ≡ script.old.line + 1) }
-    ensures risen { OnOk result (steps.old ≤ steps.new) }
-    ensures nested { nested.new ≡ nested.old }
+    ensures risen { OnOk result
+        (NoneFell (evaluating steps.old nested.old) (evaluating steps.new nested.new)) }
 {
     // The graph may be stored in another order than the script's.
     same_graphs_are_edited_alike();
     let _ = script.engine.view();
+    // Only nodes that have terms are remembered.
+    let _ = script.engine.recall();
     match script.engine.apply(alloc, edit, nested, steps) {
         Ok(change) => Ok(said(script, Reply::Answers(change_answer(change)))),
         Err(EditFault::TooManyTriples) => Ok(refuse_line(script, GRAPH_TRIPLES, None)),

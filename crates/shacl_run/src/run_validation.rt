@@ -20,6 +20,7 @@ ghost use Rattle.shacl_run.specs.Run.{first_text, notice_text, opening_fed, scri
 ghost use Rattle.shacl_run.specs.Run.Opening.{opens};
 ghost use Rattle.shacl_run.specs.RunClauses.{IsOpenedBy, ScriptIsOpened, StopsFed};
 ghost use Rattle.shacl_run.specs.ScriptState.{ScriptState};
+ghost use Rattle.shacl_run.specs.Work.{evaluating};
 ghost use Rattle.shacl_run.specs.inner.Serving.{HaveReadings, LinesAreReadAt, PutsReport};
 ghost use Rattle.shacl_run.specs.inner.Validation.{IsScriptRun, IsValidation, Stands};
 ghost use Rattle.shacl_run.specs.Status.{IsAnswered, IsReported};
@@ -49,14 +50,14 @@ use text_output::{WriteFault, Writer};
 
 /// Writes the report, and then answers the script where the words name one. Only for a script more is kept
 /// of an evaluation than its results.
-pub fn run_validation<I: Inputs, O: Sink, L: Ledger, M: Ledger>(
+pub fn run_validation<I: Inputs, O: Sink, K: Ledger, L: Ledger>(
     alloc: Global,
     validation: Validation,
     script: Option<&str>,
     host: &mut I,
     out: &mut O,
     limits: &Limits,
-    nested: &mut Steps<M>,
+    nested: &mut Steps<K>,
     steps: &mut Steps<L>,
 ) -> Result<Status, Stop>
     requires stands { Stands validation }
@@ -97,19 +98,19 @@ pub fn run_validation<I: Inputs, O: Sink, L: Ledger, M: Ledger>(
 {
     match script {
         Some(name) => run_script(alloc, validation, name, host, out, limits, nested, steps),
-        None => put_report(alloc, &validation, out, steps),
+        None => put_report(alloc, &validation, out, nested, steps),
     }
 }
 
 // Writes the report, and then answers the script of this name.
-fn run_script<I: Inputs, O: Sink, L: Ledger, M: Ledger>(
+fn run_script<I: Inputs, O: Sink, K: Ledger, L: Ledger>(
     alloc: Global,
     validation: Validation,
     name: &str,
     host: &mut I,
     out: &mut O,
     limits: &Limits,
-    nested: &mut Steps<M>,
+    nested: &mut Steps<K>,
     steps: &mut Steps<L>,
 ) -> Result<Status, Stop>
     requires stands { Stands validation }
@@ -151,20 +152,21 @@ fn run_script<I: Inputs, O: Sink, L: Ledger, M: Ledger>(
 }
 
 // Writes the report behind its notice, and answers how the run ends with it.
-fn put_report<O: Sink, L: Ledger>(
+fn put_report<O: Sink, K: Ledger, L: Ledger>(
     alloc: Global,
     validation: &Validation,
     out: &mut O,
+    nested: &mut Steps<K>,
     steps: &mut Steps<L>,
 ) -> Result<Status, Stop>
     requires { Stands validation.now }
     ensures puts { (limits : LimitsOf) (s : ScriptState)
         → IsValidation limits validation.now.format s validation.now
         → PutsReport validation.now.format validation.now.passed_over s (O.state out.old) (O.state out.new)
-        steps.old steps.new result }
+        (evaluating steps.old nested.old) (evaluating steps.new nested.new) result }
     ensures words { end_status result ≢ Status.BadWords }
 {
-    let rows = report_of(alloc, validation, steps)?;
+    let rows = report_of(alloc, validation, nested, steps)?;
     let pool = validation.graph.pool();
     write_first(
         validation.passed_over,

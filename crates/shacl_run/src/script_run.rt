@@ -6,6 +6,7 @@ ghost use Rattle.shacl_run.specs.Run.{first_work, status_of_state};
 ghost use Rattle.shacl_run.specs.Script.{count_answer};
 ghost use Rattle.shacl_run.specs.ScriptState.{ScriptState};
 ghost use Rattle.shacl_run.specs.Status.{IsReported};
+ghost use Rattle.shacl_run.specs.Work.{and_then, evaluating};
 ghost use Rattle.shacl_run.specs.inner.Validation.{IsScriptRun, IsValidation, Stands};
 
 use crate::status::Status;
@@ -36,11 +37,12 @@ pub struct ScriptRun {
 }
 
 impl ScriptRun {
-    /// Before the first line: each pair of the validation is evaluated, and what it comes to is kept.
-    pub fn open<L: Ledger, M: Ledger>(
+    /// Before the first line: each pair of the validation is evaluated, and each nested one, and what they
+    /// come to is kept.
+    pub fn open<K: Ledger, L: Ledger>(
         alloc: Global,
         validation: Validation,
-        nested: &mut Steps<M>,
+        nested: &mut Steps<K>,
         steps: &mut Steps<L>,
     ) -> Result<ScriptRun, Memory>
         requires { Stands validation }
@@ -51,8 +53,8 @@ impl ScriptRun {
         ensures line { IfOk result (λ script. script.line ≡ 0) }
         ensures work { (limits : LimitsOf) (format : FormatOf) (s : ScriptState)
             → IsValidation limits format s validation
-            → OnOk result (steps.new ≡ steps.old + (first_work s).evaluated) }
-        ensures nested { nested.new ≡ nested.old }
+            → OnOk result (evaluating steps.new nested.new
+            ≡ and_then (evaluating steps.old nested.old) (first_work s)) }
     {
         // The order in which the graph is stored makes no difference.
         same_graphs_answer_alike();

@@ -34,13 +34,13 @@ use std::sync::ledger::Ledger;
 use text_input::ScriptReader;
 
 /// Answers the lines of an opened script, each before the next is taken.
-pub fn serve<I: Inputs, O: Sink, L: Ledger, M: Ledger>(
+pub fn serve<I: Inputs, O: Sink, K: Ledger, L: Ledger>(
     alloc: Global,
     script: &mut ScriptRun,
     host: &mut I,
     out: &mut O,
     limits: &Limits,
-    nested: &mut Steps<M>,
+    nested: &mut Steps<K>,
     steps: &mut Steps<L>,
 ) -> Result<Status, Stop>
     requires opened { (I.state host.old).opened Script ≡ true }

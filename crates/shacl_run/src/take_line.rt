@@ -5,6 +5,7 @@ ghost use Rattle.ttl_meaning.specs.State.{State};
 ghost use Rattle.text_input.specs.ScriptReader.{left_of, GoesOn, MetEnd, ReadsLine, StopsInLine};
 ghost use Rattle.shacl_run.specs.inner.Stops.{StopCause};
 ghost use Rattle.shacl_run.specs.ScriptState.{ScriptState};
+ghost use Rattle.shacl_run.specs.Work.{NoneFell, evaluating};
 ghost use Rattle.shacl_run.specs.Manner.{Manner};
 ghost use Rattle.shacl_run.specs.Names.{HasNamesOf};
 ghost use Rattle.shacl_run.specs.inner.Serving.{GivesReadings, LinesAreReadAt, TakesLine, TakesBytes};
@@ -31,13 +32,13 @@ pub enum Taken {
 }
 
 /// Takes the next line of the script and does what it asks for.
-pub fn take_line<I: Inputs, L: Ledger, M: Ledger>(
+pub fn take_line<I: Inputs, K: Ledger, L: Ledger>(
     alloc: Global,
     reader: &mut ScriptReader,
     script: &mut ScriptRun,
     host: &mut I,
     limits: &Limits,
-    nested: &mut Steps<M>,
+    nested: &mut Steps<K>,
     steps: &mut Steps<L>,
 ) -> Result<Taken, Stop>
     requires opened { (I.state host.old).opened Script ≡ true }
@@ -47,7 +48,8 @@ pub fn take_line<I: Inputs, L: Ledger, M: Ledger>(
         → IsScriptRun manner.limits manner.format s script.old
         → LinesAreReadAt manner s reader.old.budget (left_of reader.old ((I.state host.old).rest Script))
         → IfOk result (TakesLine manner s script.new reader.old reader.new
-        ((I.state host.old).rest Script) ((I.state host.new).rest Script) steps.old steps.new) }
+        ((I.state host.old).rest Script) ((I.state host.new).rest Script)
+        (evaluating steps.old nested.old) (evaluating steps.new nested.new)) }
     ensures read { (end : State) → HasNamesOf end script.old.document
         → IfOk result (GivesReadings limits.now end reader.old reader.new
         ((I.state host.old).rest Script) ((I.state host.new).rest Script)) }
@@ -61,8 +63,8 @@ pub fn take_line<I: Inputs, L: Ledger, M: Ledger>(
     ensures going { reader.old.ended ≡ true → IfErr result (λ stop. stop ≢ Stop.Input) }
     ensures goes_on { GoesOn reader.old (I.state host.old) reader.new (I.state host.new) }
     ensures cause { StopCause (I.state host.old).faults (I.state host.new).faults result }
-    ensures risen { OnOk result (steps.old ≤ steps.new) }
-    ensures nested { nested.new ≡ nested.old }
+    ensures risen { OnOk result
+        (NoneFell (evaluating steps.old nested.old) (evaluating steps.new nested.new)) }
 {
     // So its reading is the one that was told.
     lines_are_read_once();

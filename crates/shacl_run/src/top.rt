@@ -33,14 +33,15 @@ use std::sync::ledger::Ledger;
 
 /// Runs the validator: reads the texts that the words name, writes the report of the data, or the usage, or
 /// the fault of a text, and then answers a script line by line. The report is kept current: an edit evaluates
-/// the pairs that it touches and no others. `steps` counts the evaluations of shapes at their target nodes;
-/// `nested` is not ticked so far.
+/// the pairs that it touches and no others. `steps` counts the evaluations of shapes at their target nodes,
+/// and `nested` those of shapes at value nodes that other shapes ask about: each is evaluated once, and again
+/// only where an edit touches what it has read.
 ///
 /// The terms are found by a hash under `keys`; nothing that a run writes or answers depends on them.
 ///
 /// A text is read in pieces, and past its limit one byte is taken and no more. A report is put in few large
 /// pieces. The answer to a line is put before the next line is waited for.
-pub fn run<H: Inputs, O: Sink, P: PatternHost, L: Ledger, M: Ledger>(
+pub fn run<H: Inputs, O: Sink, P: PatternHost, K: Ledger, L: Ledger>(
     alloc: Global,
     words: &[Text],
     host: &mut H,
@@ -48,7 +49,7 @@ pub fn run<H: Inputs, O: Sink, P: PatternHost, L: Ledger, M: Ledger>(
     patterns: &mut P,
     limits: &Limits,
     keys: TermKeys,
-    nested: &mut Steps<M>,
+    nested: &mut Steps<K>,
     steps: &mut Steps<L>,
 ) -> Status
     requires limits { AreUsable limits.now }
@@ -67,7 +68,7 @@ pub fn run<H: Inputs, O: Sink, P: PatternHost, L: Ledger, M: Ledger>(
     }
 }
 
-fn run_words<H: Inputs, O: Sink, P: PatternHost, L: Ledger, M: Ledger>(
+fn run_words<H: Inputs, O: Sink, P: PatternHost, K: Ledger, L: Ledger>(
     alloc: Global,
     words: &[Text],
     host: &mut H,
@@ -75,7 +76,7 @@ fn run_words<H: Inputs, O: Sink, P: PatternHost, L: Ledger, M: Ledger>(
     patterns: &mut P,
     limits: &Limits,
     keys: TermKeys,
-    nested: &mut Steps<M>,
+    nested: &mut Steps<K>,
     steps: &mut Steps<L>,
 ) -> Result<Status, Stop>
     requires limits { AreUsable limits.now }
@@ -122,7 +123,7 @@ fn refuse_words<O: Sink>(pool: &Pool, out: &mut O) -> Result<Status, Stop>
     Ok(Status::BadWords)
 }
 
-fn run_files<H: Inputs, O: Sink, P: PatternHost, L: Ledger, M: Ledger>(
+fn run_files<H: Inputs, O: Sink, P: PatternHost, K: Ledger, L: Ledger>(
     alloc: Global,
     asked: &Asked<'_>,
     host: &mut H,
@@ -130,7 +131,7 @@ fn run_files<H: Inputs, O: Sink, P: PatternHost, L: Ledger, M: Ledger>(
     patterns: &mut P,
     limits: &Limits,
     pool: Pool,
-    nested: &mut Steps<M>,
+    nested: &mut Steps<K>,
     steps: &mut Steps<L>,
 ) -> Result<Status, Stop>
     requires limits { AreUsable limits.now }

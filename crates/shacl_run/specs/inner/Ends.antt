@@ -1,5 +1,5 @@
 -- How the parts of a run end.
-use Rattle.std.specs.Prelude.{◌≡◌, ◌≢◌, ◌+◌, ◌≤◌, ℕ, List, [], ◌++◌, ◌⊎◌, Option, Some, length, IfSome}
+use Rattle.std.specs.Prelude.{◌≡◌, ◌≢◌, ℕ, List, [], ◌++◌, ◌⊎◌, Option, Some, length, IfSome}
 use Rattle.shx_outside.specs.Counted.{Rose}
 use Rattle.shx_outside.specs.Outside.{SinkState}
 use Rattle.shx_outside.specs.Told.{Grew, Fell}
@@ -10,18 +10,18 @@ use Rattle.text_output.specs.declared.format.Format.{Format}
 use Rattle.text_output.specs.Writes.{Put}
 use Rattle.shacl_run.specs.declared.status.Status.{Status}
 use Rattle.shacl_run.specs.declared.status.Status.TheVariants.{InputFault, WriteFault}
-use Rattle.shacl_run.specs.Outside.{Outside}
+use Rattle.shacl_run.specs.Outside.{Outside, counts}
 use Rattle.shacl_run.specs.Run.{Output, refused}
 use Rattle.shacl_run.specs.Status.{IsAnswered, IsCutShort, IsReported}
+use Rattle.shacl_run.specs.Work.{NoneFell, and_then}
 
--- the bytes put, the status and the work are those that are due, where these are told; the counter of
--- evaluations does not fall
+-- the bytes put, the status and the work are those that are due, where these are told; no counter falls
 pub record PutsWhole (due : Option Output) (status : Status) (before after : Outside) : Type 0 where
   pub written : List ℕ
   pub put : Put before.sink after.sink written
-  pub risen : IsReported status → before.steps ≤ after.steps
+  pub risen : IsReported status → NoneFell (counts before) (counts after)
   pub defined : IfSome due (λ output. (status ≡ output.status) × (written ≡ output.text)
-      × (IsReported status → after.steps ≡ before.steps + output.work.evaluated))
+      × (IsReported status → counts after ≡ and_then (counts before) output.work))
 
 -- the bytes put are a front of the text that is due, where it is told: a proper one where the sink failed
 pub record PutsFront (due : Option Output) (status : Status) (before after : SinkState) : Type 0 where
@@ -31,14 +31,13 @@ pub record PutsFront (due : Option Output) (status : Status) (before after : Sin
   pub begins : IfSome due (λ output.
       (rest : List ℕ) × (output.text ≡ written ++ rest) × (status ≡ WriteFault → rest ≢ []))
 
--- a failure comes only where its count rose, and otherwise no count rose; no nested evaluation is counted
+-- a failure comes only where its count rose, and otherwise no count rose
 pub record EndCauses (status : Status) (before after : Outside) : Type 0 where
   pub input_fault : status ≡ InputFault → Rose before.inputs.faults after.inputs.faults
   pub write_fault : status ≡ WriteFault → Rose before.sink.faults after.sink.faults
   pub used_up : status ≡ WriteFault → (room : ℕ) → before.sink.room ≡ Some room → after.sink.room ≡ Some 0
   pub quiet_inputs : status ≢ InputFault → after.inputs.faults ≡ before.inputs.faults
   pub quiet_sink : status ≢ WriteFault → after.sink.faults ≡ before.sink.faults
-  pub nested_still : after.nested ≡ before.nested
 
 -- how a part of a run ends, from a moment on at which this output is due
 pub record Ends (due : Option Output) (status : Status) (before after : Outside) : Type 0 where

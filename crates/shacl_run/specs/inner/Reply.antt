@@ -1,5 +1,5 @@
 -- Replies to lines, as they are written.
-use Rattle.std.specs.Prelude.{◌≡◌, ◌+◌, ℕ, List, []}
+use Rattle.std.specs.Prelude.{◌≡◌, ℕ, List, []}
 use Rattle.graph_view.specs.Graph.{Graph}
 use Rattle.shape_eval.specs.Plan.{Planned}
 use Rattle.shape_eval.specs.Report.{report}
@@ -11,6 +11,7 @@ use Rattle.shacl_run.specs.declared.script_run.ScriptRun.{ScriptRun}
 use Rattle.shacl_run.specs.Manner.{Manner}
 use Rattle.text_output.specs.declared.format.Format.{Format}
 use Rattle.shacl_run.specs.Script.{Step, step_text}
+use Rattle.shacl_run.specs.Work.{Work, and_then}
 use Rattle.shacl_run.specs.inner.Validation.{IsScriptRun}
 
 -- the report of a graph
@@ -22,10 +23,10 @@ reply_text format plan g (Answers answer) = answer_text format g.terms answer
 reply_text format plan g Report = graph_report format plan g
 reply_text format plan g Nothing = []
 
--- the reply is what the step says, the run of the script is where it leads, and as many pairs were evaluated
-pub record Replies (manner : Manner) (step : Step) (reply : Reply) (script : ScriptRun) (before after : ℕ)
+-- the reply is what the step says, the run of the script is where it leads, and its work was done
+pub record Replies (manner : Manner) (step : Step) (reply : Reply) (script : ScriptRun) (before after : Work)
     : Type 0 where
   pub text : step_text manner.format step
       ≡ reply_text manner.format script.engine.plan script.engine.graph reply
   pub stored : IsScriptRun manner.limits manner.format step.state script
-  pub work : after ≡ before + step.work.evaluated
+  pub work : after ≡ and_then before step.work

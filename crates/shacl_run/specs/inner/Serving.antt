@@ -23,7 +23,7 @@ use Rattle.shacl_run.specs.Run.{Output, behind, ending, first_text, first_work, 
 use Rattle.shacl_run.specs.Script.{Step, step_text, script_step}
 use Rattle.shacl_run.specs.ScriptState.{ScriptState}
 use Rattle.shacl_run.specs.inner.Validation.{IsScriptRun}
-use Rattle.shacl_run.specs.Work.{Work}
+use Rattle.shacl_run.specs.Work.{Work, and_then}
 
 -- the output that is due from a state on, where the rest of the script is told
 abbrev pub due_at : Manner → ScriptState → ℕ → Option (List ℕ) → Option Output
@@ -74,18 +74,18 @@ pub record TakesEnd (manner : Manner) (s : ScriptState) (reader : ReaderState) (
     (output : Output) : Type 0 where
   pub due : IfSome (due_at manner s reader.budget left) (λ due. due ≡ output)
 
--- what came of a line, with where the counter of evaluations stood before and stands after
+-- what came of a line, with where the counters stood before and stand after
 abbrev pub TakesLine : Manner → ScriptState → ScriptRun → ReaderState → ReaderState → Option (List ℕ)
-    → Option (List ℕ) → ℕ → ℕ → Taken → Type 0
-TakesLine manner s script reader reader' rest rest' steps steps' (Replied reply) =
-    (step : Step) × Replies manner step reply script steps steps'
+    → Option (List ℕ) → Work → Work → Taken → Type 0
+TakesLine manner s script reader reader' rest rest' before after (Replied reply) =
+    (step : Step) × Replies manner step reply script before after
     × TakesStep manner s step reader reader' (left_of reader rest) (left_of reader' rest')
-TakesLine manner s script reader reader' rest rest' steps steps' End =
+TakesLine manner s script reader reader' rest rest' before after End =
     IsScriptRun manner.limits manner.format s script
-    × TakesEnd manner s reader (left_of reader rest) (ending manner.format false s) × (steps' ≡ steps)
-TakesLine manner s script reader reader' rest rest' steps steps' PastLimit =
+    × TakesEnd manner s reader (left_of reader rest) (ending manner.format false s) × (after ≡ before)
+TakesLine manner s script reader reader' rest rest' before after PastLimit =
     IsScriptRun manner.limits manner.format s script
-    × TakesEnd manner s reader (left_of reader rest) (ending manner.format true s) × (steps' ≡ steps)
+    × TakesEnd manner s reader (left_of reader rest) (ending manner.format true s) × (after ≡ before)
 
 -- where the lines behind a line that was taken have readings, it and these have
 abbrev pub GivesReadings : Limits → State → ReaderState → ReaderState → Option (List ℕ) → Option (List ℕ)
@@ -106,12 +106,13 @@ TakesBytes line line' budget budget' PastLimit = Unit {0}
 
 -- a report was put whole behind a notice, and the run may end with this status; or it was cut short, or
 -- memory was wanted before it
-abbrev pub PutsReport : Format → ℕ → ScriptState → SinkState → SinkState → ℕ → ℕ → Result Status Stop → Type 0
-PutsReport format notices s before after steps steps' (Ok status) =
-    Put before after (first_text format notices s)
+abbrev pub PutsReport : Format → ℕ → ScriptState → SinkState → SinkState → Work → Work → Result Status Stop
+    → Type 0
+PutsReport format notices s sink sink' before after (Ok status) =
+    Put sink sink' (first_text format notices s)
     × (status ≡ status_of_rows (report s.plan s.graph))
-    × (steps' ≡ steps + (first_work s).evaluated)
-PutsReport format notices s before after steps steps' (Err Input) = ⊥
-PutsReport format notices s before after steps steps' (Err Write) =
-    FellShort before after (first_text format notices s)
-PutsReport format notices s before after steps steps' (Err Memory) = after ≡ before
+    × (after ≡ and_then before (first_work s))
+PutsReport format notices s sink sink' before after (Err Input) = ⊥
+PutsReport format notices s sink sink' before after (Err Write) =
+    FellShort sink sink' (first_text format notices s)
+PutsReport format notices s sink sink' before after (Err Memory) = sink' ≡ sink

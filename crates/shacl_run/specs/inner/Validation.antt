@@ -9,9 +9,11 @@ use Rattle.graph_view.specs.Graph.{Graph}
 use Rattle.graph_view.specs.ListGraph.{plain_graph}
 use Rattle.graph_view.specs.SameGraph.{SameGraph}
 use Rattle.ttl_meaning.specs.State.{State}
+use Rattle.shape_eval.specs.Nested.{nested_pairs}
 use Rattle.shape_eval.specs.Plan.{Planned}
 use Rattle.shape_eval.specs.Planned.{plan_of}
 use Rattle.edit_engine.specs.MayBeAsked.{MayBeAsked}
+use Rattle.edit_engine.specs.Remembered.{AreAllRecalled, answer_of}
 use Rattle.shacl_run.specs.declared.script_run.ScriptRun.{ScriptRun}
 use Rattle.shacl_run.specs.declared.validation.Validation.{Validation}
 use Rattle.text_output.specs.declared.format.Format.{Format}
@@ -30,8 +32,9 @@ pub record HasLimits (limits : Limits) (validation : Validation) : Type 0 where
   pub triples : validation.graph.limit ≡ limits.triples
   pub terms : validation.graph.pool.limit ≡ limits.terms
 
--- no line was answered
+-- no line was answered, and the nested pairs of the graph are to be remembered
 pub record IsStart (s : ScriptState) : Type 0 where
+  pub kept : s.kept ≡ nested_pairs s.plan s.graph
   pub line : s.line ≡ 0
   pub refused : s.refused ≡ false
 
@@ -70,6 +73,7 @@ pub record IsScriptRun (limits : Limits) (format : Format) (s : ScriptState) (sc
     pub stores : SameGraph s.graph script.engine.graph
     pub names_are : HasNamesOf s.data_end script.document
     pub plan_is : script.engine.plan ≡ s.plan
+    pub kept_is : AreAllRecalled (answer_of script.engine.remembered) s.kept
     pub line_is : script.line ≡ s.line
     pub refused_is : script.refused ≡ s.refused
     pub triples : script.engine.triple_limit ≡ limits.triples

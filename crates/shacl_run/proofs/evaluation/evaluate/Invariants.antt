@@ -1,7 +1,9 @@
 use Rattle.std.proofs.Common.{◌≡◌, ◌+◌, length, map, take}
 use Rattle.std.specs.Prelude.{flat_map}
+use Rattle.shape_eval.specs.Answered.{answered}
 use Rattle.shape_eval.specs.Known.{IsKnownOf}
 use Rattle.shape_eval.specs.Planned.{plan_of}
+use Rattle.shape_eval.specs.Recalled.{BringsNested}
 use Rattle.shape_eval.specs.Report.{at_shape}
 use Rattle.shape_eval.specs.Results.{results}
 use Rattle.shape_eval.specs.Targets.{target_nodes}
@@ -17,4 +19,6 @@ invariant-loop-shape g l =
       known : IsKnownOf l.known graph;
       rows : l.rows.items ≡ flat_map (results shapes graph) seen;
       steps : l.steps ≡ l.fn.steps + length seen;
+      nested : BringsNested (λ a keys. Unit {0}) shapes graph (answered l.initial.answers) (answered l.answers) seen
+          l.fn.nested l.nested;
     }

@@ -1,9 +1,15 @@
-use Rattle.std.proofs.Common.{◌∙◌, ap, ◌+◌}
+use Rattle.std.specs.Prelude.{Err, Ok, OnOk, Result}
 use Rattle.std.proofs.lemmas.Result.{IfOk-weaker}
 use Rattle.graph_view.specs.ListGraph.{plain_graph}
 use Rattle.shape_eval.specs.Planned.{plan_of}
+use Rattle.shacl_run.specs.Work.{evaluating}
 use Rattle.shacl_run.proofs.ValidationLemmas.{rows-validation, work-validation}
 use Rattle.shacl_run.proofs.evaluation.report_of.Goals as goal
+
+-- of two facts that hold where a call answers
+on_both : {T E P Q R : Type 0} (r : Result T E) → (P → Q → R) → OnOk r P → OnOk r Q → OnOk r R
+on_both (Ok x) joins p q = joins p q
+on_both (Err e) joins p q = tt
 
 pub returns-clause-rows : goal.returns-clause-rows
 returns-clause-rows g c = λ limits format s is.
@@ -17,9 +23,11 @@ returns-clause-rows g c = λ limits format s is.
 pub returns-clause-work : goal.returns-clause-work
 returns-clause-work g c = λ limits format s is.
     let validation = c.args.validation.now in
-    let alike = c.same_graphs_answer_alike.ensures.pairs (plan_of validation.plan) s.graph
-    (plain_graph validation.graph) is.stores c.requires in
-    IfOk-weaker c.evaluate.result _ _
-    (λ rows steps. steps
-    ∙ ap (λ n. c.args.steps.now + n) (work-validation limits format s validation is alike))
-    c.evaluate.ensures.steps
+    let law = c.same_graphs_answer_alike.ensures in
+    let plan = plan_of validation.plan in
+    let stored = plain_graph validation.graph in
+    on_both c.evaluate.result
+    (work-validation limits format s validation is (law.pairs plan s.graph stored is.stores c.requires)
+    (law.nested plan s.graph stored is.stores c.requires) (evaluating c.args.steps.now c.args.nested.now)
+    (evaluating c.evaluate.new.steps c.evaluate.new.nested))
+    c.evaluate.ensures.steps c.evaluate.ensures.nested

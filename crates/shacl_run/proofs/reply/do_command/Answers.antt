@@ -1,3 +1,4 @@
+use Rattle.shacl_run.specs.Work.{evaluating}
 use Rattle.shacl_run.proofs.ScriptRunLemmas.{Replies-answers, Replies-nothing, Replies-report}
 use Rattle.shacl_run.proofs.reply.do_command.Goals as goal
 
@@ -7,7 +8,7 @@ returns-in-Report-clause-replies g c = λ manner s is.
     let alike = c.same_graphs_answer_alike.ensures.report script.engine.plan s.graph script.engine.graph
     is.stores c.view.ensures.asked in
     rw (c.in-Report.is, c.said.ensures.reply, c.said.ensures.counted)
-    (Replies-report manner s script is c.args.steps.now alike)
+    (Replies-report manner s script is (evaluating c.args.steps.now c.args.nested.now) alike)
 
 pub returns-in-Count-clause-replies : goal.returns-in-Count-clause-replies
 returns-in-Count-clause-replies g c = λ manner s is.
@@ -17,9 +18,10 @@ returns-in-Count-clause-replies g c = λ manner s is.
       c.said-in-Count.ensures.reply,
       c.said-in-Count.ensures.counted,
       ← c.count-answer.ensures manner s is,
-    ) (Replies-answers manner s script is c.args.steps.now c.count-answer.result)
+    ) (Replies-answers manner s script is (evaluating c.args.steps.now c.args.nested.now)
+    c.count-answer.result)
 
 pub returns-in-Nothing-clause-replies : goal.returns-in-Nothing-clause-replies
 returns-in-Nothing-clause-replies g c = λ manner s is.
     rw (c.in-Nothing.is, c.said-in-Nothing.ensures.reply, c.said-in-Nothing.ensures.counted)
-    (Replies-nothing manner s c.args.script.now is c.args.steps.now)
+    (Replies-nothing manner s c.args.script.now is (evaluating c.args.steps.now c.args.nested.now))

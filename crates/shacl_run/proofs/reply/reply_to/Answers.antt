@@ -7,6 +7,7 @@ use Rattle.script_lines.specs.declared.fault.LineFault.TheVariants.{Line}
 use Rattle.shacl_run.specs.inner.Reply.{Replies}
 use Rattle.shacl_run.specs.Readings.{HasReading, IsReadBehind}
 use Rattle.shacl_run.specs.Script.{reading_step}
+use Rattle.shacl_run.specs.Work.{evaluating}
 use Rattle.shacl_run.proofs.reply.reply_to.Goals as goal
 
 pub returns-in-Ok-clause-replies : goal.returns-in-Ok-clause-replies
@@ -21,8 +22,9 @@ returns-in-Ok-clause-replies g c = λ manner s same is told.
     c.lines_are_read_once.ensures limits s.data_end line (manner.lines line) (Ok command)
     told behind in
     subst (λ (reading : Result Command LineFault). IfOk c.do_command.result (λ reply.
-    Replies manner (reading_step manner.limits s reading) reply c.do_command.new.script c.args.steps.now
-    c.do_command.new.steps)) (sym one)
+    Replies manner (reading_step manner.limits s reading) reply c.do_command.new.script
+    (evaluating c.args.steps.now c.args.nested.now)
+    (evaluating c.do_command.new.steps c.do_command.new.nested))) (sym one)
     (c.do_command.ensures.replies manner s is)
 
 pub returns-in-Ok-clause-read : goal.returns-in-Ok-clause-read
@@ -39,17 +41,18 @@ returns-in-Err-Line-clause-replies g c = λ manner s same is told.
     let document = c.args.script.now.document in
     let fault = Line c.in-Err-Line.code c.in-Err-Line.at in
     let refused = rw c.in-Err-Line.field-0-is at c.in-Err-Line.ensures.refused in
+    let work = evaluating c.args.steps.now c.args.nested.now in
     let behind : IsReadBehind limits s.data_end line (Err fault) =
     record { document = document; names = is.names_are; read = refused (λ is. cc) } in
     let one : manner.lines line ≡ Err fault =
     c.lines_are_read_once.ensures limits s.data_end line (manner.lines line) (Err fault)
     told behind in
     subst (λ (reading : Result Command LineFault).
-    Replies manner (reading_step manner.limits s reading) c.refuse_line.result c.refuse_line.new.script
-    c.args.steps.now c.args.steps.now)
+    Replies manner (reading_step manner.limits s reading) c.refuse_line.result c.refuse_line.new.script work
+    work)
     (sym one)
     (rw (c.in-Err-Line.code-is, c.in-Err-Line.at-is)
-    at (c.refuse_line.ensures.replies manner s c.args.steps.now is))
+    at (c.refuse_line.ensures.replies manner s work is))
 
 pub returns-in-Err-Line-clause-read : goal.returns-in-Err-Line-clause-read
 returns-in-Err-Line-clause-read g c = λ end names.

@@ -30,7 +30,7 @@ returns-in_err-script-clause-ends g c = λ manner s patterns same is lines.
     let due = option_map (validation_output manner c.args.validation.passed_over s)
     (inputs.text c.args.name.now) in
     rw (passed_on c.from_residual.result Memory c.from_residual.ensures.1)
-    (Ends-memory due before after (record { sink = refl; inputs = refl; nested = c.open.ensures.nested }))
+    (Ends-memory due before after (record { sink = refl; inputs = refl }))
 
 pub returns-in_err-script-clause-causes : goal.returns-in_err-script-clause-causes
 returns-in_err-script-clause-causes g c = λ limits s patterns is.
@@ -39,7 +39,7 @@ returns-in_err-script-clause-causes g c = λ limits s patterns is.
     let before = outside inputs sink patterns c.args.nested.now c.args.steps.now in
     let after = outside inputs sink patterns c.open.new.nested c.open.new.steps in
     rw (passed_on c.from_residual.result Memory c.from_residual.ensures.1)
-    (Ends-memory None before after (record { sink = refl; inputs = refl; nested = c.open.ensures.nested }))
+    (Ends-memory None before after (record { sink = refl; inputs = refl }))
 
 pub returns-in_err-script-clause-fed : goal.returns-in_err-script-clause-fed
 returns-in_err-script-clause-fed g c = λ manner s same is lines failed opened. absurd (not_opened _ opened)
@@ -88,7 +88,7 @@ returns-in_err-write_current-clause-ends g c = λ manner s patterns same is line
     rw (passed_on exit.result Write exit.ensures.1)
     (Ends-within_report manner.format notices s (option_map (validation_output manner notices s) script)
     (due_at manner s manner.limits.script script) (validation_prefixed manner notices s script) before after
-    refl c.open.ensures.nested writes.err)
+    refl writes.err)
 
 pub returns-in_err-write_current-clause-causes : goal.returns-in_err-write_current-clause-causes
 returns-in_err-write_current-clause-causes g c = λ limits s patterns is.
@@ -101,8 +101,7 @@ returns-in_err-write_current-clause-causes g c = λ limits s patterns is.
     let kept = c.in_ok-script.ensures.opened limits validation.format s is in
     let writes = c.in_err-write_current.ensures limits validation.format s kept in
     rw (passed_on exit.result Write exit.ensures.1)
-    (Ends-within_report validation.format validation.passed_over s None None tt before after refl
-    c.open.ensures.nested writes.err)
+    (Ends-within_report validation.format validation.passed_over s None None tt before after refl writes.err)
 
 pub returns-in_err-write_current-clause-fed : goal.returns-in_err-write_current-clause-fed
 returns-in_err-write_current-clause-fed g c = λ manner s same is lines failed opened.
@@ -155,8 +154,8 @@ returns-in_err-open-clause-ends g c = λ manner s patterns same is lines.
     rw (passed_on exit.result Input exit.ensures.1)
     (Ends-behind_report manner.format notices s (option_map (validation_output manner notices s) script)
     later (validation_prefixed manner notices s script) InputFault before within after writes.ok refl
-    c.open.ensures.nested (c.in_ok-script.ensures.work manner.limits manner.format s is)
-    (Ends-input later within after refl c.in_err-open.ensures.cause.failed refl))
+    (c.in_ok-script.ensures.work manner.limits manner.format s is)
+    (Ends-input later within after refl c.in_err-open.ensures.cause.failed))
 
 pub returns-in_err-open-clause-causes : goal.returns-in_err-open-clause-causes
 returns-in_err-open-clause-causes g c = λ limits s patterns is.
@@ -172,8 +171,8 @@ returns-in_err-open-clause-causes g c = λ limits s patterns is.
     let writes = c.in_ok-write_current.ensures limits validation.format s kept in
     rw (passed_on exit.result Input exit.ensures.1)
     (Ends-behind_report validation.format validation.passed_over s None None tt InputFault before within after
-    writes.ok refl c.open.ensures.nested (c.in_ok-script.ensures.work limits validation.format s is)
-    (Ends-input None within after refl c.in_err-open.ensures.cause.failed refl))
+    writes.ok refl (c.in_ok-script.ensures.work limits validation.format s is)
+    (Ends-input None within after refl c.in_err-open.ensures.cause.failed))
 
 pub returns-in_err-open-clause-read : goal.returns-in_err-open-clause-read
 returns-in_err-open-clause-read g c = λ answered.
@@ -222,7 +221,7 @@ returns-clause-ends g c = λ manner s patterns same is lines.
     Ends-behind_report manner.format notices s (option_map (validation_output manner notices s) script)
     (due_at manner s manner.limits.script script) (validation_prefixed manner notices s script)
     (end_status c.serve.result) before within after writes.ok c.in_ok-open.ensures.cause.quiet
-    c.open.ensures.nested (c.in_ok-script.ensures.work manner.limits manner.format s is)
+    (c.in_ok-script.ensures.work manner.limits manner.format s is)
     (rw (← same) at ((rw c.in_ok-open.ensures.rest at c.serve.ensures.ends) manner s patterns same kept
     lines))
 
@@ -239,7 +238,7 @@ returns-clause-causes g c = λ limits s patterns is.
     let kept = c.in_ok-script.ensures.opened limits validation.format s is in
     let writes = c.in_ok-write_current.ensures limits validation.format s kept in
     Ends-behind_report validation.format validation.passed_over s None None tt (end_status c.serve.result)
-    before within after writes.ok c.in_ok-open.ensures.cause.quiet c.open.ensures.nested
+    before within after writes.ok c.in_ok-open.ensures.cause.quiet
     (c.in_ok-script.ensures.work limits validation.format s is) (c.serve.ensures.causes patterns)
 
 pub returns-clause-fed : goal.returns-clause-fed

@@ -1,7 +1,7 @@
 use Rattle.std.proofs.Common.{None, Some, [], refl}
 use Rattle.shx_outside.specs.declared.role.Role.TheVariants.{Script}
 use Rattle.shx_outside.proofs.ToldLemmas.{OthersStay-same}
-use Rattle.shacl_run.specs.Outside.{outside}
+use Rattle.shacl_run.specs.Outside.{counts, outside}
 use Rattle.shacl_run.specs.Run.{validation_output}
 use Rattle.shacl_run.proofs.OpenedLemmas.{not_opened}
 use Rattle.shacl_run.proofs.ValidationRunLemmas.{Ends-unscripted, puts_in, readings_empty}
@@ -15,25 +15,25 @@ returns-in-None-clause-ends g c = λ manner s patterns same is lines.
     let validation = c.args.validation in
     let inputs = g.I.Inputs.state c.args.host.now in
     let before = outside inputs (g.O.Sink.state c.args.out.now) patterns c.args.nested.now c.args.steps.now in
-    let after = outside inputs (g.O.Sink.state c.put_report.new.out) patterns c.args.nested.now
+    let after = outside inputs (g.O.Sink.state c.put_report.new.out) patterns c.put_report.new.nested
     c.put_report.new.steps in
-    let puts = puts_in manner s validation before.sink after.sink before.steps after.steps
+    let puts = puts_in manner s validation before.sink after.sink (counts before) (counts after)
     c.put_report.result is c.put_report.ensures.puts in
     rw c.in-None.is
     (Ends-unscripted manner.format validation.passed_over s
     (Some (validation_output manner validation.passed_over s []))
     (validation_alone manner validation.passed_over s is.start.refused) c.put_report.result before after puts
-    refl refl)
+    refl)
 
 pub returns-in-None-clause-causes : goal.returns-in-None-clause-causes
 returns-in-None-clause-causes g c = λ limits s patterns is.
     let validation = c.args.validation in
     let inputs = g.I.Inputs.state c.args.host.now in
     let before = outside inputs (g.O.Sink.state c.args.out.now) patterns c.args.nested.now c.args.steps.now in
-    let after = outside inputs (g.O.Sink.state c.put_report.new.out) patterns c.args.nested.now
+    let after = outside inputs (g.O.Sink.state c.put_report.new.out) patterns c.put_report.new.nested
     c.put_report.new.steps in
     Ends-unscripted validation.format validation.passed_over s None tt c.put_report.result before after
-    (c.put_report.ensures.puts limits s is) refl refl
+    (c.put_report.ensures.puts limits s is) refl
 
 pub returns-in-None-clause-fed : goal.returns-in-None-clause-fed
 returns-in-None-clause-fed g c = λ manner s same is lines failed opened.

@@ -55,17 +55,16 @@ returns-in_err-taken-clause-ends g c = λ manner s patterns same is lines.
     let stop = c.in_err-taken.field-0.0 in
     let limit = c.args.limits.now.script in
     let cause = c.in_err-taken.ensures.cause in
-    let nested = c.take_line.ensures.nested in
     rw (passed_on c.from_residual.result stop c.from_residual.ensures.1)
     (by_told (before.rest Script)
     (λ script. Ends (due_at manner s limit script) (stop_status stop) start after)
     ((l.invariant.puts patterns).onward (stop_status stop) after
-    (Ends-stopped Taken None stop at after refl nested cause))
+    (Ends-stopped Taken None stop at after refl cause))
     (λ bytes told.
     let reached = l.invariant.reached manner s patterns bytes same is told lines in
     reached.onward (stop_status stop) after
     (Ends-stopped Taken (due_at manner reached.state l.reader.budget (left_of l.reader (inputs.rest Script)))
-    stop at after refl nested cause)))
+    stop at after refl cause)))
 
 pub returns-in_err-taken-clause-causes : goal.returns-in_err-taken-clause-causes
 returns-in_err-taken-clause-causes g c = λ patterns.
@@ -77,7 +76,7 @@ returns-in_err-taken-clause-causes g c = λ patterns.
     let stop = c.in_err-taken.field-0.0 in
     rw (passed_on c.from_residual.result stop c.from_residual.ensures.1)
     ((l.invariant.puts patterns).onward (stop_status stop) after
-    (Ends-stopped Taken None stop at after refl c.take_line.ensures.nested c.in_err-taken.ensures.cause))
+    (Ends-stopped Taken None stop at after refl c.in_err-taken.ensures.cause))
 
 pub returns-in_err-taken-clause-fed : goal.returns-in_err-taken-clause-fed
 returns-in_err-taken-clause-fed g c = λ manner s same is lines failed. record {
@@ -121,18 +120,17 @@ returns-in_err-write_reply-in-Replied-clause-ends g c = λ manner s patterns sam
     let exit = c.from_residual-in_err-write_reply-in-Replied in
     let short = c.in_err-write_reply-in-Replied.ensures.err in
     let quiet = c.in_ok-taken.ensures.cause in
-    let nested = c.take_line.ensures.nested in
     rw (passed_on exit.result Write exit.ensures.1)
     (by_told (before.rest Script)
     (λ script. Ends (due_at manner s limit script) (stop_status Write) start next)
-    (PutsOn-short start at next _ (l.invariant.puts patterns) quiet nested short)
+    (PutsOn-short start at next _ (l.invariant.puts patterns) quiet short)
     (λ bytes told.
     let reached = l.invariant.reached manner s patterns bytes same is told lines in
     let (step, replies, takes) =
     (rw c.in-Replied.is at c.in_ok-taken.ensures.taken) manner reached.state same reached.stored
     reached.lines in
     Reached-short manner limit s start l.script c.take_line.new.script l.reader c.take_line.new.reader at next
-    reached step c.in-Replied.reply replies takes quiet nested (rw replies.stored.format_is at short)))
+    reached step c.in-Replied.reply replies takes quiet (rw replies.stored.format_is at short)))
 
 pub returns-in_err-write_reply-in-Replied-clause-causes :
     goal.returns-in_err-write_reply-in-Replied-clause-causes
@@ -146,7 +144,7 @@ returns-in_err-write_reply-in-Replied-clause-causes g c = λ patterns.
     let exit = c.from_residual-in_err-write_reply-in-Replied in
     rw (passed_on exit.result Write exit.ensures.1)
     (PutsOn-short start at next _ (l.invariant.puts patterns) c.in_ok-taken.ensures.cause
-    c.take_line.ensures.nested c.in_err-write_reply-in-Replied.ensures.err)
+    c.in_err-write_reply-in-Replied.ensures.err)
 
 pub returns-in_err-write_reply-in-Replied-clause-read :
     goal.returns-in_err-write_reply-in-Replied-clause-read
@@ -171,11 +169,7 @@ returns-in-End-clause-ends g c = λ manner s patterns same is lines.
     let at = outside inputs sink patterns l.nested l.steps in
     let after = outside (g.I.Inputs.state c.take_line.new.host) sink patterns c.take_line.new.nested
     c.take_line.new.steps in
-    let still : IsStill at after = record {
-      sink = refl;
-      inputs = c.in_ok-taken.ensures.cause;
-      nested = c.take_line.ensures.nested;
-    } in
+    let still : IsStill at after = record { sink = refl; inputs = c.in_ok-taken.ensures.cause } in
     let status = c.status.result in
     by_told (before.rest Script)
     (λ script. Ends (due_at manner s c.args.limits.now.script script) status start after)
@@ -200,11 +194,8 @@ returns-in-End-clause-causes g c = λ patterns.
     c.take_line.new.steps in
     let status = c.status.result in
     (l.invariant.puts patterns).onward status after
-    (Ends-answered status at after (reported_answered status c.status.ensures.reported) (record {
-      sink = refl;
-      inputs = c.in_ok-taken.ensures.cause;
-      nested = c.take_line.ensures.nested;
-    }) c.in_ok-taken.ensures.risen)
+    (Ends-answered status at after (reported_answered status c.status.ensures.reported)
+    (record { sink = refl; inputs = c.in_ok-taken.ensures.cause }) c.in_ok-taken.ensures.risen)
 
 pub returns-in-End-clause-fed : goal.returns-in-End-clause-fed
 returns-in-End-clause-fed g c = λ manner s same is lines failed.
@@ -244,11 +235,7 @@ returns-in-PastLimit-clause-ends g c = λ manner s patterns same is lines.
     let still = outside inputs' (g.O.Sink.state l.out) patterns c.take_line.new.nested
     c.take_line.new.steps in
     let ended : Ends last status still after = c.refuse_script.ensures.ends still in
-    let first : IsStill at still = record {
-      sink = refl;
-      inputs = c.in_ok-taken.ensures.cause;
-      nested = c.take_line.ensures.nested;
-    } in
+    let first : IsStill at still = record { sink = refl; inputs = c.in_ok-taken.ensures.cause } in
     let unreported = c.refuse_script.ensures.unreported in
     by_told (before.rest Script)
     (λ script. Ends (due_at manner s c.args.limits.now.script script) status start after)
@@ -279,11 +266,8 @@ returns-in-PastLimit-clause-causes g c = λ patterns.
     c.take_line.new.steps in
     let status = end_status c.refuse_script.result in
     (l.invariant.puts patterns).onward status after
-    (Ends-from_still None status at still after (record {
-      sink = refl;
-      inputs = c.in_ok-taken.ensures.cause;
-      nested = c.take_line.ensures.nested;
-    }) c.refuse_script.ensures.unreported
+    (Ends-from_still None status at still after
+    (record { sink = refl; inputs = c.in_ok-taken.ensures.cause }) c.refuse_script.ensures.unreported
     (Ends-told None _ status still after tt (c.refuse_script.ensures.ends still)))
 
 pub returns-in-PastLimit-clause-read : goal.returns-in-PastLimit-clause-read
@@ -312,7 +296,6 @@ loop-taken-preserved g c =
     c.take_line.new.nested c.take_line.new.steps in
     let put = c.in_ok-write_reply-in-Replied.ensures.ok in
     let quiet = c.in_ok-taken.ensures.cause in
-    let nested = c.take_line.ensures.nested in
     let bytes = rw c.in-Replied.is at c.in_ok-taken.ensures.bytes in
     record {
       goes_on = GoesOn-then l.invariant.goes_on c.take_line.ensures.goes_on;
@@ -320,7 +303,7 @@ loop-taken-preserved g c =
       names = c.take_line.ensures.names ∙ l.invariant.names;
       puts = λ patterns. PutsOn-step (start patterns) (at patterns) (next patterns) _
           (l.invariant.puts patterns)
-          (record { put = put; inputs = quiet; nested = nested; risen = c.in_ok-taken.ensures.risen });
+          (record { put = put; inputs = quiet; risen = c.in_ok-taken.ensures.risen });
       readings = λ end names have. l.invariant.readings end names
           ((rw c.in-Replied.is at c.in_ok-taken.ensures.read) end
           (subst (λ (document : Document). HasNamesOf end document) (sym l.invariant.names) names) have);
@@ -331,5 +314,5 @@ loop-taken-preserved g c =
           reached.lines in
           Reached-step manner c.args.limits.now.script s (start patterns) l.script c.take_line.new.script
           l.reader c.take_line.new.reader (at patterns) (next patterns) reached step c.in-Replied.reply
-          replies takes quiet nested (rw replies.stored.format_is at put);
+          replies takes quiet (rw replies.stored.format_is at put);
     }

@@ -5,6 +5,7 @@ use Rattle.text_input.specs.ScriptReader.{left_of}
 use Rattle.shacl_run.specs.Manner.{Manner}
 use Rattle.shacl_run.specs.Readings.{HasReading}
 use Rattle.shacl_run.specs.Script.{reading_step, refusal}
+use Rattle.shacl_run.specs.Work.{evaluating}
 use Rattle.shacl_run.proofs.LineReadingLemmas.{reads_too_long, readings_none, readings_with}
 use Rattle.shacl_run.proofs.ServingLemmas.{TakesStep-line, end_met, step_once, step_too_long}
 use Rattle.shacl_run.proofs.take_line.take_line.Goals as goal
@@ -57,7 +58,7 @@ returns-in-TooLong-clause-taken g c = λ manner s same is lines.
     let limits = c.args.limits.now in
     let read = rw c.in-TooLong.is at c.in_ok-line.ensures.line in (
       refusal s LINE_TOO_LONG None,
-      c.refuse_line.ensures.replies manner s c.args.steps.now is,
+      c.refuse_line.ensures.replies manner s (evaluating c.args.steps.now c.args.nested.now) is,
       TakesStep-line manner s c.args.reader.now c.next_line.new.reader
           (left_of c.args.reader.now ((g.I.Inputs.state c.args.host.now).rest Script))
           (left_of c.next_line.new.reader ((g.I.Inputs.state c.next_line.new.host).rest Script))

@@ -31,7 +31,7 @@ returns-in-Err-Cut-clause-causes g c =
     let after = outside (g.H.Inputs.state c.prepare.new.host) sink
     (g.P.PatternHost.state c.prepare.new.patterns) c.args.nested.now c.args.steps.now in
     let cause = rw c.in-Err-Cut.field-0-is at c.in-Err-Cut.ensures.cause in
-    rw c.in-Err-Cut.field-0-is (Ends-stopped Validation None c.in-Err-Cut.stop before after refl refl cause)
+    rw c.in-Err-Cut.field-0-is (Ends-stopped Validation None c.in-Err-Cut.stop before after refl cause)
 
 pub returns-in-Err-Cut-clause-opened : goal.returns-in-Err-Cut-clause-opened
 returns-in-Err-Cut-clause-opened g c =

@@ -208,7 +208,7 @@ module _ (n : ℕ) (ended status : Status) (held held' : MemoryHeld) (sink sink'
 pub drilled_none : (words : List (List ℕ)) (before after : Surroundings) (status : Status)
     → AskForNone words → Tells usage_text BadWords before.sink after.sink status
     → IsDrill words before after status
-drilled_none words before after status none told = record {
+drilled_none words _ _ status none told = record {
   usage = λ _. told;
   run = λ n asked. absurd (none n asked);
 }

@@ -20,13 +20,15 @@ pub run-requires-clause-patterns : goal.run-requires-clause-patterns
 run-requires-clause-patterns g c =
     all_admitted c.program-limits.result _ c.requires.patterns (command_words c.deref.result.now) _
 
-pub returns-clause-ran : goal.returns-clause-ran
-returns-clause-ran g c =
+pub returns : goal.returns
+returns g c =
     let held_by : List NamedText → List ℕ → Option (List ℕ) = λ files name. Some (bytes_named files name) in
     record {
-      first = texts_told 0 c.new-inputs.result;
-      last = texts_told 0 c.run.new.host;
-      held = ap held_by (c.new-inputs.ensures.files ∙ c.in_ok-named_texts.ensures);
-      is = run_moved c.program-limits.ensures.exact (c.deref.ensures.value ∙ c.in_ok-words.ensures)
-          c.run.ensures;
+      ran = record {
+        first = texts_told 0 c.new-inputs.result;
+        last = texts_told 0 c.run.new.host;
+        held = ap held_by (c.new-inputs.ensures.files ∙ c.in_ok-named_texts.ensures);
+        is = run_moved c.program-limits.ensures.exact (c.deref.ensures.value ∙ c.in_ok-words.ensures)
+            c.run.ensures;
+      };
     }

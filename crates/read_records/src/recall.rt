@@ -18,9 +18,9 @@ use shx_term::{Memory, Triple};
 use std::alloc::Global;
 use std::marker::Model;
 
-/// The results of pairs, and what these were read from. An answer is remembered where it is staged, or where
-/// it is kept and not masked; a staged one hides a kept one. Changes are staged, which takes all the memory
-/// that they need, and then made at once, or dropped.
+/// The results of pairs, and what these were read from. Of a pair that is remembered which is staged for it,
+/// and what is kept where nothing is; a mask is staged where nothing is to be remembered. Changes are staged,
+/// which takes all the memory that they need, and then made at once, or dropped.
 #[derive(Drop)]
 pub struct Recall {
     store: Store<RowList>,

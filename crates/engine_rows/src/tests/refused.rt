@@ -1,5 +1,5 @@
-//! Edits over a graph that answers for want of memory: whichever look-up is refused, the engine tells the same
-//! as before, and the edit may be made once more.
+//! Edits over a graph that answers for want of memory: whichever look-up is refused, the engine tells the
+//! same as before, and the edit may be made once more.
 ghost use Rattle.std.specs.Prelude.{◌≡◌, ◌<◌, length};
 ghost use Rattle.shape_eval.specs.Planned.{plan_of};
 ghost use Rattle.graph_view.specs.ListGraph.{plain_graph};
@@ -100,8 +100,8 @@ fn told_of<V: GraphEdit>(alloc: Global, engine: &Engine<V>) -> Result<Told, Memo
     Ok(told)
 }
 
-// Whether an edit evaluates so many pairs once no look-up is refused, and the engine tells the same after each
-// refusal before.
+// Whether an edit evaluates so many pairs once no look-up is refused, and the engine tells the same after
+// each refusal before.
 fn outlasts<K: Ledger, L: Ledger>(
     alloc: Global,
     engine: &mut Engine<Watched>,

@@ -19,6 +19,6 @@ invariant-loop-shape g l =
       known : IsKnownOf l.known graph;
       rows : l.rows.items ≡ flat_map (results shapes graph) seen;
       steps : l.steps ≡ l.fn.steps + length seen;
-      nested : BringsNested (λ a keys. Unit {0}) shapes graph (answered l.initial.answers) (answered l.answers) seen
-          l.fn.nested l.nested;
+      nested : BringsNested (λ a keys. Unit {0}) shapes graph (answered l.initial.answers)
+          (answered l.answers) seen l.fn.nested l.nested;
     }

@@ -1,10 +1,13 @@
--- Triples of terms, and the same triples over the numbers of their terms.
-use Rattle.std.specs.Prelude.{ℕ, List, [], ◌∷◌, flat_map, Option, Some, None, position}
+-- Triples of terms, when two are the same, and the same triples over the numbers of their terms.
+use Rattle.std.specs.Prelude.{ℕ, Bool, ◌&&◌, List, [], ◌∷◌, flat_map, Option, Some, None, position}
 use Rattle.std.specs.List.{filter_map}
 use Rattle.shx_term.specs.declared.term.Term.{Term}
 use Rattle.shx_term.specs.declared.triple.Triple.{Triple}
 use Rattle.shx_term.specs.declared.triple.TermTriple.{TermTriple}
 use Rattle.shx_term.specs.TermOrder.{same_term}
+
+abbrev pub same_term_triple : TermTriple → TermTriple → Bool
+same_term_triple t u = same_term t.s u.s && (same_term t.p u.p && same_term t.o u.o)
 
 -- the terms that triples need, in their order
 abbrev pub terms_of : List TermTriple → List Term

@@ -1,4 +1,7 @@
-use crate::Term;
+ghost use Rattle.std.specs.Prelude.{◌≡◌, IfOk};
+
+use crate::{Memory, Term};
+use std::alloc::Global;
 use std::hash::{Hash, Hasher};
 
 /// The number of a term in a pool.
@@ -49,6 +52,55 @@ impl Hash for Triple {
     ghost hash_input = { hashed_triple };
 
     ghost respects_eq = { λ a b h. ap hashed_triple (same_triple_exact a b h) };
+
+    fn hash<H: Hasher>(&self, state: &mut H) {
+        self.s.hash(state);
+        self.p.hash(state);
+        self.o.hash(state);
+    }
+}
+
+impl TermTriple {
+    /// An equal triple of its own.
+    pub fn copy(&self, alloc: Global) -> Result<TermTriple, Memory>
+        ensures { IfOk result (λ copy. copy ≡ self.now) }
+    {
+        Ok(TermTriple {
+            s: self.s.copy(alloc)?,
+            p: self.p.copy(alloc)?,
+            o: self.o.copy(alloc)?,
+        })
+    }
+}
+
+impl PartialEq for TermTriple {
+    ghost use Rattle.std.specs.Cmp;
+    ghost use Rattle.shx_term.specs.TripleTerms.{same_term_triple};
+    ghost use Rattle.shx_term.specs.inner.TripleLaws.{same_term_triple_equiv};
+
+    ghost eq = { same_term_triple };
+
+    ghost laws = { Cmp.partial_equiv_from_equiv same_term_triple_equiv };
+
+    fn eq(&self, other: &Self) -> bool {
+        self.s == other.s && self.p == other.p && self.o == other.o
+    }
+}
+
+impl Eq for TermTriple {
+    ghost use Rattle.shx_term.specs.inner.TripleLaws.{same_term_triple_equiv};
+
+    ghost laws = { same_term_triple_equiv };
+}
+
+impl Hash for TermTriple {
+    ghost use Rattle.std.proofs.Common.{ap};
+    ghost use Rattle.shx_term.specs.inner.TermHash.{hashed_term_triple};
+    ghost use Rattle.shx_term.specs.inner.TripleLaws.{same_term_triple_exact};
+
+    ghost hash_input = { hashed_term_triple };
+
+    ghost respects_eq = { λ a b h. ap hashed_term_triple (same_term_triple_exact a b h) };
 
     fn hash<H: Hasher>(&self, state: &mut H) {
         self.s.hash(state);

@@ -11,6 +11,7 @@ use Rattle.shx_term.specs.declared.term.BlankName.{BlankName}
 use Rattle.shx_term.specs.declared.term.LocalName.{LocalName}
 use Rattle.shx_term.specs.declared.term.LocalName.TheVariants.{Labelled, Anonymous}
 use Rattle.shx_term.specs.declared.term.Literal.{Literal}
+use Rattle.shx_term.specs.declared.triple.TermTriple.{TermTriple}
 
 abbrev pub hashed_scope : Scope → fed.HashWrites
 hashed_scope Data = fed.u8 1
@@ -34,3 +35,6 @@ abbrev pub hashed : Term → fed.HashWrites
 hashed (Iri iri) = fed.u8 0 ++ (iri ∷ [])
 hashed (Blank blank) = hashed_blank blank
 hashed (Lit literal) = hashed_literal literal
+
+abbrev pub hashed_term_triple : TermTriple → fed.HashWrites
+hashed_term_triple t = hashed t.s ++ (hashed t.p ++ hashed t.o)

@@ -1,3 +1,4 @@
 pub mod HeldKeys
 pub mod KeyLaws
+pub mod Merged
 pub mod NotesLaws

@@ -39,6 +39,7 @@ mod triple_set;
 mod view;
 
 pub use among::{objects_among, subjects_among, triples_among};
+pub use changed::{Found, merged};
 pub use edit::{GraphEdit, StoreFault, edits_agree};
 pub use key::{Key, keys_of, touches};
 pub use laws::{agreement_keeps, edits_are_patches, valid_views_stay};

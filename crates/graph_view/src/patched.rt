@@ -95,7 +95,7 @@ impl<'a, V: GraphView> GraphView for Patched<'a, V> {
         let found = self.base.objects(alloc, s, p, reads)?;
         let gone = objects_among(alloc, self.removed, &key)?;
         let new = objects_among(alloc, self.added, &key)?;
-        changed(self.base.pool(), found, &gone, &new)
+        changed(alloc, self.base.pool(), found, &gone, new)
     }
 
     fn subjects<N: Notes>(
@@ -109,7 +109,7 @@ impl<'a, V: GraphView> GraphView for Patched<'a, V> {
         let found = self.base.subjects(alloc, p, o, reads)?;
         let gone = subjects_among(alloc, self.removed, &key)?;
         let new = subjects_among(alloc, self.added, &key)?;
-        changed(self.base.pool(), found, &gone, &new)
+        changed(alloc, self.base.pool(), found, &gone, new)
     }
 
     fn triples_of<N: Notes>(
@@ -122,7 +122,7 @@ impl<'a, V: GraphView> GraphView for Patched<'a, V> {
         let found = self.base.triples_of(alloc, s, reads)?;
         let gone = triples_among(alloc, self.removed, &key)?;
         let new = triples_among(alloc, self.added, &key)?;
-        changed(self.base.pool(), found, &gone, &new)
+        changed(alloc, self.base.pool(), found, &gone, new)
     }
 
     fn triples_with<N: Notes>(
@@ -135,7 +135,7 @@ impl<'a, V: GraphView> GraphView for Patched<'a, V> {
         let found = self.base.triples_with(alloc, p, reads)?;
         let gone = triples_among(alloc, self.removed, &key)?;
         let new = triples_among(alloc, self.added, &key)?;
-        changed(self.base.pool(), found, &gone, &new)
+        changed(alloc, self.base.pool(), found, &gone, new)
     }
 }
 

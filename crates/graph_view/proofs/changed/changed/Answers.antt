@@ -3,8 +3,8 @@ use Rattle.std.specs.List.{list_any}
 use Rattle.std.proofs.lemmas.List.Kept.{IsStrictlySortedBy-filter}
 use Rattle.graph_view.proofs.changed.changed.Goals as goal
 
-pub put_all-requires : goal.put_all-requires
-put_all-requires g c =
+pub merged-requires : goal.merged-requires
+merged-requires g c =
     let cmp = g.T.Found.order c.args.pool.now.terms in
     record {
       sorted = rw c.leave_out.ensures

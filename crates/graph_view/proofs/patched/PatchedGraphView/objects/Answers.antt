@@ -16,7 +16,6 @@ returns-clause-objects g c =
     IfOk-gives c.changed.result (λ found. found.items) c.changed.ensures (rw (
       c.pool.ensures.terms,
       c.deref.ensures.value,
-      c.deref-2.ensures.value,
       c.in_ok-found.ensures.objects,
       c.in_ok-gone.ensures,
       c.in_ok-new.ensures,

@@ -18,7 +18,6 @@ returns-clause-triples g c =
     IfOk-gives c.changed.result (λ found. found.items) c.changed.ensures (rw (
       c.pool.ensures.terms,
       c.deref.ensures.value,
-      c.deref-2.ensures.value,
       c.in_ok-found.ensures.triples,
       c.in_ok-gone.ensures,
       c.in_ok-new.ensures,

@@ -3,3 +3,4 @@ pub mod DealingLemmas
 pub mod IndexLemmas
 pub mod IndexesLemmas
 pub mod RangeLemmas
+mod OverlayLemmas

@@ -7,6 +7,8 @@
 //! | `dealing.rt` | `deal`: triples by one of their numbers, by counting |
 //! | `dealer.rt` | `Dealer`: triples that are dealt by one number after another |
 //! | `indexes.rt` | `Indexes`: three of them, with the same triples, made of a list that is dealt or sorted |
+//! | `changes.rt` | `Changes`: the triples of a change, in indexes |
+//! | `overlay.rt` | `Overlay`: a graph without some triples and with others, of which there may be many |
 //! | `store.rt` | `Store`: a pool and the indexes, made of triples at once; both traits of `graph_view` |
 //!
 //! It stands on `shx_term` and `graph_view`. Start with `store.rt`; what it is to its callers is said by the
@@ -16,10 +18,13 @@
 #![tactic(auto)]
 
 mod arrangement;
+mod changes;
 mod dealer;
 mod dealing;
 mod index;
 mod indexes;
+mod overlay;
 mod store;
 
+pub use overlay::Overlay;
 pub use store::Store;

@@ -1,170 +1,95 @@
--- What an edit makes of an engine: whether its triple is there, and what comes of it.
-use Rattle.std.specs.Prelude.{◌≡◌, ℕ, ◌<◌, ◌≤◌, Bool, true, false, [], ◌∷◌, List, Some, length, nat_le}
-use Rattle.std.specs.Prelude.{Contains, ◌↔◌, IsTrue}
-use Rattle.std.specs.Option.{option_to_list}
+-- What a change makes of an engine: what comes of it, and that this is done.
+use Rattle.std.specs.Prelude.{◌≡◌, ℕ, ◌<◌, ◌≤◌, ◌==◌, Bool, true, false, nat_le, List, ◌++◌, length}
 use Rattle.std.proofs.Common.{refl, sym, ap, ◌∙◌, subst}
-use Rattle.std.proofs.lemmas.Bool.{le-ltb, leb-true, lt-leb}
+use Rattle.std.proofs.Math.Bool.{and-false}
+use Rattle.std.proofs.lemmas.Bool.{le-ltb, leb-true}
 use Rattle.shx_term.specs.declared.term.Term.{Term}
 use Rattle.shx_term.specs.declared.triple.Triple.{Triple}
-use Rattle.shx_term.specs.declared.triple.TermTriple.{TermTriple}
 use Rattle.shx_term.specs.Pool.{Pooled, with_terms}
-use Rattle.shx_term.specs.TripleTerms.{numbered, terms_of, triple_of_numbers}
-use Rattle.graph_view.specs.Graph.{AllKnown, Graph}
-use Rattle.graph_view.specs.Patched.{IsPatch, patched}
+use Rattle.shx_term.specs.TripleTerms.{terms_of}
+use Rattle.edit_history.specs.declared.net.Net.{Net}
+use Rattle.graph_view.specs.Graph.{Graph}
+use Rattle.graph_view.specs.Patched.{patched}
 use Rattle.graph_view.specs.SameGraph.{SameGraph}
 use Rattle.comp_core.specs.declared.pair.Pair.{Pair}
 use Rattle.shape_eval.specs.Recalled.{IsRecalled}
-use Rattle.edit_engine.specs.Touched.{touched_pairs}
 use Rattle.edit_engine.specs.declared.edit.Change.{Change}
-use Rattle.shx_term.specs.declared.edit.Edit.{Edit}
-use Rattle.shx_term.specs.declared.edit.Edit.TheVariants.{Insert, Remove}
-use Rattle.edit_engine.specs.declared.stated.Found.{Found}
-use Rattle.edit_engine.specs.Applied.{Applies, BringsFreshBy, HasMoreTerms, IsEdited, applied_as}
-use Rattle.edit_engine.specs.Applied.{outcome_of}
-use Rattle.edit_engine.specs.Edits.{Effect, NoEffect, changed_by, edited, graph_with, graph_without}
-use Rattle.edit_engine.specs.Edits.{is_among, is_stated, terms_with}
+use Rattle.edit_engine.specs.Applied.{Applies, IsChanged, applied_as, outcome_of}
 use Rattle.edit_engine.specs.EngineState.{EngineState}
+use Rattle.edit_engine.specs.Nets.{Effect, count_after, is_no_change}
+use Rattle.edit_engine.specs.Nets.{changed_by, graph_after, terms_after}
 use Rattle.edit_engine.specs.Remembered.{BringsFresh, answer_of}
-use Rattle.edit_engine.specs.inner.Stated.{IsFound, found_triple}
+use Rattle.edit_engine.specs.Touched.{touched_pairs}
 use Rattle.edit_engine.proofs.AlikeLemmas.{AreAlike, brings_alike, touched_alike}
-use Rattle.edit_engine.proofs.PatchLemmas.{IsPatch-added, patched_with, patched_without}
-use Rattle.edit_engine.proofs.StatedLemmas.{absent_after, numbered_known, stated_where_found}
+use Rattle.edit_engine.proofs.PatchLemmas.{IsAtHand, changed_is, patched_is}
 
--- ---- whether a triple is there
+-- ---- what comes of a change
 
--- what was found is the triple over its numbers
-found_numbered : (terms pool : List Term) (t : TermTriple) (found : Found) → pool ≡ terms
-    → IsFound pool t found → found_triple found ≡ numbered terms t
-found_numbered terms pool t found same is =
-    let here : found_triple found ≡ numbered pool t = λ i. triple_of_numbers (is.s i) (is.p i) (is.o i) in
-    here ∙ ap (λ xs. numbered xs t) same
+pub adds_some : (net : Net) → (length net.added == 0) ≡ false → is_no_change net ≡ false
+adds_some net some = rw some refl
 
-pub numbered_found : (terms pool : List Term) (t : TermTriple) (found : Found) (u : Triple) → pool ≡ terms
-    → IsFound pool t found → Some u ≡ found_triple found → numbered terms t ≡ Some u
-numbered_found terms pool t found u same is whole = sym (whole ∙ found_numbered terms pool t found same is)
+pub removes_some : (net : Net) → (length net.removed == 0) ≡ false → is_no_change net ≡ false
+removes_some net some = rw some (and-false (length net.added == 0))
 
--- a test of what was found says whether the triple is there
-pub stated_where_held : (old now : EngineState) → old ≡ now → (pool : List Term) (t : TermTriple)
-    (found : Found) (held : Bool) → pool ≡ old.graph.terms → IsFound pool t found
-    → held ≡ is_among now.graph.triples (found_triple found) → is_stated old.graph t ≡ held
-stated_where_held old now same pool t found held terms is test =
-    ap (is_among old.graph.triples) (sym (found_numbered old.graph.terms pool t found terms is))
-    ∙ ap (λ state. is_among state.graph.triples (found_triple found)) same
-    ∙ sym test
+-- what a test of the room for triples says
+pub few_where_fits : (old now : EngineState) → old ≡ now → (net : Net) (fits : Bool)
+    → fits ≡ nat_le (count_after now.graph net) now.triple_limit → fits ≡ true
+    → count_after old.graph net ≤ old.triple_limit
+few_where_fits old now same net fits test so =
+    subst (λ (state : EngineState). count_after state.graph net ≤ state.triple_limit) (sym same)
+    (leb-true (count_after now.graph net) now.triple_limit (sym test ∙ so))
 
--- ---- insertions
-
--- the triple is not there, and there is room for it
-pub record MayBeInserted (state : EngineState) (t : TermTriple) : Type 0 where
-  pub absent : is_stated state.graph t ≡ false
-  pub few : length state.graph.triples < state.triple_limit
-  pub room : length (terms_with state.graph t) ≤ state.term_limit
-
-insertion_effect : (state : EngineState) (t : TermTriple) → MayBeInserted state t
-    → outcome_of state (Insert t) ≡ Effect
-insertion_effect state t may =
-    let below = lt-leb state.triple_limit (length state.graph.triples) may.few in
-    let fits = le-ltb state.term_limit (length (terms_with state.graph t)) may.room in
-    rw (may.absent, below, fits) refl
-
--- what a test of the pool says of the room for the terms of a triple
-pub room_where_fits : (g : Graph) (limit : ℕ) (pool : Pooled) (t : TermTriple) (fits : Bool)
+-- what a test of the pool says of the room for the terms of what is added
+pub room_where_fits : (g : Graph) (limit : ℕ) (pool : Pooled) (net : Net) (fits : Bool)
     → pool.terms ≡ g.terms → pool.limit ≡ limit
-    → fits ≡ nat_le (length (with_terms pool.terms (terms_of (t ∷ [])))) pool.limit → fits ≡ true
-    → length (terms_with g t) ≤ limit
-room_where_fits g limit pool t fits terms most test so =
-    let within = leb-true (length (with_terms pool.terms (terms_of (t ∷ [])))) pool.limit (sym test ∙ so) in
-    subst (λ xs. length (with_terms xs (terms_of (t ∷ []))) ≤ limit) terms
-    (subst (λ n. length (with_terms pool.terms (terms_of (t ∷ []))) ≤ n) most within)
+    → fits ≡ nat_le (length (with_terms pool.terms (terms_of net.added))) pool.limit → fits ≡ true
+    → length (terms_after g net) ≤ limit
+room_where_fits g limit pool net fits terms most test so =
+    let within = leb-true (length (with_terms pool.terms (terms_of net.added))) pool.limit (sym test ∙ so) in
+    subst (λ (xs : List Term). length (with_terms xs (terms_of net.added)) ≤ limit) terms
+    (subst (λ n. length (with_terms pool.terms (terms_of net.added)) ≤ n) most within)
 
--- a triple that is not there and whose terms were entered may be added
-pub IsPatch-inserted : {due : List Term} (g h : Graph) (t : TermTriple) (u : Triple) → AllKnown g
-    → is_stated g t ≡ false → HasMoreTerms due g h → h.terms ≡ terms_with g t → numbered h.terms t ≡ Some u
-    → IsPatch h (u ∷ []) []
-IsPatch-inserted g h t u known absent more terms number =
-    IsPatch-added h u (numbered_known h.terms t u number) (λ held.
-    absent_after g t h.terms u known absent terms number (subst (λ us. Contains us u) more.triples held))
+pub effect : (state : EngineState) (net : Net) → is_no_change net ≡ false
+    → count_after state.graph net ≤ state.triple_limit
+    → length (terms_after state.graph net) ≤ state.term_limit
+    → outcome_of state net ≡ Effect
+effect state net changes few room =
+    let within = le-ltb state.triple_limit (count_after state.graph net) few in
+    let fits = le-ltb state.term_limit (length (terms_after state.graph net)) room in
+    rw (changes, within, fits) refl
 
--- what is brought, where the change is that of an edit
-brings_by : (old : EngineState) (edit : Edit) (new : EngineState) {h : Graph} {changed : List Triple}
-    {before after : ℕ} → h ≡ edited old.graph edit → changed_by old.graph edit ≡ changed
-    → BringsFresh old.plan old.graph h changed (answer_of old.remembered) (answer_of new.remembered) before
-    after
-    → BringsFreshBy old edit new before after
-brings_by old edit new {h} {changed} {before} {after} made is brings =
-    let at = λ (k : Graph) (ts : List Triple).
-    BringsFresh old.plan old.graph k ts (answer_of old.remembered) (answer_of new.remembered) before after in
-    subst (λ k. at k (changed_by old.graph edit)) made (subst (at h) (sym is) brings)
+-- ---- what is done
 
-module _ (old now new : EngineState) (same : old ≡ now) (t : TermTriple) (u : Triple) (n before after : ℕ)
-  where
-    abbrev change : Change
-    change = record { changed = true; evaluated = n }
+-- what was made over the terms entered is made of the graph before
+module _ (old now new : EngineState) (same : old ≡ now) (net : Net) (n before after : ℕ) where
+  abbrev change : Change
+  change = record { changed = true; evaluated = n }
 
-    -- the triple is added over its terms
-    pub Applies-inserted : (h : Graph) → AreAlike old.plan old.graph h → h.terms ≡ terms_with old.graph t
-        → h.triples ≡ old.graph.triples → numbered h.terms t ≡ Some u → MayBeInserted old t
-        → SameGraph (patched h (u ∷ []) []) new.graph
-        → n ≡ length (touched_pairs old.plan h (patched h (u ∷ []) []) (u ∷ []))
-        → ((p : Pair) → IsRecalled (answer_of old.remembered) p → p.node < length old.graph.terms)
-        → BringsFresh old.plan h (patched h (u ∷ []) []) (u ∷ []) (answer_of old.remembered)
-        (answer_of new.remembered) before after
-        → Applies now (Insert t) change new before after
-    Applies-inserted h alike terms triples number may graph count inside brings =
-        let g = old.graph in
-        let made : patched h (u ∷ []) [] ≡ graph_with g t =
-        patched_with g h t u terms triples number in
-        let it : numbered (terms_with g t) t ≡ Some u = subst (λ xs. numbered xs t ≡ Some u) terms number in
-        let touched = touched_alike old.plan g h alike (u ∷ []) (patched h (u ∷ []) []) in
-        let fresh = brings_alike old.plan g h alike (patched h (u ∷ []) []) (u ∷ [])
-        (answer_of old.remembered) (answer_of new.remembered) before after inside brings in
-        let is : IsEdited old (Insert t) change new before after = record {
-          changed = refl;
-          graph = subst (λ k. SameGraph k new.graph) made graph;
-          evaluated = count
-              ∙ sym (ap length touched)
-              ∙ (λ i. length (touched_pairs old.plan g (made i) (option_to_list (sym it i))));
-          nested = brings_by old (Insert t) new made (ap option_to_list it) fresh;
-        } in
-        subst (λ state. Applies state (Insert t) change new before after) same
-        (subst (applied_as old (Insert t) change new before after) (sym (insertion_effect old t may)) is)
-
-    -- ---- removals
-
-    pub Applies-removed : numbered old.graph.terms t ≡ Some u → Contains old.graph.triples u
-        → SameGraph (patched now.graph [] (u ∷ [])) new.graph
-        → n ≡ length (touched_pairs now.plan now.graph (patched now.graph [] (u ∷ [])) (u ∷ []))
-        → BringsFresh now.plan now.graph (patched now.graph [] (u ∷ [])) (u ∷ [])
-        (answer_of now.remembered) (answer_of new.remembered) before after
-        → Applies now (Remove t) change new before after
-    Applies-removed number held graph count brings =
-        let g = now.graph in
-        let number' : numbered g.terms t ≡ Some u =
-        subst (λ state. numbered state.graph.terms t ≡ Some u) same number in
-        let held' : Contains g.triples u = subst (λ state. Contains state.graph.triples u) same held in
-        let made : patched g [] (u ∷ []) ≡ graph_without g t = patched_without g t u number' in
-        let stated : is_stated g t ≡ true =
-        stated_where_found g t u true number' (λ _. held', λ _. refl) in
-        let effect : outcome_of now (Remove t) ≡ Effect = rw stated refl in
-        let is : IsEdited now (Remove t) change new before after = record {
-          changed = refl;
-          graph = subst (λ k. SameGraph k new.graph) made graph;
-          evaluated = count
-              ∙ (λ i. length (touched_pairs now.plan g (made i) (option_to_list (sym number' i))));
-          nested = brings_by now (Remove t) new made (ap option_to_list number') brings;
-        } in
-        subst (applied_as now (Remove t) change new before after) (sym effect) is
-
--- a triple that is not there is not removed
-pub Applies-not_there : (old now : EngineState) → old ≡ now → (t : TermTriple) (u : Triple) (held : Bool)
-    → numbered old.graph.terms t ≡ Some u → (IsTrue held ↔ Contains old.graph.triples u) → held ≡ false
-    → (count : ℕ) → Applies now (Remove t) (record { changed = false; evaluated = 0 }) now count count
-Applies-not_there old now same t u held number says out count =
-    let change : Change = record { changed = false; evaluated = 0 } in
-    let absent : is_stated old.graph t ≡ false =
-    stated_where_found old.graph t u held number says ∙ out in
-    let none : outcome_of now (Remove t) ≡ NoEffect =
-    let here : is_stated now.graph t ≡ false = subst (λ state. is_stated state.graph t ≡ false) same absent in
-    rw here refl in
-    subst (applied_as now (Remove t) change now count count) (sym none)
-    (record { changed = refl; evaluated = refl; same = refl; nested = refl })
+  pub Applies-changed : {h : Graph} {added gone : List Triple} → IsAtHand old.graph h net added gone
+      → AreAlike old.plan old.graph h → outcome_of old net ≡ Effect
+      → SameGraph (patched h added gone) new.graph
+      → n ≡ length (touched_pairs old.plan h (patched h added gone) (added ++ gone))
+      → ((p : Pair) → IsRecalled (answer_of old.remembered) p → p.node < length old.graph.terms)
+      → BringsFresh old.plan h (patched h added gone) (added ++ gone) (answer_of old.remembered)
+      (answer_of new.remembered) before after
+      → Applies now net change new before after
+  Applies-changed {h} {added} {gone} at alike effect graph count inside brings =
+      let g = old.graph in
+      let made : patched h added gone ≡ graph_after g net = patched_is at in
+      let by : added ++ gone ≡ changed_by g net = changed_is at in
+      let touched = touched_alike old.plan g h alike (added ++ gone) (patched h added gone) in
+      let fresh = brings_alike old.plan g h alike (patched h added gone) (added ++ gone)
+      (answer_of old.remembered) (answer_of new.remembered) before after inside brings in
+      let is : IsChanged old net change new before after = record {
+        changed = refl;
+        graph = subst (λ k. SameGraph k new.graph) made graph;
+        evaluated = count
+            ∙ sym (ap length touched)
+            ∙ (λ i. length (touched_pairs old.plan g (made i) (by i)));
+        nested = subst (λ k. BringsFresh old.plan g k (changed_by g net) (answer_of old.remembered)
+            (answer_of new.remembered) before after) made
+            (subst (λ ts. BringsFresh old.plan g (patched h added gone) ts (answer_of old.remembered)
+            (answer_of new.remembered) before after) by fresh);
+      } in
+      subst (λ state. Applies state net change new before after) same
+      (subst (applied_as old net change new before after) (sym effect) is)

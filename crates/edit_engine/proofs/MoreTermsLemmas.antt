@@ -1,9 +1,12 @@
 -- Terms that are entered in turn beside the same triples.
-use Rattle.std.specs.Prelude.{List, [], ◌∷◌, ◌++◌, All, Contains}
-use Rattle.std.proofs.Common.{ap, ◌∙◌, append_assoc}
+use Rattle.std.specs.Prelude.{◌≡◌, ℕ, ◌<◌, List, [], ◌∷◌, ◌++◌, length, All, Contains}
+use Rattle.std.proofs.Common.{append_assoc, get_or, sym, ap, ◌∙◌, subst}
 use Rattle.std.proofs.lemmas.List.Elements.{All-append, All-cons, All-nil, All-weaker}
 use Rattle.shx_term.specs.declared.term.Term.{Term}
-use Rattle.shx_term.proofs.MemberLemmas.{Contains-head, Contains-tail, each_of_All}
+use Rattle.shx_term.specs.declared.triple.TermTriple.{TermTriple}
+use Rattle.shx_term.specs.TripleTerms.{terms_of}
+use Rattle.shx_term.proofs.MemberLemmas.{All_of_each, Contains-at, Contains-flat_map, Contains-head}
+use Rattle.shx_term.proofs.MemberLemmas.{Contains-tail, each_of_All}
 use Rattle.graph_view.specs.Graph.{Graph}
 use Rattle.edit_engine.specs.Applied.{HasMoreTerms}
 
@@ -28,6 +31,18 @@ HasMoreTerms-then {due} {g} {h} {i} first second = record {
       ∙ append_assoc g.terms first.more second.more;
   triples = second.triples ∙ first.triples;
 }
+
+-- those of one triple of a list more
+pub more_next : {g h i : Graph} (xs : List TermTriple) (k : ℕ) (x : TermTriple) → k < length xs
+    → x ≡ get_or xs k x → HasMoreTerms (terms_of xs) g h → HasMoreTerms (terms_of (x ∷ [])) h i
+    → HasMoreTerms (terms_of xs) g i
+more_next xs k x inside at first second =
+    let three : TermTriple → List Term = λ t. t.s ∷ (t.p ∷ (t.o ∷ [])) in
+    let member : Contains xs x = subst (Contains xs) (sym at) (Contains-at xs k x inside) in
+    let within : All (Contains (terms_of xs)) (terms_of (x ∷ [])) =
+    All_of_each (Contains (terms_of xs)) (terms_of (x ∷ []))
+    (λ t c. Contains-flat_map three xs x t member c) in
+    HasMoreTerms-then first (HasMoreTerms-wider (terms_of xs) within second)
 
 -- ---- the terms of a triple
 

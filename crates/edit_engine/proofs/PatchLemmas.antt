@@ -1,85 +1,73 @@
--- Edits as patches: one triple that is added, or removed.
-use Rattle.std.specs.Prelude.{◌≡◌, ℕ, ◌<◌, ◌≤◌, false, not, ◌||◌, [], ◌∷◌, ◌++◌, Some, filter, length}
-use Rattle.std.specs.Prelude.{All, Contains}
-use Rattle.std.specs.List.{IsDistinct}
-use Rattle.std.specs.Option.{option_to_list}
-use Rattle.std.proofs.Common.{refl, sym, ap, ◌∙◌, subst, arith, append-nil, length-append}
-use Rattle.std.proofs.Math.Bool.{or-false}
+-- A net as a patch of the graph in which the terms of what it adds are entered: how many triples it leaves,
+-- and that it is this patch where the terms were entered in turn.
+use Rattle.std.specs.Prelude.{◌≡◌, ◌≤◌, List, ◌++◌, length}
+use Rattle.std.proofs.Common.{sym, ap, ◌∙◌, subst, arith}
+use Rattle.shx_term.specs.declared.term.Term.{Term}
 use Rattle.shx_term.specs.declared.triple.Triple.{Triple}
-use Rattle.shx_term.specs.declared.triple.TermTriple.{TermTriple}
-use Rattle.shx_term.specs.Triple.{same_triple}
-use Rattle.shx_term.specs.TripleTerms.{numbered}
-use Rattle.shx_term.proofs.MemberLemmas.{All_of_each, Contains-one, filter_agree, none_in_empty}
-use Rattle.graph_view.specs.Graph.{Graph, IsKnownTriple}
-use Rattle.graph_view.specs.Patched.{IsPatch, patched, without}
-use Rattle.graph_view.proofs.PatchedLemmas.{without-empty}
-use Rattle.edit_engine.specs.Edits.{graph_with, graph_without, is_other, terms_with}
+use Rattle.shx_term.specs.TripleTerms.{numbered_all}
+use Rattle.edit_history.specs.declared.net.Net.{Net}
+use Rattle.graph_view.specs.Graph.{Graph}
+use Rattle.graph_view.specs.Patched.{IsPatch, patched}
+use Rattle.graph_view.proofs.ExchangeLemmas.{length-exchanged, length-removed}
+use Rattle.edit_engine.specs.Applied.{HasMoreTerms}
+use Rattle.edit_engine.specs.Nets.{IsNetOn, added_to, changed_by, count_after, graph_after, removed_from}
+use Rattle.edit_engine.specs.Nets.{terms_after}
+use Rattle.edit_engine.proofs.HeldTripleLemmas.{AreAllHeld-entered, length-numbered_all}
+use Rattle.edit_engine.proofs.NetPatchLemmas.{net_patch}
+use Rattle.edit_engine.proofs.SoundLemmas.{IsSound, entered, entered_patch, removed_terms_held}
 
-pub All-one : {X : Type 0} (P : X → Type 0) (x : X) → P x → All P (x ∷ [])
-All-one P x here = All_of_each P (x ∷ []) (λ y c. subst P (sym ((Contains-one x y).0 c)) here)
+-- ---- how many triples there are
 
-pub All-none : {X : Type 0} (P : X → Type 0) → All P []
-All-none P = All_of_each P [] (λ y c. absurd (none_in_empty y c))
+module _ (g : Graph) (net : Net) (sound : IsSound g) (fits : IsNetOn g net) where
+  patch : IsPatch (entered g net) (added_to g net) (removed_from g net)
+  patch = entered_patch g net sound fits
 
-one_once : (t : Triple) → IsDistinct same_triple (t ∷ [])
-unfolding IsDistinct
-one_once t = (tt, tt)
+  as_many_removed : length (removed_from g net) ≡ length net.removed
+  as_many_removed = length-numbered_all g.terms net.removed (removed_terms_held g net fits)
 
-none_once : IsDistinct same_triple []
-unfolding IsDistinct
-none_once = tt
+  -- no more are removed than the graph holds
+  pub few_removed : length net.removed ≤ length g.triples
+  few_removed =
+      let fewer = length-removed (entered g net) (added_to g net) (removed_from g net) patch sound.once in
+      omega (arith, fewer, as_many_removed)
 
--- ---- one triple more
+  pub length-after : length (graph_after g net).triples ≡ count_after g net
+  length-after =
+      let all = length-exchanged (entered g net) (added_to g net) (removed_from g net) patch sound.once in
+      let new = length-numbered_all (terms_after g net) net.added (AreAllHeld-entered g.terms net.added) in
+      omega (arith, all, few_removed, new, as_many_removed)
 
-pub IsPatch-added : (g : Graph) (t : Triple) → IsKnownTriple g.terms t → (Contains g.triples t → ⊥)
-    → IsPatch g (t ∷ []) []
-IsPatch-added g t known absent = record {
-  added_once = one_once t;
-  added_absent = All-one (λ u. Contains g.triples u → ⊥) t absent;
-  added_known = All-one (IsKnownTriple g.terms) t known;
-  removed_once = none_once;
-  removed_held = All-none (Contains g.triples);
+-- ---- where the terms were entered
+
+-- the terms of what is to be added are entered beside the same triples, and the triples over the numbers of
+-- their terms are at hand
+pub record IsAtHand (g h : Graph) (net : Net) (new gone : List Triple) : Type 0 where
+  pub terms : h.terms ≡ terms_after g net
+  pub triples : h.triples ≡ g.triples
+  pub added : new ≡ added_to g net
+  pub removed : gone ≡ removed_from g net
+
+pub at_hand : {g h : Graph} {due terms : List Term} {new gone found held : List Triple} (net : Net)
+    → h.terms ≡ terms_after g net → HasMoreTerms due g h
+    → new ≡ found → found ≡ numbered_all h.terms net.added
+    → gone ≡ held → held ≡ numbered_all terms net.removed → terms ≡ g.terms → IsAtHand g h net new gone
+at_hand net entered more new found gone held same = record {
+  terms = entered;
+  triples = more.triples;
+  added = new ∙ found ∙ ap (λ ts. numbered_all ts net.added) entered;
+  removed = gone ∙ held ∙ ap (λ ts. numbered_all ts net.removed) same;
 }
 
-pub length-added : (g : Graph) (t : Triple) (limit : ℕ) → length g.triples < limit
-    → length (patched g (t ∷ []) []).triples ≤ limit
-length-added g t limit below =
-    let left = without same_triple g.triples [] in
-    let same : length left ≡ length g.triples =
-    ap length (sym (without-empty same_triple g.triples [] refl)) in
-    omega (arith, below, same, length-append left (t ∷ []))
+module _ {g h : Graph} {net : Net} {new gone : List Triple} (at : IsAtHand g h net new gone) where
+  pub changed_is : new ++ gone ≡ changed_by g net
+  changed_is = λ i. at.added i ++ at.removed i
 
--- over the terms of the triple it is the graph with it
-pub patched_with : (g h : Graph) (t : TermTriple) (u : Triple) → h.terms ≡ terms_with g t
-    → h.triples ≡ g.triples → numbered h.terms t ≡ Some u → patched h (u ∷ []) [] ≡ graph_with g t
-patched_with g h t u terms triples number =
-    let it : numbered (terms_with g t) t ≡ Some u = subst (λ xs. numbered xs t ≡ Some u) terms number in
-    let all : without same_triple h.triples [] ++ u ∷ []
-    ≡ g.triples ++ option_to_list (numbered (terms_with g t) t) =
-    ap (λ us. us ++ u ∷ []) (sym (without-empty same_triple h.triples [] refl) ∙ triples)
-    ∙ ap (λ o. g.triples ++ option_to_list o) (sym it) in
-    λ i. record { terms = terms i; triples = all i }
+  pub patched_is : patched h new gone ≡ graph_after g net
+  patched_is = λ i.
+      patched (record { terms = at.terms i; triples = at.triples i }) (at.added i) (at.removed i)
 
--- ---- one triple less
-
-pub IsPatch-removed : (g : Graph) (t : Triple) → Contains g.triples t → IsPatch g [] (t ∷ [])
-IsPatch-removed g t held = record {
-  added_once = none_once;
-  added_absent = All-none (λ u. Contains g.triples u → ⊥);
-  added_known = All-none (IsKnownTriple g.terms);
-  removed_once = one_once t;
-  removed_held = All-one (Contains g.triples) t held;
-}
-
-pub patched_without : (g : Graph) (t : TermTriple) (u : Triple) → numbered g.terms t ≡ Some u
-    → patched g [] (u ∷ []) ≡ graph_without g t
-patched_without g t u number =
-    let kept : without same_triple g.triples (u ∷ []) ≡ filter (is_other (Some u)) g.triples =
-    filter_agree (λ v. not (same_triple u v || false)) (is_other (Some u)) g.triples
-    (λ v c. ap not (or-false (same_triple u v))) in
-    let all : without same_triple g.triples (u ∷ []) ++ []
-    ≡ filter (is_other (numbered g.terms t)) g.triples =
-    append-nil (without same_triple g.triples (u ∷ []))
-    ∙ kept
-    ∙ ap (λ o. filter (is_other o) g.triples) (sym number) in
-    λ i. record { terms = g.terms; triples = all i }
+  pub patch_at_hand : IsSound g → IsNetOn g net → IsPatch h new gone
+  patch_at_hand sound fits =
+      subst (λ us. IsPatch h us gone) (sym at.added)
+      (subst (IsPatch h (added_to g net)) (sym at.removed)
+      (net_patch g h net sound.known fits at.terms at.triples))

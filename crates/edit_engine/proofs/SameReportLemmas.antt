@@ -2,10 +2,9 @@
 use Rattle.std.specs.Prelude.{◌≡◌, ℕ, ◌<◌, Option, length}
 use Rattle.std.specs.List.{IsDistinct}
 use Rattle.std.proofs.Common.{sym, ap, ◌∙◌, subst}
-use Rattle.shx_term.specs.declared.edit.Edit.{Edit}
-use Rattle.shx_term.specs.Edit.{IsValidEdit}
 use Rattle.shx_term.specs.Triple.{same_triple}
 use Rattle.shx_term.proofs.SetLemmas.{SameMembers-sym}
+use Rattle.edit_history.specs.declared.net.Net.{Net}
 use Rattle.graph_view.specs.Graph.{Graph}
 use Rattle.graph_view.specs.SameGraph.{SameGraph}
 use Rattle.graph_view.proofs.AgreeLemmas.{AgreeOn-same, Agree-on_terms}
@@ -16,14 +15,14 @@ use Rattle.shape_eval.specs.Plan.{IsKnownPlan, Planned}
 use Rattle.shape_eval.specs.Recalled.{IsRecalled}
 use Rattle.shape_eval.specs.Report.{pairs, report}
 use Rattle.read_records.specs.Recall.{Answer}
-use Rattle.edit_engine.specs.Edits.{changed_by, edited}
 use Rattle.edit_engine.specs.MayBeAsked.{MayBeAsked}
+use Rattle.edit_engine.specs.Nets.{IsNetOn, changed_by, graph_after}
 use Rattle.edit_engine.specs.Remembered.{BringsFresh}
 use Rattle.edit_engine.specs.Touched.{touched_pairs}
 use Rattle.edit_engine.proofs.AlikeLemmas.{AreAlike, brings_alike, brings_among, nested_alike, pairs_alike}
 use Rattle.edit_engine.proofs.AlikeLemmas.{report_alike, touched_alike, touched_among}
-use Rattle.edit_engine.proofs.SameGraphEditLemmas.{SameGraph-edited, changed-same}
-use Rattle.edit_engine.proofs.ValidEditLemmas.{MayBeAsked-edited, valid_members}
+use Rattle.edit_engine.proofs.NetSameLemmas.{SameGraph-after, changed_same}
+use Rattle.edit_engine.proofs.ValidEditLemmas.{MayBeAsked-after, valid_members}
 
 pub MayBeAsked-same : (plan : Planned) (g h : Graph) → SameGraph g h → MayBeAsked plan h → MayBeAsked plan g
 MayBeAsked-same plan g h same asked = record {
@@ -53,17 +52,25 @@ module _ (results_law : ResultsDependOnReads) (targets_law : TargetsDependOnRead
       → report plan g ≡ report plan h
   report-same plan g h same asked = report_alike plan g h (AreAlike-same plan g h same asked)
 
-  pub touched-same : (plan : Planned) (g h : Graph) (edit : Edit) → SameGraph g h → MayBeAsked plan h
-      → IsDistinct same_triple h.triples → IsValidEdit edit
-      → touched_pairs plan g (edited g edit) (changed_by g edit)
-      ≡ touched_pairs plan h (edited h edit) (changed_by h edit)
-  touched-same plan g h edit same asked distinct fit =
+  -- after a change that may be made
+  after_same : (plan : Planned) (g h : Graph) (net : Net) → SameGraph g h → MayBeAsked plan h
+      → IsDistinct same_triple h.triples → IsNetOn h net
+      → AreAlike plan (graph_after g net) (graph_after h net)
+  after_same plan g h net same asked distinct fits =
+      AreAlike-same plan (graph_after g net) (graph_after h net) (SameGraph-after g h same net distinct)
+      (MayBeAsked-after plan h net asked fits)
+
+  pub touched-same : (plan : Planned) (g h : Graph) (net : Net) → SameGraph g h → MayBeAsked plan h
+      → IsDistinct same_triple h.triples → IsNetOn h net
+      → touched_pairs plan g (graph_after g net) (changed_by g net)
+      ≡ touched_pairs plan h (graph_after h net) (changed_by h net)
+  touched-same plan g h net same asked distinct fits =
       let alike = AreAlike-same plan g h same asked in
-      let after = pairs-same plan (edited g edit) (edited h edit) (SameGraph-edited g h edit same distinct)
-      (MayBeAsked-edited plan h edit asked fit) in
-      touched_alike plan g h alike (changed_by g edit) (edited g edit)
-      ∙ touched_among plan h (edited g edit) (edited h edit) after (changed_by g edit)
-      ∙ ap (touched_pairs plan h (edited h edit)) (changed-same g h edit same)
+      let after = pairs_alike plan (graph_after g net) (graph_after h net)
+      (after_same plan g h net same asked distinct fits) plan.targeted in
+      touched_alike plan g h alike (changed_by g net) (graph_after g net)
+      ∙ touched_among plan h (graph_after g net) (graph_after h net) after (changed_by g net)
+      ∙ ap (touched_pairs plan h (graph_after h net)) (changed_same g h same net)
 
   -- what becomes of nested pairs
   module _ (nested_law : NestedDependOnReads) where
@@ -72,18 +79,19 @@ module _ (results_law : ResultsDependOnReads) (targets_law : TargetsDependOnRead
     nested-same plan g h same asked =
         nested_alike plan g h (AreAlike-same plan g h same asked) nested_law
 
-    pub fresh-same : (plan : Planned) (g h : Graph) (edit : Edit) → SameGraph g h → MayBeAsked plan h
-        → IsDistinct same_triple h.triples → IsValidEdit edit → (old new : Pair → Option Answer)
+    pub fresh-same : (plan : Planned) (g h : Graph) (net : Net) → SameGraph g h → MayBeAsked plan h
+        → IsDistinct same_triple h.triples → IsNetOn h net → (old new : Pair → Option Answer)
         (before after : ℕ) → ((p : Pair) → IsRecalled old p → p.node < length h.terms)
-        → BringsFresh plan h (edited h edit) (changed_by h edit) old new before after
-        → BringsFresh plan g (edited g edit) (changed_by g edit) old new before after
-    fresh-same plan g h edit same asked distinct fit old new before after inside brings =
-        let nested = nested-same plan (edited g edit) (edited h edit)
-        (SameGraph-edited g h edit same distinct) (MayBeAsked-edited plan h edit asked fit) in
-        subst (λ changed. BringsFresh plan g (edited g edit) changed old new before after)
-        (sym (changed-same g h edit same))
-        (brings_among plan g (edited g edit) (edited h edit) nested (changed_by h edit) old new before after
-        (brings_alike plan g h (AreAlike-same plan g h same asked) (edited h edit) (changed_by h edit) old new
-        before after
+        → BringsFresh plan h (graph_after h net) (changed_by h net) old new before after
+        → BringsFresh plan g (graph_after g net) (changed_by g net) old new before after
+    fresh-same plan g h net same asked distinct fits old new before after inside brings =
+        let nested = nested_alike plan (graph_after g net) (graph_after h net)
+        (after_same plan g h net same asked distinct fits) nested_law in
+        subst (λ changed. BringsFresh plan g (graph_after g net) changed old new before after)
+        (sym (changed_same g h same net))
+        (brings_among plan g (graph_after g net) (graph_after h net) nested (changed_by h net) old new before
+        after
+        (brings_alike plan g h (AreAlike-same plan g h same asked) (graph_after h net) (changed_by h net) old
+        new before after
         (λ p there. subst (λ terms. p.node < length terms) (sym same.terms) (inside p there))
         brings))

@@ -1,29 +1,27 @@
--- What may be asked of a graph may be asked of it after a valid edit.
-use Rattle.std.specs.Prelude.{◌≡◌, List, [], ◌∷◌, All, Option, Some, None}
-use Rattle.std.specs.Option.{option_to_list}
+-- What may be asked of a graph may be asked of it after a change that may be made.
+use Rattle.std.specs.Prelude.{List, [], ◌∷◌, All, ◌≡◌}
 use Rattle.std.proofs.Common.{refl, sym, subst}
-use Rattle.std.proofs.lemmas.List.Elements.{All-append, All-cons, All-filter, All-head, All-nil, All-tail}
-use Rattle.shx_term.specs.declared.edit.Edit.{Edit}
-use Rattle.shx_term.specs.declared.edit.Edit.TheVariants.{Insert, Remove}
+use Rattle.std.proofs.lemmas.List.Elements.{All-cons, All-head, All-nil, All-tail}
 use Rattle.shx_term.specs.declared.term.Term.{Term}
 use Rattle.shx_term.specs.declared.term.Term.TheVariants.{Blank, Iri, Lit}
-use Rattle.shx_term.specs.declared.triple.Triple.{Triple}
 use Rattle.shx_term.specs.declared.triple.TermTriple.{TermTriple}
-use Rattle.shx_term.specs.Edit.{IsValidEdit}
 use Rattle.shx_term.specs.Members.{SameMembers}
 use Rattle.shx_term.specs.Pool.{with_term, with_terms}
-use Rattle.shx_term.specs.TripleTerms.{numbered, terms_of}
+use Rattle.shx_term.specs.TripleTerms.{numbered_all, terms_of}
 use Rattle.shx_term.specs.ValidTriples.{IsIri, IsNoLiteral, IsNotWide, IsValidTermTriple}
 use Rattle.shx_term.proofs.HeldLemmas.{with_terms_grow}
 use Rattle.shx_term.proofs.MemberLemmas.{All_of_each, each_of_All}
+use Rattle.edit_history.specs.declared.net.Net.{Net}
 use Rattle.graph_view.specs.Graph.{Graph}
 use Rattle.graph_view.specs.Valid.{IsValidTriple, IsValidView}
+use Rattle.graph_view.proofs.PatchedLemmas.{IsValidView-patched}
 use Rattle.graph_view.proofs.ValidLemmas.{IsValidTriple-numbered, IsValidView-entered}
 use Rattle.shape_eval.specs.declared.shape.PlanShape.{PlanShape}
 use Rattle.shape_eval.specs.Plan.{IsKnownPlan, Planned}
-use Rattle.edit_engine.specs.Edits.{edited, is_other, terms_with}
 use Rattle.edit_engine.specs.MayBeAsked.{MayBeAsked}
+use Rattle.edit_engine.specs.Nets.{IsNetOn, added_to, graph_after, removed_from, terms_after}
 use Rattle.edit_engine.proofs.EnterLemmas.{plan_known_more}
+use Rattle.edit_engine.proofs.NetPatchLemmas.{Contains-from_numbered_all}
 
 -- ---- terms that are no wide literals
 
@@ -58,27 +56,20 @@ valid_entered g (t ∷ ts) valid narrow =
     valid_entered one ts (IsValidView-entered g one t valid (All-head IsNotWide t ts narrow) refl refl)
     (All-tail IsNotWide t ts narrow)
 
-valid_numbered : (terms : List Term) (t : TermTriple) (o : Option Triple) → numbered terms t ≡ o
-    → IsValidTermTriple t → All (IsValidTriple terms) (option_to_list o)
-valid_numbered terms t None is fit = All-nil (IsValidTriple terms)
-valid_numbered terms t (Some u) is fit =
-    All-cons (IsValidTriple terms) u [] (IsValidTriple-numbered terms t u is fit)
-    (All-nil (IsValidTriple terms))
+-- and where a change that may be made is made
+-- triples over the numbers of valid ones are valid
+pub valid_numbered : (terms : List Term) (ts : List TermTriple) → All IsValidTermTriple ts
+    → All (IsValidTriple terms) (numbered_all terms ts)
+valid_numbered terms ts fit = All_of_each (IsValidTriple terms) (numbered_all terms ts) (λ u c.
+    let from = Contains-from_numbered_all terms ts u c in
+    IsValidTriple-numbered terms from.0 u from.2 (each_of_All IsValidTermTriple ts fit from.0 from.1))
 
-valid_edited : (g : Graph) (edit : Edit) → IsValidView g → IsValidEdit edit → IsValidView (edited g edit)
-valid_edited g (Insert t) valid fit =
-    let terms = terms_with g t in
-    let narrow = narrow_terms (t ∷ []) (All-cons IsValidTermTriple t [] fit (All-nil IsValidTermTriple)) in
-    let entered = valid_entered g (terms_of (t ∷ [])) valid narrow in
-    record {
-      triples = All-append (IsValidTriple terms) g.triples (option_to_list (numbered terms t))
-          entered.triples (valid_numbered terms t (numbered terms t) refl fit);
-      terms = entered.terms;
-    }
-valid_edited g (Remove t) valid fit = record {
-  triples = All-filter (is_other (numbered g.terms t)) (IsValidTriple g.terms) g.triples valid.triples;
-  terms = valid.terms;
-}
+pub valid_after : (g : Graph) (net : Net) → IsValidView g → IsNetOn g net → IsValidView (graph_after g net)
+valid_after g net valid fits =
+    let terms = terms_after g net in
+    let entered = valid_entered g (terms_of net.added) valid (narrow_terms net.added fits.added_valid) in
+    IsValidView-patched (record { terms = terms; triples = g.triples }) (added_to g net) (removed_from g net)
+    entered (valid_numbered terms net.added fits.added_valid)
 
 -- ... and where the same triples stand in another order
 pub valid_members : (g h : Graph) → g.terms ≡ h.terms → SameMembers g.triples h.triples → IsValidView g
@@ -92,18 +83,17 @@ valid_members g h terms same valid = record {
 
 -- ---- plans
 
-known_edited : (g : Graph) (edit : Edit) (shapes : List PlanShape) → IsKnownPlan g.terms shapes
-    → IsKnownPlan (edited g edit).terms shapes
-known_edited g (Insert t) shapes known =
-    let grown = with_terms_grow g.terms (terms_of (t ∷ [])) in
+known_after : (g : Graph) (net : Net) (shapes : List PlanShape) → IsKnownPlan g.terms shapes
+    → IsKnownPlan (graph_after g net).terms shapes
+known_after g net shapes known =
+    let grown = with_terms_grow g.terms (terms_of net.added) in
     subst (λ ts. IsKnownPlan ts shapes) (sym grown.1) (plan_known_more g.terms grown.0 shapes known)
-known_edited g (Remove t) shapes known = known
 
-pub MayBeAsked-edited : (plan : Planned) (g : Graph) (edit : Edit) → MayBeAsked plan g → IsValidEdit edit
-    → MayBeAsked plan (edited g edit)
-MayBeAsked-edited plan g edit asked fit = record {
-  valid = valid_edited g edit asked.valid fit;
-  known = known_edited g edit plan.shapes asked.known;
+pub MayBeAsked-after : (plan : Planned) (g : Graph) (net : Net) → MayBeAsked plan g → IsNetOn g net
+    → MayBeAsked plan (graph_after g net)
+MayBeAsked-after plan g net asked fits = record {
+  valid = valid_after g net asked.valid fits;
+  known = known_after g net plan.shapes asked.known;
   refers = asked.refers;
   within = asked.within;
   once = asked.once;

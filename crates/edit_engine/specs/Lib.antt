@@ -1,8 +1,11 @@
 pub mod Applied
+pub mod Course
 pub mod EditFault
 pub mod Edits
 pub mod EngineState
 pub mod MayBeAsked
+pub mod NamedPairs
+pub mod Nets
 pub mod Pairs
 pub mod Recorded
 pub mod Remembered

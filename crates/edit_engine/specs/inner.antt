@@ -6,3 +6,4 @@ pub mod Recall
 pub mod Staged
 pub mod Stated
 pub mod Told
+pub mod Turned

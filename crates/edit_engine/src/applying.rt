@@ -1,28 +1,30 @@
-ghost use Rattle.std.specs.Prelude.{◌≡◌, ◌+◌, ◌<◌, ◌≤◌, ◌^◌, ◌++◌, ℕ, length, All, IfOk, IfErr, OnOk, OnErr};
+ghost use Rattle.std.specs.Prelude.{◌≡◌, ◌+◌, ◌-◌, ◌<◌, ◌≤◌, ◌^◌, [], ◌∷◌, ◌++◌, length, nat_le, All};
+ghost use Rattle.std.specs.Prelude.{IfOk, IfErr, OnOk, OnErr};
 ghost use Rattle.std.specs.List.{IsDistinct};
 ghost use Rattle.shx_term.specs.TermOrder.{same_term};
 ghost use Rattle.shx_term.specs.Edit.{IsValidEdit};
-ghost use Rattle.shx_term.specs.ValidTriples.{IsValidTermTriple};
-ghost use Rattle.shx_term.specs.declared.edit.Edit.{Edit};
+ghost use Rattle.shx_term.specs.Triple.{same_triple};
 ghost use Rattle.graph_view.specs.Patched.{IsPatch, patched};
 ghost use Rattle.graph_view.specs.SameGraph.{SameGraph};
 ghost use Rattle.graph_view.specs.Valid.{IsValidTriple};
 ghost use Rattle.shape_eval.specs.Laws.{NestedDependOnReads, ResultsDependOnReads, TargetsDependOnReads};
 ghost use Rattle.edit_engine.specs.Applied.{Applies, Refuses, SamePlan, counted_at};
-ghost use Rattle.edit_engine.specs.Edits.{is_among};
+ghost use Rattle.edit_engine.specs.Edits.{net_of};
+ghost use Rattle.edit_engine.specs.Nets.{IsNetOn, net_over, turned};
 ghost use Rattle.edit_engine.specs.Remembered.{BringsFresh, answer_of};
-ghost use Rattle.edit_engine.specs.inner.Stated.{found_triple};
 ghost use Rattle.edit_engine.specs.Touched.{touched_pairs};
 
 use crate::kept::Kept;
 use crate::renewing::renewal_of;
 use crate::staging::terms_are_distinct;
-use crate::stated::{Found, enter_terms, find};
-use crate::{Change, EditFault, Engine};
+use crate::stated::{enter_all, has_room_for_terms, numbers_of};
+use crate::{Change, EditFault, Engine, edits_come_to_a_net};
+use edit_history::Net;
 use graph_view::{GraphEdit, GraphView, StoreFault};
 use shape_eval::{nested_pairs_are_read, results_depend_on_reads, targets_depend_on_reads};
 use shx_term::{Edit, Memory, Steps, TermTriple, Triple};
 use std::alloc::{AllocError, Global};
+use std::slice;
 use std::sync::ledger::Ledger;
 
 const UNCHANGED: Change = Change {
@@ -31,19 +33,11 @@ const UNCHANGED: Change = Change {
 };
 
 impl<V: GraphEdit> Engine<V> {
-    /// Makes an edit, and evaluates exactly the pairs that it touches: those that were none before, and those
-    /// that have read a key that the triple touches. Each evaluation counts a step. Of the pairs that are
-    /// nested in these, exactly those are evaluated that are not remembered, or that the triple touches: each
-    /// once, which is counted in `nested`, and from then on they are remembered.
-    ///
-    /// It costs what these pairs cost, and some look-ups; where it states or takes back a subclass, also some
-    /// for each instance of that, and for each subclass of the classes in the targets that it touches.
+    /// Makes an edit: the case of one of `apply_all`.
     ///
     /// # Errors
     ///
-    /// A limit would be passed, and nothing changed. Or memory was refused: then the graph, the report, what
-    /// is kept and what is remembered are as before, but after an insertion the pool may hold terms of its
-    /// triple, and evaluations may have been counted.
+    /// Those of `apply_all`.
     pub fn apply<K: Ledger, L: Ledger>(
         &mut self,
         alloc: Global,
@@ -53,88 +47,125 @@ impl<V: GraphEdit> Engine<V> {
     ) -> Result<Change, EditFault>
         requires { IsValidEdit edit.now }
         ensures plan { SamePlan self.old self.new }
-        ensures applied { IfOk result (λ change.
-            Applies self.old edit.now change self.new nested.old nested.new) }
+        ensures applied { IfOk result (λ change. Applies self.old
+            (net_of self.old.graph (edit.now ∷ [])) change self.new nested.old nested.new) }
         ensures steps { IfOk result (λ change. steps.new ≡ steps.old + change.evaluated) }
-        ensures refused { IfErr result (λ fault. Refuses self.old edit.now fault self.new
+        ensures refused { IfErr result (λ fault. Refuses self.old
+            (net_of self.old.graph (edit.now ∷ [])) fault self.new
             (counted_at steps.old nested.old) (counted_at steps.new nested.new)) }
     {
-        match edit {
-            Edit::Insert(stated) => self.insert(alloc, stated, nested, steps),
-            Edit::Remove(stated) => Ok(self.remove(alloc, stated, nested, steps)?),
-        }
+        self.apply_all(alloc, slice::from_ref(edit), nested, steps)
     }
 
-    fn insert<K: Ledger, L: Ledger>(
+    /// Makes edits, in order, as one change: what they come to together is made at once, and evaluated once.
+    ///
+    /// # Errors
+    ///
+    /// Those of `apply_net`.
+    pub fn apply_all<K: Ledger, L: Ledger>(
         &mut self,
         alloc: Global,
-        stated: &TermTriple,
+        edits: &[Edit],
         nested: &mut Steps<K>,
         steps: &mut Steps<L>,
     ) -> Result<Change, EditFault>
-        requires { IsValidTermTriple stated.now }
+        requires { All IsValidEdit edits.now }
+        ensures plan { SamePlan self.old self.new }
+        ensures applied { IfOk result (λ change. Applies self.old (net_of self.old.graph edits.now)
+            change self.new nested.old nested.new) }
+        ensures steps { IfOk result (λ change. steps.new ≡ steps.old + change.evaluated) }
+        ensures refused { IfErr result (λ fault. Refuses self.old (net_of self.old.graph edits.now)
+            fault self.new (counted_at steps.old nested.old) (counted_at steps.new nested.new)) }
+    {
+        edits_come_to_a_net();
+        let net = self.net_of(alloc, edits)?;
+        self.apply_net(alloc, &net, false, nested, steps)
+    }
+
+    /// Makes a change, or the one that takes it back, and evaluates exactly the pairs that it touches: those
+    /// that were none before, and those that have read a key that a changed triple touches. Each evaluation
+    /// counts a step. Of the pairs that are nested in these, exactly those are evaluated that are not
+    /// remembered, or that a changed triple touches: each once, which is counted in `nested`, and from then
+    /// on they are remembered.
+    ///
+    /// It costs what these pairs cost, and some look-ups for each triple; where a subclass is stated or taken
+    /// back, also some for each instance of that, and for each subclass of the classes in the targets that
+    /// are touched.
+    ///
+    /// # Errors
+    ///
+    /// A limit would be passed, and nothing changed. Or memory was refused: then the graph, the report, what
+    /// is kept and what is remembered are as before, but the pool may hold terms of what was to be added, and
+    /// evaluations may have been counted.
+    pub fn apply_net<K: Ledger, L: Ledger>(
+        &mut self,
+        alloc: Global,
+        net: &Net,
+        backwards: bool,
+        nested: &mut Steps<K>,
+        steps: &mut Steps<L>,
+    ) -> Result<Change, EditFault>
+        requires { IsNetOn self.old.graph (turned backwards net.now) }
         ensures plan { SamePlan self.old self.new }
         ensures applied { IfOk result (λ change.
-            Applies self.old (Edit.Insert stated.now) change self.new nested.old nested.new) }
+            Applies self.old (turned backwards net.now) change self.new nested.old nested.new) }
         ensures steps { IfOk result (λ change. steps.new ≡ steps.old + change.evaluated) }
-        ensures refused { IfErr result (λ fault. Refuses self.old (Edit.Insert stated.now) fault self.new
+        ensures refused { IfErr result (λ fault.
+            Refuses self.old (turned backwards net.now) fault self.new
             (counted_at steps.old nested.old) (counted_at steps.new nested.new)) }
     {
-        let found = find(self.view.pool(), stated);
-        if self.holds(&found) {
+        let (added, removed) = if backwards {
+            (&net.removed, &net.added)
+        } else {
+            (&net.added, &net.removed)
+        };
+        self.change(alloc, added.as_slice(), removed.as_slice(), nested, steps)
+    }
+
+    // Takes triples out of the graph and puts others in, within the limits.
+    fn change<K: Ledger, L: Ledger>(
+        &mut self,
+        alloc: Global,
+        added: &[TermTriple],
+        removed: &[TermTriple],
+        nested: &mut Steps<K>,
+        steps: &mut Steps<L>,
+    ) -> Result<Change, EditFault>
+        requires { IsNetOn self.old.graph (net_over added.now removed.now) }
+        ensures plan { SamePlan self.old self.new }
+        ensures applied { IfOk result (λ change. Applies self.old (net_over added.now removed.now)
+            change self.new nested.old nested.new) }
+        ensures steps { IfOk result (λ change. steps.new ≡ steps.old + change.evaluated) }
+        ensures refused { IfErr result (λ fault. Refuses self.old (net_over added.now removed.now)
+            fault self.new (counted_at steps.old nested.old) (counted_at steps.new nested.new)) }
+    {
+        changes_rest_on(&self.view);
+        if added.is_empty() && removed.is_empty() {
             return Ok(UNCHANGED);
         }
-        if self.view.len() >= self.view.limit() {
+        if !self.has_room_for(added.len(), removed.len()) {
             return Err(EditFault::TooManyTriples);
         }
-        if !found.has_room(self.view.pool(), stated) {
+        if !has_room_for_terms(alloc, self.view.pool(), added)? {
             return Err(EditFault::TooManyTerms);
         }
-        results_depend_on_reads();
-        targets_depend_on_reads();
-        nested_pairs_are_read();
-        let triple = enter_terms(&mut self.view, stated, &found)?;
-        let evaluated = self.make(alloc, &[triple], &[], nested, steps)?;
+        let gone = numbers_of(alloc, self.view.pool(), removed)?;
+        let new = enter_all(alloc, &mut self.view, added)?;
+        let evaluated = self.make(alloc, &new, &gone, nested, steps)?;
         Ok(Change {
             changed: true,
             evaluated,
         })
     }
 
-    fn remove<K: Ledger, L: Ledger>(
-        &mut self,
-        alloc: Global,
-        stated: &TermTriple,
-        nested: &mut Steps<K>,
-        steps: &mut Steps<L>,
-    ) -> Result<Change, Memory>
-        ensures plan { SamePlan self.old self.new }
-        ensures applied { IfOk result (λ change.
-            Applies self.old (Edit.Remove stated.now) change self.new nested.old nested.new) }
-        ensures steps { IfOk result (λ change. steps.new ≡ steps.old + change.evaluated) }
-        ensures refused { OnErr result (self.new ≡ self.old) }
+    // Whether the graph has room for so many triples more, once so many are removed.
+    fn has_room_for(&self, added: usize, removed: usize) -> bool
+        requires { removed ≤ length self.now.graph.triples }
+        ensures { result ≡ nat_le ((length self.now.graph.triples - removed) + added)
+            self.now.triple_limit }
     {
-        // The graph holds no more triples than its limit.
-        let _ = self.view.limit();
-        match find(self.view.pool(), stated).triple() {
-            Some(triple) if self.view.contains(&triple) => {
-                let evaluated = self.make(alloc, &[], &[triple], nested, steps)?;
-                Ok(Change {
-                    changed: true,
-                    evaluated,
-                })
-            }
-            _ => Ok(UNCHANGED),
-        }
-    }
-
-    fn holds(&self, found: &Found) -> bool
-        ensures { result ≡ is_among self.now.graph.triples (found_triple found.now) }
-    {
-        match found.triple() {
-            Some(triple) => self.view.contains(&triple),
-            None => false,
-        }
+        let left = self.view.len() - removed as u64;
+        added as u64 <= self.view.limit() - left
     }
 
     /// Takes triples out of the graph and puts others in: what that touches is evaluated beside the graph,
@@ -200,11 +231,13 @@ fn changes_rest_on<V: GraphEdit>(view: &V)
     ensures targets { TargetsDependOnReads }
     ensures nested { NestedDependOnReads }
     ensures terms { IsDistinct same_term (V.GraphView.graph view.now).terms }
+    ensures triples { IsDistinct same_triple (V.GraphView.graph view.now).triples }
     ensures limit { V.triple_limit view.now < 2 ^ 64 }
 {
     results_depend_on_reads();
     targets_depend_on_reads();
     nested_pairs_are_read();
     terms_are_distinct(view.pool());
+    let _ = view.len();
     let _ = view.limit();
 }

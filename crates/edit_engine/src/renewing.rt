@@ -20,6 +20,11 @@ use shape_eval::{Answers, Plan, targets_depend_on_reads};
 use shx_term::{Memory, Steps, Triple};
 use std::alloc::Global;
 use std::sync::ledger::Ledger;
+use triple_store::Overlay;
+
+/// A change of up to so many triples added, and as many removed, is passed at each look-up; a larger one is
+/// indexed first.
+const FEW: usize = 16;
 
 /// What a change makes of what is kept: the graph without some triples and with others is looked up before it
 /// is made. Each pair that the change touches is evaluated once, and no other; each evaluation counts a step.
@@ -56,17 +61,59 @@ pub(crate) fn renewal_of<V: GraphView, K: Ledger, L: Ledger>(
         (recalled recall.old) (recalled recall.new) nested.old nested.new) }
     ensures kept { KeepsSame recall.old recall.new }
 {
+    if added.len().max(removed.len()) <= FEW {
+        let after = Patched::new(view, added, removed);
+        return renewal_beside(
+            alloc, view, &after, plan, records, recall, added, removed, nested, steps,
+        );
+    }
+    let after = Overlay::new(alloc, view, added, removed)?;
+    renewal_beside(
+        alloc, view, &after, plan, records, recall, added, removed, nested, steps,
+    )
+}
+
+// The same, where the graph after the change is at hand.
+fn renewal_beside<V: GraphView, W: GraphView, K: Ledger, L: Ledger>(
+    alloc: Global,
+    view: &V,
+    after: &W,
+    plan: &Plan,
+    records: &Records,
+    recall: &mut Recall,
+    added: &[Triple],
+    removed: &[Triple],
+    nested: &mut Steps<K>,
+    steps: &mut Steps<L>,
+) -> Result<Renewal, Memory>
+    requires after { W.graph after.now ≡ patched (V.graph view.now) added.now removed.now }
+    requires plan { MayBeAsked (plan_of plan.now) (V.graph view.now) }
+    requires recorded { AreRecorded (plan_of plan.now).shapes (plan_of plan.now).targeted (V.graph view.now)
+        records.now }
+    requires patch { IsPatch (V.graph view.now) added.now removed.now }
+    requires valid { All (IsValidTriple (V.graph view.now).terms) added.now }
+    requires countable { length (patched (V.graph view.now) added.now removed.now).triples < 2 ^ 64 }
+    requires remembers { RemembersNested (plan_of plan.now).shapes (V.graph view.now)
+        (pairs (plan_of plan.now) (V.graph view.now)) (recalled recall.old) }
+    requires settled { recall.old.staged ≡ [] }
+    ensures renewal { IfOk result (IsRenewal (plan_of plan.now) (V.graph view.now)
+        (patched (V.graph view.now) added.now removed.now) (added.now ++ removed.now)) }
+    ensures steps { IfOk result (λ renewal. steps.new ≡ steps.old + length renewal.evaluated.items) }
+    ensures recall { OnOk result (RenewsRecall (plan_of plan.now) (V.graph view.now)
+        (patched (V.graph view.now) added.now removed.now) (added.now ++ removed.now)
+        (recalled recall.old) (recalled recall.new) nested.old nested.new) }
+    ensures kept { KeepsSame recall.old recall.new }
+{
     targets_depend_on_reads();
     look_ups_give_what_is_held();
     patches_agree();
     changes_leave_what_stays();
     let touched = records.touched_by_change(alloc, added, removed)?;
     recall.mask_change(alloc, added, removed)?;
-    let after = Patched::new(view, added, removed);
     let mut renewal = Renewal::new(alloc);
-    renewal.renew_targets(alloc, view, &after, plan, &touched, added, removed)?;
-    renewal.evaluate_touched(alloc, &after, plan, &touched, recall, nested, steps)?;
-    renewal.evaluate_entering(alloc, &after, plan, recall, nested, steps)?;
+    renewal.renew_targets(alloc, view, after, plan, &touched, added, removed)?;
+    renewal.evaluate_touched(alloc, after, plan, &touched, recall, nested, steps)?;
+    renewal.evaluate_entering(alloc, after, plan, recall, nested, steps)?;
     Ok(renewal)
 }
 

@@ -1,6 +1,7 @@
 //! What an engine tells of the present graph.
-ghost use Rattle.std.specs.Prelude.{◌≡◌, [], length};
+ghost use Rattle.std.specs.Prelude.{◌≡◌, [], length, IfSome};
 ghost use Rattle.std.specs.List.{IsDistinct};
+ghost use Rattle.std.specs.Option.{is_some};
 ghost use Rattle.shx_term.specs.Members.{SameMembers};
 ghost use Rattle.shx_term.specs.Triple.{same_triple};
 ghost use Rattle.comp_core.specs.Rows.{is_empty};
@@ -9,14 +10,19 @@ ghost use Rattle.shape_eval.specs.Nested.{nested_pairs};
 ghost use Rattle.shape_eval.specs.Recalled.{AreRecalled, IsRecallOf};
 ghost use Rattle.shape_eval.specs.Planned.{plan_of};
 ghost use Rattle.shape_eval.specs.Report.{pairs, report};
+ghost use Rattle.shape_eval.specs.Results.{pair_reads};
 ghost use Rattle.edit_engine.specs.MayBeAsked.{MayBeAsked};
+ghost use Rattle.edit_engine.specs.NamedPairs.{pair_in};
 ghost use Rattle.edit_engine.specs.Remembered.{answer_of};
+ghost use Rattle.edit_engine.specs.Touched.{is_among_pairs};
 
 use crate::Engine;
-use graph_view::{GraphEdit, GraphView};
+use comp_core::Pair;
+use graph_view::{GraphEdit, GraphView, Reads};
 use pair_results::{Rows, results_stand_in_term_order};
-use read_records::Recall;
+use read_records::{Reader, Recall};
 use shape_eval::Plan;
+use shx_term::Term;
 
 impl<V: GraphEdit> Engine<V> {
     /// Whether the report has no results. It takes no memory, and constant time, as the next two do.
@@ -51,6 +57,30 @@ impl<V: GraphEdit> Engine<V> {
         // The terms of the pool are distinct.
         let _ = self.view.pool().len();
         self.kept.results.rows(self.plan.targeted())
+    }
+
+    /// What was read for a pair; `None` exactly where it is none of the graph. It takes no memory, and
+    /// logarithmic time.
+    pub fn record(&self, pair: &Pair) -> Option<&Reads>
+        ensures reads { IfSome result (λ reads.
+            SameMembers (pair_reads self.now.plan.shapes self.now.graph pair.now) reads.now) }
+        ensures pair { is_some result ≡ is_among_pairs (pairs self.now.plan self.now.graph) pair.now }
+    {
+        self.kept.records.reads_of(&Reader::OfPair(*pair))
+    }
+
+    /// The pair of a shape and a node, by their terms; `None` exactly where the graph has no such pair. It
+    /// takes no memory, and a look-up of each.
+    pub fn pair_of(&self, shape: &Term, node: &Term) -> Option<Pair>
+        ensures { result ≡ pair_in self.now.plan self.now.graph shape.now node.now }
+    {
+        let pool = self.view.pool();
+        let pair = Pair {
+            shape: self.plan.number(pool.find(shape)?)?,
+            node: pool.find(node)?,
+        };
+        self.record(&pair)?;
+        Some(pair)
     }
 
     /// What is remembered of nested pairs: what they come to on the present graph. It takes no memory.

@@ -1,9 +1,10 @@
 -- The terms of a triple that are held, and the triple of their numbers.
-use Rattle.std.specs.Prelude.{◌≡◌, List, Option}
+use Rattle.std.specs.Prelude.{◌≡◌, true, List, Option}
+use Rattle.std.specs.Option.{is_some}
 use Rattle.shx_term.specs.declared.term.Term.{Term}
 use Rattle.shx_term.specs.declared.triple.Triple.{Triple}
 use Rattle.shx_term.specs.declared.triple.TermTriple.{TermTriple}
-use Rattle.shx_term.specs.TripleTerms.{number_in, triple_of_numbers}
+use Rattle.shx_term.specs.TripleTerms.{number_in, numbered, triple_of_numbers}
 use Rattle.edit_engine.specs.declared.stated.Found.{Found}
 
 -- what was found is the numbers of the triple's terms
@@ -14,3 +15,7 @@ pub record IsFound (terms : List Term) (t : TermTriple) (found : Found) : Type 0
 
 abbrev pub found_triple : Found → Option Triple
 found_triple found = triple_of_numbers found.s found.p found.o
+
+-- all terms of the triple are held
+abbrev pub HasNumbers : List Term → TermTriple → Type 0
+HasNumbers terms t = is_some (numbered terms t) ≡ true

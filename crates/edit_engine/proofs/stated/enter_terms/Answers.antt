@@ -1,25 +1,17 @@
-use Rattle.std.proofs.Common.{[], ◌∷◌}
 use Rattle.shx_term.proofs.NumberedLemmas.{numbered-in_turn}
 use Rattle.edit_engine.proofs.MoreTermsLemmas.{more_one, more_three, more_two}
-use Rattle.edit_engine.proofs.StatedLemmas.{found_later, room_for_two, with_two}
+use Rattle.edit_engine.proofs.StatedLemmas.{room_for_two}
 use Rattle.edit_engine.proofs.stated.enter_terms.Goals as goal
 
-pub number-requires-2-clause-room : goal.number-requires-2-clause-room
-number-requires-2-clause-room g c =
+pub number-requires-2 : goal.number-requires-2
+number-requires-2 g c =
     let graph = g.E.GraphView.graph in
     let t = c.args.stated.now in
-    rw c.number.ensures.term_limit
-    (room_for_two (graph c.args.graph.now).terms (graph c.number.new.graph).terms t.s t.p t.o
-    (g.E.GraphView.term_limit c.args.graph.now) c.in_ok-s.ensures.terms c.requires.room)
-
-pub number-requires-3-clause-found : goal.number-requires-3-clause-found
-number-requires-3-clause-found g c =
-    let graph = g.E.GraphView.graph in
-    let t = c.args.stated.now in
-    let entered = with_two (graph c.args.graph.now).terms (graph c.number.new.graph).terms
-    (graph c.number-2.new.graph).terms t.s t.p c.in_ok-s.ensures.terms c.in_ok-p.ensures.terms in
-    rw entered (found_later (graph c.args.graph.now).terms (t.s ∷ (t.p ∷ [])) t.o c.args.found.now.o
-    c.requires.found.o)
+    record {
+      room = rw c.number.ensures.term_limit
+          (room_for_two (graph c.args.graph.now).terms (graph c.number.new.graph).terms t.s t.p t.o
+          (g.E.GraphView.term_limit c.args.graph.now) c.in_ok-s.ensures.terms c.requires.room);
+    }
 
 pub returns-clause-triple : goal.returns-clause-triple
 returns-clause-triple g c =

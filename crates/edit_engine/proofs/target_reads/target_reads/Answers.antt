@@ -16,9 +16,11 @@ pub returns : goal.returns
 returns g c =
     let view = g.V.GraphView.graph c.args.view.now in
     let items = c.deref-target-items.result.now in
-    let stated = targets_of (slice_get c.args.plan.now.shapes.items c.args.shape) in
+    let shape = slice_get c.args.plan.now.shapes.items c.args.shape in
+    let stated = targets_of shape in
     let all = take_all c.loop-target.target-index items c.loop-target-test.false in
-    let same : items ≡ stated = c.deref-target-items.ensures.value ∙ sym (ap targets_of c.shape.ensures) in
+    let same : items ≡ stated =
+    c.deref-target-items.ensures.value ∙ sym (ap targets_of {x = shape} c.shape.ensures) in
     rw c.pack.ensures
     (SameMembers-from_nothing (flat_map (reads_of_target view) stated) c.new-reads.ensures
     (rw (all, same) at c.loop-target.invariant))

@@ -7,6 +7,7 @@ use Rattle.shx_term.specs.FaultCodes.{code_name}
 use Rattle.shx_term.specs.declared.fault_codes.TheConstants.{SCRIPT_TOO_LONG, TEXT_TOO_LONG}
 use Rattle.report_write.specs.declared.answer.Answer.{Answer}
 use Rattle.report_write.specs.declared.answer.Answer.TheVariants.{Changed, Unchanged, RefusedLine}
+use Rattle.report_write.specs.declared.answer.Answer.TheVariants.{Abandoned, Begun, GroupDropped, Queued}
 use Rattle.report_write.specs.declared.answer.Answer.TheVariants.{TextFault, TooLong, Usage}
 use Rattle.report_write.specs.declared.answer.Answer.TheVariants.{Notice, Rule, OfShape, Count, RefusedAt}
 use Rattle.text_output.specs.declared.format.Format.{Format}
@@ -43,6 +44,9 @@ refusal_head line code = codes "refused line " ++ decimal line ++ codes ": " ++ 
 abbrev pub line_text : List Term → Answer → List ℕ
 line_text terms (Changed evaluated) = codes "ok changed evaluated " ++ decimal evaluated ++ codes "\n"
 line_text terms Unchanged = codes "ok unchanged evaluated 0\n"
+line_text terms Begun = codes "ok begun\n"
+line_text terms Queued = codes "ok queued\n"
+line_text terms Abandoned = codes "ok abandoned\n"
 line_text terms (Count triples pairs results) =
     codes "count triples=" ++ decimal triples ++ codes " pairs=" ++ decimal pairs
     ++ codes " results=" ++ decimal results ++ codes "\n"
@@ -58,6 +62,7 @@ line_text terms (Rule code shape predicate term) =
 line_text terms (OfShape code shape) = shape_fault_head terms code shape ++ codes "\n"
 line_text terms (Notice count) =
     codes "notice: " ++ decimal count ++ codes " sh:sparql triples ignored\n"
+line_text terms GroupDropped = codes "notice: open group dropped\n"
 line_text terms Usage = usage_text
 
 -- what stands before it: in Turtle an answer is a comment, but for the usage

@@ -18,6 +18,12 @@ pub enum Answer {
         evaluated: u64,
     },
     Unchanged,
+    /// A group of edits is open.
+    Begun,
+    /// An edit waits in the group.
+    Queued,
+    /// The group is given up.
+    Abandoned,
     Count {
         /// Of the graph.
         triples: u64,
@@ -64,6 +70,8 @@ pub enum Answer {
     Notice {
         count: u64,
     },
+    /// The script ended within a group, whose edits were not made.
+    GroupDropped,
     Usage,
 }
 
@@ -113,6 +121,9 @@ fn add_line<W: Pieces>(answer: &Answer, pool: &Pool, out: &mut W)
     match answer {
         Answer::Changed { evaluated } => add_change(*evaluated, out),
         Answer::Unchanged => out.add(b"ok unchanged evaluated 0\n"),
+        Answer::Begun => out.add(b"ok begun\n"),
+        Answer::Queued => out.add(b"ok queued\n"),
+        Answer::Abandoned => out.add(b"ok abandoned\n"),
         Answer::Count {
             triples,
             pairs,
@@ -130,6 +141,7 @@ fn add_line<W: Pieces>(answer: &Answer, pool: &Pool, out: &mut W)
         } => add_rule(*code, *shape, *predicate, *term, pool, out),
         Answer::OfShape { code, shape } => add_shape_fault(*code, *shape, pool, out),
         Answer::Notice { count } => add_notice(*count, out),
+        Answer::GroupDropped => out.add(b"notice: open group dropped\n"),
         Answer::Usage => out.add(USAGE),
     }
 }

@@ -1,8 +1,9 @@
 -- A line with a word is no blank line.
 use Rattle.std.proofs.Common.{◌≡◌, ℕ, zero, suc, ◌<◌, true, false, List, [], ◌∷◌, ◌++◌, length, get_or, take}
 use Rattle.std.proofs.Common.{drop, refl, sym, ap, ◌∙◌, subst, arith, take-append-drop, length-take}
-use Rattle.std.proofs.Common.{get_or-take}
+use Rattle.std.proofs.Common.{get_or-take, Bool, nat_lt, ◌&&◌, true≢false}
 use Rattle.std.specs.Str.{IsUtf8, IsAscii, chars}
+use Rattle.std.proofs.lemmas.Bool.Decides.{nat_tests}
 use Rattle.std.proofs.lemmas.Str.{IsUtf8-take, IsUtf8-drop, chars-append, chars-IsAscii}
 use Rattle.std.proofs.lemmas.Str.{chars_past_char, encode_ascii}
 use Rattle.ttl_tokens.specs.Blanks.{SkipsBlanks}
@@ -15,6 +16,10 @@ use Rattle.ttl_tokens.proofs.BlankLemmas.{walk_stops}
 use Rattle.ttl_tokens.proofs.RestLemmas.{longest_one}
 use Rattle.script_lines.specs.Forms.{EndsAt, begins_with, word_start}
 use Rattle.script_lines.proofs.WordLemmas.{white_before, white_low, start_boundary, begins_is}
+
+-- a small letter
+abbrev pub is_letter : ℕ → Bool
+is_letter c = nat_lt 96 c && nat_lt c 123
 
 -- all of a text is white space
 abbrev IsWhite : List ℕ → Type 0
@@ -81,7 +86,12 @@ module _ (line : List ℕ) (utf8 : IsUtf8 line) where
       end_next : (k : TokenKind) → k ≡ End → (xs ys : List ℕ) → IsNext xs k ys → xs ≡ []
       end_next k is xs ys next = (subst (λ (k : TokenKind). IsNext xs k ys) is next).0
 
-  pub not_blank : (c : ℕ) (word : List ℕ) → c < 128 → is_white c ≡ false → (c ≡ 35 → ⊥)
-      → begins_with (c ∷ word) line ≡ true → EndsAt line zero → ⊥
-  not_blank c word low black hash begins blank =
-      not_skipped c _ (begins_is (c ∷ word) line begins) low black hash (blank_skips blank)
+  pub not_blank : (word : List ℕ) → is_letter (get_or word 0 0) ≡ true → begins_with word line ≡ true
+      → EndsAt line zero → ⊥
+  not_blank [] letter begins blank = true≢false (sym letter)
+  not_blank (c ∷ word) letter begins blank =
+      let is : is_letter c ≡ true = letter in
+      let low : c < 128 = grind (arith, nat_tests) in
+      let black : is_white c ≡ false = grind (arith, nat_tests) in
+      not_skipped c _ (begins_is (c ∷ word) line begins) low black
+      (λ e. true≢false (sym is ∙ rw e refl)) (blank_skips blank)

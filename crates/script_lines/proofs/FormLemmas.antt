@@ -1,73 +1,93 @@
 -- Which form a line has, by the word with which it begins.
-use Rattle.std.proofs.Common.{◌≡◌, ℕ, zero, true, false, List, ◌++◌, length, Option, Some, None, get_or, drop}
-use Rattle.std.proofs.Common.{sym, ap, ◌∙◌, arith, true≢false, codes, MatchOption}
+use Rattle.std.proofs.Common.{◌≡◌, ℕ, zero, true, List, ◌++◌, Option, Some, None, drop, cond}
+use Rattle.std.proofs.Common.{refl, sym, ap, ◌∙◌, codes, nat_eq, MatchOption}
+use Rattle.std.specs.List.{starts_with}
 use Rattle.script_lines.specs.declared.form.Form.{Form}
-use Rattle.script_lines.specs.declared.form.Form.TheVariants.{Blank, Report, Count, Insert, Remove}
+use Rattle.script_lines.specs.declared.form.Form.TheVariants.{Blank, Alone, Insert, Remove}
 use Rattle.script_lines.specs.declared.form.Terms.{Terms}
-use Rattle.script_lines.specs.Forms.{EndsAt, HasForm, IsEdit, begins_with, word_start, word_end}
+use Rattle.script_lines.specs.declared.word.Word.{Word}
+use Rattle.script_lines.specs.declared.word.Word.TheVariants.{Report, Count, Begin, Commit, Abandon}
+use Rattle.script_lines.specs.declared.word.Word.TheVariants.{Undo, Redo}
+use Rattle.script_lines.specs.Forms.{EndsAt, HasForm, IsEdit, begins_with, word_start, word_end, word_text}
 use Rattle.script_lines.specs.inner.Parts.{IsParted, IsWordEnd}
 use Rattle.script_lines.proofs.WordLemmas.{begins_is}
 
--- the third letter tells the words apart
-abbrev pub letter : Form → ℕ
-letter Blank = 0
-letter Report = 112
-letter Count = 117
-letter (Insert terms) = 115
-letter (Remove terms) = 109
+-- a form without its terms
+pub data Head : Type 0 where
+  Empty : Head
+  Lone : Word → Head
+  Inserts : Head
+  Removes : Head
 
-abbrev pub third : List ℕ → ℕ
-third line = get_or (drop (word_start line) line) 2 0
+abbrev pub head : Form → Head
+head Blank = Empty
+head (Alone word) = Lone word
+head (Insert terms) = Inserts
+head (Remove terms) = Removes
 
-third_in : (word line : List ℕ) → begins_with word line ≡ true
-    → third line ≡ get_or (word ++ drop (length word) (drop (word_start line) line)) 2 0
-third_in word line begins = ap (λ (l : List ℕ). get_or l 2 0) (begins_is word line begins)
+-- whether a text begins with a word, and what it is then
+abbrev or_else : List ℕ → List ℕ → Head → Head → Head
+or_else text word is other = cond (starts_with nat_eq text word) is other
+
+abbrev or_alone : List ℕ → Word → Head → Head
+or_alone text word other = or_else text (word_text word) (Lone word) other
+
+-- what a text is by the first of the words with which it begins
+abbrev head_of : List ℕ → Head
+head_of text =
+    or_alone text Report (or_alone text Count (or_alone text Begin (or_alone text Commit
+    (or_alone text Abandon (or_alone text Undo (or_alone text Redo
+    (or_else text (codes "insert") Inserts (or_else text (codes "remove") Removes Empty))))))))
+
+-- ... which is the only one, since none of them is a front of another
+word_tells : (word : Word) (more : List ℕ) → head_of (word_text word ++ more) ≡ Lone word
+word_tells Report more = refl
+word_tells Count more = refl
+word_tells Begin more = refl
+word_tells Commit more = refl
+word_tells Abandon more = refl
+word_tells Undo more = refl
+word_tells Redo more = refl
 
 module _ (line : List ℕ) where
   abbrev pub NoForm : Type 0
   NoForm = (form : Form) → HasForm line form → ⊥
 
-  pub third_report : begins_with (codes "report") line ≡ true → third line ≡ 112
-  third_report begins = third_in (codes "report") line begins
+  abbrev pub line_head : Head
+  line_head = head_of (drop (word_start line) line)
 
-  pub third_count : begins_with (codes "count") line ≡ true → third line ≡ 117
-  third_count begins = third_in (codes "count") line begins
+  pub alone_head : (word : Word) → begins_with (word_text word) line ≡ true → line_head ≡ Lone word
+  alone_head word begins = ap head_of (begins_is (word_text word) line begins) ∙ word_tells word _
 
-  pub third_insert : begins_with (codes "insert") line ≡ true → third line ≡ 115
-  third_insert begins = third_in (codes "insert") line begins
+  pub insert_head : begins_with (codes "insert") line ≡ true → line_head ≡ Inserts
+  insert_head begins = ap head_of (begins_is (codes "insert") line begins)
 
-  pub third_remove : begins_with (codes "remove") line ≡ true → third line ≡ 109
-  third_remove begins = third_in (codes "remove") line begins
+  pub remove_head : begins_with (codes "remove") line ≡ true → line_head ≡ Removes
+  remove_head begins = ap head_of (begins_is (codes "remove") line begins)
 
   module _ (some : EndsAt line zero → ⊥) where
-    pub form_third : (form : Form) → HasForm line form → third line ≡ letter form
-    form_third Blank h = absurd (some h)
-    form_third Report h = third_report h.begins
-    form_third Count h = third_count h.begins
-    form_third (Insert terms) h = third_insert h.begins
-    form_third (Remove terms) h = third_remove h.begins
+    pub form_head : (form : Form) → HasForm line form → line_head ≡ head form
+    form_head Blank h = absurd (some h)
+    form_head (Alone word) h = alone_head word h.begins
+    form_head (Insert terms) h = insert_head h.begins
+    form_head (Remove terms) h = remove_head h.begins
 
     -- ---- no form but that of the word
 
-    only_report : third line ≡ 112 → (form : Form) → HasForm line form
-        → EndsAt line (word_end (codes "report") line)
-    only_report is Report h = h.ends
-    only_report is form h = absurd (omega (arith, is, form_third form h))
+    by_word : (word : Word) (form : Form) → head form ≡ Lone word → HasForm line form
+        → EndsAt line (word_end (word_text word) line)
+    by_word word (Alone other) is h = let same : other ≡ word = cc in rw (← same) h.ends
+    by_word word form is h = absurd (cc)
 
-    only_count : third line ≡ 117 → (form : Form) → HasForm line form
-        → EndsAt line (word_end (codes "count") line)
-    only_count is Count h = h.ends
-    only_count is form h = absurd (omega (arith, is, form_third form h))
-
-    only_insert : third line ≡ 115 → (form : Form) → HasForm line form
+    by_insert : (form : Form) → head form ≡ Inserts → HasForm line form
         → (terms : Terms) × IsParted line (word_end (codes "insert") line) terms
-    only_insert is (Insert terms) h = (terms, record { parted = h.parted; triple = h.triple })
-    only_insert is form h = absurd (omega (arith, is, form_third form h))
+    by_insert (Insert terms) is h = (terms, record { parted = h.parted; triple = h.triple })
+    by_insert form is h = absurd (cc)
 
-    only_remove : third line ≡ 109 → (form : Form) → HasForm line form
+    by_remove : (form : Form) → head form ≡ Removes → HasForm line form
         → (terms : Terms) × IsParted line (word_end (codes "remove") line) terms
-    only_remove is (Remove terms) h = (terms, record { parted = h.parted; triple = h.triple })
-    only_remove is form h = absurd (omega (arith, is, form_third form h))
+    by_remove (Remove terms) is h = (terms, record { parted = h.parted; triple = h.triple })
+    by_remove form is h = absurd (cc)
 
     -- ---- the answers
 
@@ -76,41 +96,25 @@ module _ (line : List ℕ) where
       abbrev IsAlone : Form → Option Form → Type 0
       IsAlone form found = MatchOption found (EndsAt line at → ⊥) (λ f. (f ≡ form) × EndsAt line at)
 
-      pub report_answer : IsWordEnd line (codes "report") at → (found : Option Form) → IsAlone Report found
-          → MatchOption found NoForm (HasForm line)
-      report_answer word None none = λ form h.
-          none (rw word.place (only_report (third_report word.begins) form h))
-      report_answer word (Some form) here =
-          rw here.0 (record { begins = word.begins; ends = rw word.place at here.1 })
-
-      pub count_answer : IsWordEnd line (codes "count") at → (found : Option Form) → IsAlone Count found
-          → MatchOption found NoForm (HasForm line)
-      count_answer word None none = λ form h.
-          none (rw word.place (only_count (third_count word.begins) form h))
-      count_answer word (Some form) here =
-          rw here.0 (record { begins = word.begins; ends = rw word.place at here.1 })
+      pub alone_answer : (word : Word) → IsWordEnd line (word_text word) at → (found : Option Form)
+          → IsAlone (Alone word) found → MatchOption found NoForm (HasForm line)
+      alone_answer word end None none = λ form h.
+          none (rw end.place (by_word word form (sym (form_head form h) ∙ alone_head word end.begins) h))
+      alone_answer word end (Some form) here =
+          rw here.0 (record { begins = end.begins; ends = rw end.place at here.1 })
 
       -- no triple follows
       pub no_insert : IsWordEnd line (codes "insert") at → ((terms : Terms) → IsParted line at terms → ⊥)
           → NoForm
-      no_insert word none = λ form h.
-          let parted = only_insert (third_insert word.begins) form h in
-          none parted.0 (rw word.place parted.1)
+      no_insert end none = λ form h.
+          let parted = by_insert form (sym (form_head form h) ∙ insert_head end.begins) h in
+          none parted.0 (rw end.place parted.1)
 
       pub no_remove : IsWordEnd line (codes "remove") at → ((terms : Terms) → IsParted line at terms → ⊥)
           → NoForm
-      no_remove word none = λ form h.
-          let parted = only_remove (third_remove word.begins) form h in
-          none parted.0 (rw word.place parted.1)
-
-    -- the line begins with none of the words
-    pub no_word : begins_with (codes "report") line ≡ false → begins_with (codes "count") line ≡ false
-        → begins_with (codes "insert") line ≡ false → begins_with (codes "remove") line ≡ false → NoForm
-    no_word report count insert remove Blank h = some h
-    no_word report count insert remove Report h = true≢false (sym h.begins ∙ report)
-    no_word report count insert remove Count h = true≢false (sym h.begins ∙ count)
-    no_word report count insert remove (Insert terms) h = true≢false (sym h.begins ∙ insert)
-    no_word report count insert remove (Remove terms) h = true≢false (sym h.begins ∙ remove)
+      no_remove end none = λ form h.
+          let parted = by_remove form (sym (form_head form h) ∙ remove_head end.begins) h in
+          none parted.0 (rw end.place parted.1)
 
   -- white space and a triple follow
   pub an_edit : (word : List ℕ) (at : ℕ) → IsWordEnd line word at → (terms : Terms) → IsParted line at terms

@@ -1,16 +1,18 @@
 -- A line has one form.
-use Rattle.std.proofs.Common.{◌≡◌, ℕ, zero, true, List, refl, sym, ap, ◌∙◌, subst, arith, codes, lit<}
+use Rattle.std.proofs.Common.{◌≡◌, ℕ, zero, true, List, get_or, refl, sym, ap, ◌∙◌, subst, codes}
 use Rattle.std.specs.Str.{IsUtf8}
 use Rattle.ttl_tokens.specs.declared.token.Token.{Token}
 use Rattle.ttl_tokens.specs.Tokens.{IsTokenAt}
 use Rattle.ttl_tokens.proofs.OneTokenLemmas.{one_token}
 use Rattle.script_lines.specs.declared.form.Form.{Form}
-use Rattle.script_lines.specs.declared.form.Form.TheVariants.{Blank, Report, Count, Insert, Remove}
+use Rattle.script_lines.specs.declared.form.Form.TheVariants.{Blank, Alone, Insert, Remove}
 use Rattle.script_lines.specs.declared.form.Terms.{Terms}
-use Rattle.script_lines.specs.Forms.{EndsAt, HasForm, IsEdit, IsTriple, begins_with, word_end}
-use Rattle.script_lines.proofs.BlankLineLemmas.{not_blank}
-use Rattle.script_lines.proofs.FormLemmas.{form_third, letter, third_report, third_count}
-use Rattle.script_lines.proofs.FormLemmas.{third_insert, third_remove}
+use Rattle.script_lines.specs.declared.word.Word.{Word}
+use Rattle.script_lines.specs.declared.word.Word.TheVariants.{Report, Count, Begin, Commit, Abandon}
+use Rattle.script_lines.specs.declared.word.Word.TheVariants.{Undo, Redo}
+use Rattle.script_lines.specs.Forms.{EndsAt, HasForm, IsTriple, begins_with, word_end, word_text}
+use Rattle.script_lines.proofs.BlankLineLemmas.{is_letter, not_blank}
+use Rattle.script_lines.proofs.FormLemmas.{form_head, head}
 
 same_terms : (a b : Terms) → a.subject ≡ b.subject → a.predicate ≡ b.predicate → a.object ≡ b.object → a ≡ b
 same_terms a b s p o = rw (s, p, o) refl
@@ -30,56 +32,47 @@ module _ (line : List ℕ) (utf8 : IsUtf8 line) where
 
   -- ---- a word is at no end
 
-  report_more : begins_with (codes "report") line ≡ true → EndsAt line zero → ⊥
-  report_more = not_blank line utf8 114 (codes "eport") (lit< tt) refl (λ e. cc)
-
-  count_more : begins_with (codes "count") line ≡ true → EndsAt line zero → ⊥
-  count_more = not_blank line utf8 99 (codes "ount") (lit< tt) refl (λ e. cc)
+  word_more : (word : Word) → begins_with (word_text word) line ≡ true → EndsAt line zero → ⊥
+  word_more word = not_blank line utf8 (word_text word) (begins_letter word)
+    where
+      begins_letter : (word : Word) → is_letter (get_or (word_text word) 0 0) ≡ true
+      begins_letter Report = refl
+      begins_letter Count = refl
+      begins_letter Begin = refl
+      begins_letter Commit = refl
+      begins_letter Abandon = refl
+      begins_letter Undo = refl
+      begins_letter Redo = refl
 
   insert_more : begins_with (codes "insert") line ≡ true → EndsAt line zero → ⊥
-  insert_more = not_blank line utf8 105 (codes "nsert") (lit< tt) refl (λ e. cc)
+  insert_more = not_blank line utf8 (codes "insert") refl
 
   remove_more : begins_with (codes "remove") line ≡ true → EndsAt line zero → ⊥
-  remove_more = not_blank line utf8 114 (codes "emove") (lit< tt) refl (λ e. cc)
+  remove_more = not_blank line utf8 (codes "remove") refl
 
   only_blank : EndsAt line zero → (form : Form) → HasForm line form → form ≡ Blank
   only_blank end Blank h = refl
-  only_blank end Report h = absurd (report_more h.begins end)
-  only_blank end Count h = absurd (count_more h.begins end)
+  only_blank end (Alone word) h = absurd (word_more word h.begins end)
   only_blank end (Insert terms) h = absurd (insert_more h.begins end)
   only_blank end (Remove terms) h = absurd (remove_more h.begins end)
 
-  -- ---- by the third letter
+  -- ---- by the word
 
-  only_report : (form : Form) → letter form ≡ 112 → form ≡ Report
-  only_report Report e = refl
-  only_report form e = absurd (omega (arith, e))
+  one_head : (a b : Form) → head a ≡ head b → HasForm line a → HasForm line b → a ≡ b
+  one_head Blank Blank e h k = refl
+  one_head (Alone a) (Alone b) e h k = let same : a ≡ b = cc in ap Alone same
+  one_head (Insert a) (Insert b) e h k =
+      ap Insert (one_triple (word_end (codes "insert") line) a b h.triple k.triple)
+  one_head (Remove a) (Remove b) e h k =
+      ap Remove (one_triple (word_end (codes "remove") line) a b h.triple k.triple)
+  one_head a b e h k = absurd (cc)
 
-  only_count : (form : Form) → letter form ≡ 117 → form ≡ Count
-  only_count Count e = refl
-  only_count form e = absurd (omega (arith, e))
-
-  only_insert : (form : Form) → letter form ≡ 115 → (terms : Terms) × (form ≡ Insert terms)
-  only_insert (Insert terms) e = (terms, refl)
-  only_insert form e = absurd (omega (arith, e))
-
-  only_remove : (form : Form) → letter form ≡ 109 → (terms : Terms) × (form ≡ Remove terms)
-  only_remove (Remove terms) e = (terms, refl)
-  only_remove form e = absurd (omega (arith, e))
+  some_word : (EndsAt line zero → ⊥) → (a b : Form) → HasForm line a → HasForm line b → a ≡ b
+  some_word some a b h k =
+      one_head a b (sym (form_head line some a h) ∙ form_head line some b k) h k
 
   pub one_form : (a b : Form) → HasForm line a → HasForm line b → a ≡ b
   one_form Blank b h k = sym (only_blank h b k)
-  one_form Report b h k =
-      sym (only_report b (sym (form_third line (report_more h.begins) b k) ∙ third_report line h.begins))
-  one_form Count b h k =
-      sym (only_count b (sym (form_third line (count_more h.begins) b k) ∙ third_count line h.begins))
-  one_form (Insert a) b h k =
-      let is = only_insert b
-      (sym (form_third line (insert_more h.begins) b k) ∙ third_insert line h.begins) in
-      let edit : IsEdit line (codes "insert") is.0 = subst (λ (f : Form). HasForm line f) is.1 k in
-      ap Insert (one_triple (word_end (codes "insert") line) a is.0 h.triple edit.triple) ∙ sym is.1
-  one_form (Remove a) b h k =
-      let is = only_remove b
-      (sym (form_third line (remove_more h.begins) b k) ∙ third_remove line h.begins) in
-      let edit : IsEdit line (codes "remove") is.0 = subst (λ (f : Form). HasForm line f) is.1 k in
-      ap Remove (one_triple (word_end (codes "remove") line) a is.0 h.triple edit.triple) ∙ sym is.1
+  one_form (Alone word) b h k = some_word (word_more word h.begins) (Alone word) b h k
+  one_form (Insert terms) b h k = some_word (insert_more h.begins) (Insert terms) b h k
+  one_form (Remove terms) b h k = some_word (remove_more h.begins) (Remove terms) b h k

@@ -112,8 +112,7 @@ module _ (line : List ℕ) (utf8 : IsUtf8 line) (document : Document) where
   one_asked : (f : Form) (a b : Result Command LineFault) → IsAsked line document f a
       → IsAsked line document f b → a ≡ b
   one_asked the_form.Blank a b h k = h ∙ sym k
-  one_asked the_form.Report a b h k = h ∙ sym k
-  one_asked the_form.Count a b h k = h ∙ sym k
+  one_asked (the_form.Alone word) a b h k = h ∙ sym k
   one_asked (the_form.Insert terms) a b h k =
       h.2 ∙ ap (edits_by Insert) (one_triple_read terms h.0 k.0 h.1 k.1) ∙ sym k.2
   one_asked (the_form.Remove terms) a b h k =

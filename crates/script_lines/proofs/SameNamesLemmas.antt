@@ -76,8 +76,7 @@ module _ (a b : Document) (alike : HaveSameNames a b) where
     asked : (f : Form) (reading : Result Command LineFault) → IsAsked line a f reading
         → IsAsked line b f reading
     asked form.Blank reading is = is
-    asked form.Report reading is = is
-    asked form.Count reading is = is
+    asked (form.Alone word) reading is = is
     asked (form.Insert terms) reading (triple, read, is) = (triple, triple_read terms triple read, is)
     asked (form.Remove terms) reading (triple, read, is) = (triple, triple_read terms triple read, is)
 

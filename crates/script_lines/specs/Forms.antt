@@ -11,8 +11,11 @@ use Rattle.ttl_tokens.specs.Tokens.{IsTokenAt}
 use Rattle.ttl_read.specs.Grammar.{begins_verb, is_iri, is_kind}
 use Rattle.ttl_read.specs.ReadTerm.{GoesTo}
 use Rattle.script_lines.specs.declared.form.Form.{Form}
-use Rattle.script_lines.specs.declared.form.Form.TheVariants.{Blank, Report, Count, Insert, Remove}
+use Rattle.script_lines.specs.declared.form.Form.TheVariants.{Blank, Alone, Insert, Remove}
 use Rattle.script_lines.specs.declared.form.Terms.{Terms}
+use Rattle.script_lines.specs.declared.word.Word.{Word}
+use Rattle.script_lines.specs.declared.word.Word.TheVariants.{Report, Count, Begin, Commit, Abandon}
+use Rattle.script_lines.specs.declared.word.Word.TheVariants.{Undo, Redo}
 
 -- ---- words
 
@@ -26,6 +29,16 @@ begins_with word line = starts_with nat_eq (drop (word_start line) line) word
 -- the byte behind a word with which a line begins
 abbrev pub word_end : List ℕ → List ℕ → ℕ
 word_end word line = word_start line + length word
+
+-- how a word that stands alone is written
+abbrev pub word_text : Word → List ℕ
+word_text Report = codes "report"
+word_text Count = codes "count"
+word_text Begin = codes "begin"
+word_text Commit = codes "commit"
+word_text Abandon = codes "abandon"
+word_text Undo = codes "undo"
+word_text Redo = codes "redo"
 
 -- from this byte on there is nothing but white space and comments
 pub record EndsAt (line : List ℕ) (at : ℕ) : Type 0 where
@@ -70,7 +83,6 @@ pub record IsEdit (line word : List ℕ) (terms : Terms) : Type 0 where
 
 abbrev pub HasForm : List ℕ → Form → Type 0
 HasForm line Blank = EndsAt line 0
-HasForm line Report = IsWord line (codes "report")
-HasForm line Count = IsWord line (codes "count")
+HasForm line (Alone word) = IsWord line (word_text word)
 HasForm line (Insert terms) = IsEdit line (codes "insert") terms
 HasForm line (Remove terms) = IsEdit line (codes "remove") terms

@@ -1,3 +1,4 @@
+pub mod Commands
 pub mod FaultText
 pub mod Forms
 pub mod Lines

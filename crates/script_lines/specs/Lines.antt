@@ -21,12 +21,15 @@ use Rattle.ttl_tokens.specs.declared.token.TokenKind.TheVariants.{WordA}
 use Rattle.ttl_meaning.specs.declared.document.Document.{Document}
 use Rattle.ttl_read.specs.ReadTerm.{Found, A, No, IsFound}
 use Rattle.script_lines.specs.declared.command.Command.{Command}
-use Rattle.script_lines.specs.declared.command.Command.TheVariants.{Edit as edits, Report, Count, Nothing}
+use Rattle.script_lines.specs.declared.command.Command.TheVariants.{Edit as edits, Report, Count, Begin}
+use Rattle.script_lines.specs.declared.command.Command.TheVariants.{Commit, Abandon, Undo, Redo, Nothing}
 use Rattle.script_lines.specs.declared.fault.LineFault.{LineFault}
 use Rattle.script_lines.specs.declared.fault.LineFault.TheVariants.{Line}
 use Rattle.script_lines.specs.declared.form.Form.{Form}
 use Rattle.script_lines.specs.declared.form.Form.TheVariants as form
 use Rattle.script_lines.specs.declared.form.Terms.{Terms}
+use Rattle.script_lines.specs.declared.word.Word.{Word}
+use Rattle.script_lines.specs.declared.word.Word.TheVariants as word
 use Rattle.script_lines.specs.Forms.{HasForm}
 
 -- ---- terms
@@ -74,11 +77,20 @@ abbrev pub edits_by : (TermTriple → Edit) → Result TermTriple LineFault → 
 edits_by edit (Ok triple) = Ok (edits (edit triple))
 edits_by edit (Err fault) = Err fault
 
+-- what a word asks for that stands alone
+abbrev pub asked_by : Word → Command
+asked_by word.Report = Report
+asked_by word.Count = Count
+asked_by word.Begin = Begin
+asked_by word.Commit = Commit
+asked_by word.Abandon = Abandon
+asked_by word.Undo = Undo
+asked_by word.Redo = Redo
+
 -- a line of this form asks for this
 abbrev pub IsAsked : List ℕ → Document → Form → Result Command LineFault → Type 0
 IsAsked line document form.Blank reading = reading ≡ Ok Nothing
-IsAsked line document form.Report reading = reading ≡ Ok Report
-IsAsked line document form.Count reading = reading ≡ Ok Count
+IsAsked line document (form.Alone word) reading = reading ≡ Ok (asked_by word)
 IsAsked line document (form.Insert terms) reading =
     (triple : Result TermTriple LineFault) × IsTripleRead line document terms triple
     × (reading ≡ edits_by Insert triple)
@@ -103,4 +115,9 @@ abbrev pub IsValidCommand : Command → Type 0
 IsValidCommand (edits edit) = IsValidEdit edit
 IsValidCommand Report = Unit {0}
 IsValidCommand Count = Unit {0}
+IsValidCommand Begin = Unit {0}
+IsValidCommand Commit = Unit {0}
+IsValidCommand Abandon = Unit {0}
+IsValidCommand Undo = Unit {0}
+IsValidCommand Redo = Unit {0}
 IsValidCommand Nothing = Unit {0}

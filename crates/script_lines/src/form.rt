@@ -9,7 +9,7 @@ ghost use Rattle.script_lines.specs.declared.form.Terms.{Terms as terms_type};
 ghost use Rattle.script_lines.specs.Forms.{Comes, EndsAt, HasForm, IsTriple, is_subject};
 ghost use Rattle.script_lines.specs.inner.Parts.{IsParted, IsStop};
 
-use crate::word::{is_white, word_end, word_start};
+use crate::word::{Word, is_white, word_alone, word_end, word_start};
 use ttl_read::{begins_verb, is_iri, term_end};
 use ttl_tokens::{Token, TokenKind, next_token};
 
@@ -17,8 +17,7 @@ use ttl_tokens::{Token, TokenKind, next_token};
 #[derive(Clone, Copy, Debug)]
 pub(crate) enum Form {
     Blank,
-    Report,
-    Count,
+    Alone(Word),
     Insert(Terms),
     Remove(Terms),
 }
@@ -39,11 +38,8 @@ pub(crate) fn form_of(line: &str) -> Option<Form>
         return Some(Form::Blank);
     }
     let start = word_start(line);
-    if let Some(at) = word_end(line, start, "report") {
-        return alone(line, at, Form::Report);
-    }
-    if let Some(at) = word_end(line, start, "count") {
-        return alone(line, at, Form::Count);
+    if let Some((word, at)) = word_alone(line, start) {
+        return alone(line, at, word);
     }
     if let Some(at) = word_end(line, start, "insert") {
         return Some(Form::Insert(edit_at(line, at)?));
@@ -55,12 +51,17 @@ pub(crate) fn form_of(line: &str) -> Option<Form>
 }
 
 // The form of a word with nothing behind it.
-fn alone(line: &str, at: usize, form: Form) -> Option<Form>
+fn alone(line: &str, at: usize, word: Word) -> Option<Form>
     requires within { at ≤ length line.now }
     requires boundary { IsCharBoundary line.now at }
-    ensures { MatchOption result (EndsAt line.now at → ⊥) (λ found. (found ≡ form) × EndsAt line.now at) }
+    ensures { MatchOption result (EndsAt line.now at → ⊥)
+        (λ found. (found ≡ form_type.Alone word) × EndsAt line.now at) }
 {
-    if ends_at(line, at) { Some(form) } else { None }
+    if ends_at(line, at) {
+        Some(Form::Alone(word))
+    } else {
+        None
+    }
 }
 
 // Whether nothing but white space and comments stands from a byte on.

@@ -6,7 +6,7 @@
 //! | `command.rt` | `Command`: what a line asks for |
 //! | `fault.rt` | `LineFault`: why a line is no command |
 //! | `form.rt` | the form of a line, by its tokens |
-//! | `word.rt` | the word with which a line begins |
+//! | `word.rt` | `Word`: the words that stand alone, and the word with which a line begins |
 //! | `term.rt` | the terms of a line |
 //! | `laws.rt` | a line has one reading, by the base, prefixes and blank nodes of the data text |
 //!

@@ -60,8 +60,7 @@ fn command_of(
 {
     match form {
         Form::Blank => Ok(Command::Nothing),
-        Form::Report => Ok(Command::Report),
-        Form::Count => Ok(Command::Count),
+        Form::Alone(word) => Ok(word.command()),
         Form::Insert(terms) => {
             let triple = read_triple(alloc, line, terms, document)?;
             Ok(Command::Edit(Edit::Insert(triple)))

@@ -51,12 +51,25 @@ fn shown(
     match &read_line(alloc, line, document, limits) {
         Ok(Command::Edit(Edit::Insert(triple))) => shown_triple(alloc, "insert", triple),
         Ok(Command::Edit(Edit::Remove(triple))) => shown_triple(alloc, "remove", triple),
-        Ok(Command::Report) => String::from_str(alloc, "report"),
-        Ok(Command::Count) => String::from_str(alloc, "count"),
-        Ok(Command::Nothing) => String::from_str(alloc, "nothing"),
+        Ok(command) => String::from_str(alloc, word_of(command)),
         Err(LineFault::Line { code, at: None }) => format!(in alloc; "{code}"),
         Err(LineFault::Line { code, at: Some(at) }) => format!(in alloc; "{code} at {at}"),
         Err(LineFault::Memory) => Err(AllocError),
+    }
+}
+
+// A word for what a line asks for.
+fn word_of(command: &Command) -> &'static str {
+    match command {
+        Command::Edit(_) => "edit",
+        Command::Report => "report",
+        Command::Count => "count",
+        Command::Begin => "begin",
+        Command::Commit => "commit",
+        Command::Abandon => "abandon",
+        Command::Undo => "undo",
+        Command::Redo => "redo",
+        Command::Nothing => "nothing",
     }
 }
 

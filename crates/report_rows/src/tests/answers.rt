@@ -16,6 +16,10 @@ const LAST_LINE: u64 = 18446744073709551615;
 const ANSWERS: &str = "\
 changed=ok changed evaluated 18446744073709551615=
 unchanged=ok unchanged evaluated 0=
+begun=ok begun=
+queued=ok queued=
+abandoned=ok abandoned=
+dropped=notice: open group dropped=
 refused=refused line 18446744073709551615: 58 ScriptTooLong=
 unknown=refused line 18446744073709551615: 11 =
 fault=fault data: 10 TextTooLong at 0=
@@ -33,6 +37,10 @@ fn answer_of(word: &str) -> Result<Answer, RowFault> {
             evaluated: u64::MAX,
         }),
         "unchanged" => Ok(Answer::Unchanged),
+        "begun" => Ok(Answer::Begun),
+        "queued" => Ok(Answer::Queued),
+        "abandoned" => Ok(Answer::Abandoned),
+        "dropped" => Ok(Answer::GroupDropped),
         "refused" => Ok(refusal(SCRIPT_TOO_LONG)),
         "unknown" => Ok(refusal(11)),
         "fault" => Ok(fault(Role::Data, TEXT_TOO_LONG, 0)),

@@ -1,5 +1,5 @@
 -- The parts of a line.
-use Rattle.std.specs.Prelude.{◌≡◌, ◌≢◌, ℕ, true, List, Result, Ok, Err, slice_index}
+use Rattle.std.specs.Prelude.{◌≡◌, ◌≢◌, ℕ, true, false, List, Result, Ok, Err, slice_index}
 use Rattle.std.specs.Str.{IsCharBoundary}
 use Rattle.shx_term.specs.declared.term.Term.{Term}
 use Rattle.ttl_tokens.specs.declared.token.Token.{Token}
@@ -10,7 +10,8 @@ use Rattle.ttl_read.specs.ReadTerm.{Found, A, No}
 use Rattle.script_lines.specs.declared.fault.LineFault.{LineFault}
 use Rattle.script_lines.specs.declared.fault.LineFault.TheVariants.{Memory}
 use Rattle.script_lines.specs.declared.form.Terms.{Terms}
-use Rattle.script_lines.specs.Forms.{Comes, EndsAt, IsTriple, begins_with, word_end}
+use Rattle.script_lines.specs.declared.word.Word.{Word}
+use Rattle.script_lines.specs.Forms.{Comes, EndsAt, IsTriple, begins_with, word_end, word_text}
 use Rattle.script_lines.specs.Lines.{term_fault}
 
 -- the line begins with the word, which ends here
@@ -18,6 +19,10 @@ pub record IsWordEnd (line word : List ℕ) (at : ℕ) : Type 0 where
   pub begins : begins_with word line ≡ true
   pub place : at ≡ word_end word line
   pub boundary : IsCharBoundary line at
+
+-- the line begins with none of the words that stand alone
+abbrev pub BeginsWithNone : List ℕ → Type 0
+BeginsWithNone line = (word : Word) → begins_with (word_text word) line ≡ false
 
 -- a dot comes next, and then nothing more
 pub record IsStop (line : List ℕ) (at : ℕ) : Type 0 where

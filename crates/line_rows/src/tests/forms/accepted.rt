@@ -31,7 +31,22 @@ count→count
 ␉count␍→count
 count#→count
 count#report→count
-count # . . .→count";
+count # . . .→count
+begin→begin
+␉begin␍→begin
+begin#commit→begin
+commit→commit
+ commit # x→commit
+commit#→commit
+abandon→abandon
+  abandon  →abandon
+abandon#c␍#d→abandon
+undo→undo
+undo␉→undo
+ undo # redo→undo
+redo→redo
+␍redo→redo
+redo #c␍→redo";
 
 /// Words and triples.
 pub const TRIPLES: &str = r##"insert <a:s> <a:p> <a:o> .→insert <a:s> <a:p> <a:o>

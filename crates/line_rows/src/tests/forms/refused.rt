@@ -45,8 +45,32 @@ a→52
 ␌report→52
 ⍽report→52
 report⍽→52
-undo→52
-begin→52
+begun→52
+begi→52
+begins→52
+begin x→52
+begin .→52
+begin commit→52
+Begin→52
+comm→52
+commits→52
+commit report→52
+COMMIT→52
+abando→52
+abandoned→52
+abandon <a:s> <a:p> <a:o> .→52
+un→52
+undone→52
+undo x→52
+undo 1→52
+undo undo→52
+undo #c␍x→52
+Undo→52
+red→52
+redone→52
+redo .→52
+undo-redo→52
+rollback→52
 delete <a:s> <a:p> <a:o> .→52
 <a:s> <a:p> <a:o> .→52
 a <a:s> <a:p> <a:o> .→52

@@ -1,7 +1,6 @@
-use Rattle.std.proofs.Common.{sym, ◌∙◌, codes, true≢false}
+use Rattle.std.proofs.Common.{sym, ◌∙◌, true≢false}
 use Rattle.std.proofs.lemmas.Str.{IsCharBoundary-start}
-use Rattle.script_lines.proofs.FormLemmas.{report_answer, count_answer, no_insert, no_remove, no_word}
-use Rattle.script_lines.proofs.FormLemmas.{an_edit}
+use Rattle.script_lines.proofs.FormLemmas.{alone_answer, no_insert, no_remove}
 use Rattle.script_lines.proofs.form.form_of.Goals as goal
 
 pub ends_at-requires-clause-boundary : goal.ends_at-requires-clause-boundary
@@ -9,39 +8,17 @@ ends_at-requires-clause-boundary c = IsCharBoundary-start c.args.line.now c.utf8
 
 pub returns-in-Some : goal.returns-in-Some
 returns-in-Some c =
-    report_answer c.args.line.now (λ end. true≢false (sym (c.ends_at.ensures.1 end) ∙ c.if-ends_at.false))
-    c.in-Some.at c.in-Some.ensures c.alone.result c.alone.ensures
-
-pub returns-in-Some-word_end : goal.returns-in-Some-word_end
-returns-in-Some-word_end c =
-    count_answer c.args.line.now (λ end. true≢false (sym (c.ends_at.ensures.1 end) ∙ c.if-ends_at.false))
-    c.in-Some-word_end.at c.in-Some-word_end.ensures c.alone-in-Some-word_end.result
-    c.alone-in-Some-word_end.ensures
+    alone_answer c.args.line.now (λ end. true≢false (sym (c.ends_at.ensures.1 end) ∙ c.if-ends_at.false))
+    c.in-Some.at c.in-Some.word c.in-Some.ensures c.alone.result c.alone.ensures
 
 pub returns-in_err-edit_at : goal.returns-in_err-edit_at
 returns-in_err-edit_at c =
     rw c.from_residual.ensures
     (no_insert c.args.line.now (λ end. true≢false (sym (c.ends_at.ensures.1 end) ∙ c.if-ends_at.false))
-    c.in-Some-word_end-2.at c.in-Some-word_end-2.ensures c.in_err-edit_at.ensures)
-
-pub returns-in-Some-word_end-2 : goal.returns-in-Some-word_end-2
-returns-in-Some-word_end-2 c =
-    an_edit c.args.line.now (codes "insert") c.in-Some-word_end-2.at c.in-Some-word_end-2.ensures
-    c.in_ok-edit_at.field-0 c.in_ok-edit_at.ensures
+    c.in-Some-word_end.at c.in-Some-word_end.ensures c.in_err-edit_at.ensures)
 
 pub returns-in_err-edit_at-2 : goal.returns-in_err-edit_at-2
 returns-in_err-edit_at-2 c =
     rw c.from_residual-in_err-edit_at-2.ensures
     (no_remove c.args.line.now (λ end. true≢false (sym (c.ends_at.ensures.1 end) ∙ c.if-ends_at.false))
-    c.in-Some-word_end-3.at c.in-Some-word_end-3.ensures c.in_err-edit_at-2.ensures)
-
-pub returns-in-Some-word_end-3 : goal.returns-in-Some-word_end-3
-returns-in-Some-word_end-3 c =
-    an_edit c.args.line.now (codes "remove") c.in-Some-word_end-3.at c.in-Some-word_end-3.ensures
-    c.in_ok-edit_at-2.field-0 c.in_ok-edit_at-2.ensures
-
-pub returns : goal.returns
-returns c =
-    no_word c.args.line.now (λ end. true≢false (sym (c.ends_at.ensures.1 end) ∙ c.if-ends_at.false))
-    c.in_default.ensures c.in_default-word_end.ensures c.in_default-word_end-2.ensures
-    c.in_default-word_end-3.ensures
+    c.in-Some-word_end-2.at c.in-Some-word_end-2.ensures c.in_err-edit_at-2.ensures)

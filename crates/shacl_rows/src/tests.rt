@@ -1,5 +1,6 @@
 mod case;
 mod failures;
+mod groups;
 mod honest;
 mod limits;
 mod order;

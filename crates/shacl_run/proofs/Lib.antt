@@ -1,7 +1,9 @@
 pub mod AdmittedLemmas
+pub mod ChangingLemmas
 pub mod CompleteLemmas
 pub mod EndLemmas
 pub mod FilesLemmas
+pub mod HistoryLemmas
 pub mod JudgeLemmas
 pub mod LineReadingLemmas
 pub mod NamesLemmas
@@ -17,6 +19,8 @@ pub mod ScriptRunLemmas
 pub mod ServedLemmas
 pub mod ServingLemmas
 pub mod StandsLemmas
+pub mod StandsWellLemmas
+pub mod UndoneLemmas
 pub mod ValidationLemmas
 pub mod ValidationRunLemmas
 pub mod VerdictLemmas

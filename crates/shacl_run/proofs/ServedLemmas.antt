@@ -1,15 +1,15 @@
 -- How the answers to a script end.
-use Rattle.std.proofs.Common.{◌≡◌, ◌≢◌, ℕ, Bool, true, false, List, [], ◌∷◌, Option, None}
-use Rattle.std.proofs.Common.{Result, Err, refl, sym, ap, subst}
+use Rattle.std.proofs.Common.{◌≡◌, ◌≢◌, ℕ, Bool, true, false, List, [], ◌∷◌, Option, None, Some, Vec}
+use Rattle.std.proofs.Common.{Result, Err, refl, sym, ap, ◌∙◌, append-nil, subst}
 use Rattle.std.specs.Prelude.{IfSome, if◌then◌else◌}
+use Rattle.std.proofs.lemmas.Option.{IfSome_then}
 use Rattle.shx_outside.specs.declared.role.Role.TheVariants.{Script}
-use Rattle.shx_outside.specs.Outside.{InputState, SinkState}
+use Rattle.shx_outside.specs.Outside.{InputState}
 use Rattle.text_input.specs.ScriptReader.{ReaderState, new_reader, GoesOn}
 use Rattle.text_input.specs.TextRead.{TakesWithin}
 use Rattle.text_input.proofs.CountLemmas.{IsCounted-start, IsCounted-within, GoesOn-then}
 use Rattle.text_output.specs.declared.format.Format.{Format}
-use Rattle.text_output.specs.Writes.{Put}
-use Rattle.text_output.specs.inner.AddedLaws.{Put-none}
+use Rattle.text_output.specs.Writes.{FellShort, Put}
 use Rattle.comp_core.specs.declared.row.ResultRow.{ResultRow}
 use Rattle.shape_eval.specs.Report.{report}
 use Rattle.shacl_run.specs.declared.status.Status.{Status}
@@ -19,14 +19,21 @@ use Rattle.shacl_run.specs.declared.status.Status.TheVariants.{Memory as no_memo
 use Rattle.shacl_run.specs.declared.stop.Stop.{Stop}
 use Rattle.shacl_run.specs.declared.stop.Stop.TheVariants.{Input, Write, Memory}
 use Rattle.shacl_run.specs.inner.Ends.{Ends}
+use Rattle.shacl_run.specs.inner.Reply.{open_notice}
+use Rattle.shacl_run.specs.inner.Validation.{IsScriptRun}
+use Rattle.shacl_run.specs.declared.script_run.ScriptRun.{ScriptRun}
+use Rattle.shx_term.specs.declared.edit.Edit.{Edit}
+use Rattle.shx_term.specs.declared.limits.Limits.{Limits}
+use Rattle.std.specs.declared.alloc.Global.{Global}
+use Rattle.std.specs.Option.{option_map}
 use Rattle.shacl_run.specs.inner.Stops.{StopCause, end_status, stop_status}
 use Rattle.shacl_run.specs.Outside.{Outside, counts}
-use Rattle.shacl_run.specs.Run.{Output, ending, status_of_rows, status_of_state}
+use Rattle.shacl_run.specs.Run.{Output, dropped_text, ending, status_of_rows, status_of_state}
 use Rattle.shacl_run.specs.ScriptState.{ScriptState}
 use Rattle.shacl_run.specs.Status.{IsAnswered, IsReported}
 use Rattle.shacl_run.specs.Work.{NoneFell}
-use Rattle.shacl_run.proofs.EndLemmas.{answered_apart, cut_or_answered, Ends-input, Ends-memory, Ends-whole}
-use Rattle.shacl_run.proofs.EndLemmas.{IsStill}
+use Rattle.shacl_run.proofs.EndLemmas.{answered_apart, cut_or_answered, Ends-input, Ends-memory, Ends-short}
+use Rattle.shacl_run.proofs.EndLemmas.{Ends-whole}
 use Rattle.shacl_run.proofs.WorkLemmas.{still_work}
 
 pub rows_answered : (rows : List ResultRow) → IsAnswered (status_of_rows rows)
@@ -40,21 +47,47 @@ state_answered s false = rows_answered (report s.plan s.graph)
 
 -- the run ends after the last line
 pub Ends-last : (due : Option Output) (format : Format) (s : ScriptState) (before after : Outside)
-    → IfSome due (λ told. told ≡ ending format false s) → IsStill before after
-    → counts after ≡ counts before → Ends due (status_of_state s) before after
-Ends-last due format s before after told still same =
+    → IfSome due (λ told. told ≡ ending format false s) → after.inputs.faults ≡ before.inputs.faults
+    → counts after ≡ counts before → Put before.sink after.sink (dropped_text format s s.group)
+    → Ends due (status_of_state s) before after
+Ends-last due format s before after told quiet same put =
     Ends-whole due (ending format false s) before after told (state_answered s s.refused) (record {
-      inputs = still.inputs;
+      inputs = quiet;
       counted = λ _. still_work (counts before) (counts after) same;
-    }) (subst (λ sink. Put before.sink sink []) (sym still.sink) (Put-none before.sink))
+    }) put
+
+-- the notice that is written is the one that is due
+pub notice_is : (limits : Limits) (format : Format) (s : ScriptState) (script : ScriptRun)
+    → IsScriptRun limits format s script → open_notice script.format script.engine.graph.terms script.group
+    ≡ dropped_text format s s.group
+notice_is limits format s script is =
+    (λ i. open_notice (is.format_is i) (sym is.stores.terms i) script.group)
+    ∙ waiting_notice script.group s.group is.group_is
+  where
+    waiting_notice : (group : Option (Vec Edit Global)) (waiting : Option (List Edit))
+        → option_map (λ edits. edits.items) group ≡ waiting
+        → open_notice format s.graph.terms group ≡ dropped_text format s waiting
+    waiting_notice None waiting is = ap (dropped_text format s) is
+    waiting_notice (Some edits) waiting is = ap (dropped_text format s) is
+
+-- or the sink fails in the notice that a group was open
+pub Ends-last_short : (due : Option Output) (format : Format) (s : ScriptState) (before after : Outside)
+    → IfSome due (λ told. told ≡ ending format false s) → after.inputs.faults ≡ before.inputs.faults
+    → FellShort before.sink after.sink (dropped_text format s s.group) → Ends due WriteFault before after
+Ends-last_short due format s before after told quiet short =
+    let text = dropped_text format s s.group in
+    Ends-short due text before after
+    (IfSome_then due told (λ output same. ([], ap (λ (o : Output). o.text) same ∙ sym (append-nil text))))
+    quiet short
 
 -- ... whatever is due
-pub Ends-answered : (status : Status) (before after : Outside) → IsAnswered status → IsStill before after
+pub Ends-answered : (status : Status) (text : List ℕ) (before after : Outside) → IsAnswered status
+    → after.inputs.faults ≡ before.inputs.faults → Put before.sink after.sink text
     → NoneFell (counts before) (counts after) → Ends None status before after
-Ends-answered status before after answered still risen = record {
+Ends-answered status text before after answered quiet put risen = record {
   whole = λ _. record {
-    written = [];
-    put = subst (λ sink. Put before.sink sink []) (sym still.sink) (Put-none before.sink);
+    written = text;
+    put = put;
     risen = λ _. risen;
     defined = tt;
   };
@@ -63,8 +96,8 @@ Ends-answered status before after answered still risen = record {
     input_fault = λ is. absurd (answered_apart status InputFault answered (λ no. no) is);
     write_fault = λ is. absurd (answered_apart status WriteFault answered (λ no. no) is);
     used_up = λ is. absurd (answered_apart status WriteFault answered (λ no. no) is);
-    quiet_inputs = λ _. still.inputs;
-    quiet_sink = λ _. ap (λ (s : SinkState). s.faults) still.sink;
+    quiet_inputs = λ _. quiet;
+    quiet_sink = λ _. put.quiet;
   };
 }
 

@@ -1,13 +1,13 @@
 -- A script that is answered line by line gives the output that is due.
-use Rattle.std.proofs.Common.{◌≡◌, ℕ, Bool, true, false, nat_lt, List, ◌∷◌, ◌++◌, length, Option}
+use Rattle.std.proofs.Common.{◌≡◌, ℕ, Bool, true, false, nat_lt, List, [], ◌∷◌, ◌++◌, length, Option}
 use Rattle.std.proofs.Common.{None, Some, Result, Ok, Err}
 use Rattle.std.proofs.Common.{◌<◌, inl, inr, refl, sym, ap, ◌∙◌, subst, append_assoc}
-use Rattle.std.specs.Prelude.{All, IfSome}
+use Rattle.std.specs.Prelude.{All, IfSome, if◌then◌else◌, nat_le}
 use Rattle.std.proofs.lemmas.List.Elements.{All-head, All-tail}
 use Rattle.shx_outside.specs.Outside.{SinkState}
 use Rattle.shx_outside.specs.Told.{Grew, IsAtEnd}
 use Rattle.shx_outside.proofs.ToldLemmas.{Grew-none}
-use Rattle.shx_term.specs.declared.fault_codes.TheConstants.{LINE_TOO_LONG}
+use Rattle.shx_term.specs.declared.fault_codes.TheConstants.{GROUP_TOO_LONG, LINE_TOO_LONG}
 use Rattle.shx_term.specs.declared.limits.Limits.{Limits}
 use Rattle.text_input.specs.Lines.{script_lines}
 use Rattle.text_input.specs.ScriptReader.{ReaderState, new_reader, left_of, TakenLine, TookLine, TookEnd}
@@ -16,17 +16,25 @@ use Rattle.text_input.proofs.LineLemmas.{fed_lines-none}
 use Rattle.text_output.specs.declared.format.Format.{Format}
 use Rattle.ttl_meaning.specs.State.{State}
 use Rattle.script_lines.specs.declared.command.Command.{Command}
-use Rattle.script_lines.specs.declared.command.Command.TheVariants.{Edit as edits, Report, Count, Nothing}
+use Rattle.script_lines.specs.declared.command.Command.TheVariants.{Edit as edits, Report, Count, Begin}
+use Rattle.script_lines.specs.declared.command.Command.TheVariants.{Commit, Abandon, Undo, Redo, Nothing}
 use Rattle.script_lines.specs.declared.fault.LineFault.{LineFault}
 use Rattle.script_lines.specs.declared.fault.LineFault.TheVariants as fault
 use Rattle.shx_term.specs.declared.edit.Edit.{Edit}
-use Rattle.edit_engine.specs.Edits.{Outcome, NoEffect, PastTriples, PastTerms, Effect, outcome}
+use Rattle.edit_history.specs.declared.net.Net.{Net}
+use Rattle.edit_history.specs.History.{redo_change, undo_change}
+use Rattle.edit_engine.specs.Edits.{net_of}
+use Rattle.edit_engine.specs.Nets.{Outcome, NoEffect, PastTriples, PastTerms, Effect, outcome}
+use Rattle.report_write.specs.declared.answer.Answer.TheVariants.{Queued}
 use Rattle.shacl_run.specs.Run.{Output, behind, ending, output_from, fed_text}
 use Rattle.shacl_run.specs.RunClauses.{StopsFed}
 use Rattle.shacl_run.specs.Manner.{Manner}
 use Rattle.shacl_run.specs.Readings.{IsReadBehind, LinesAreReadOnce}
-use Rattle.shacl_run.specs.Script.{Served, Step, step_text, script_step, serve_lines, edit_step}
-use Rattle.shacl_run.specs.Script.{reading_step, refusal}
+use Rattle.shacl_run.specs.Script.{Served, Step, abandon_step, begin_step, change_step, commit_step}
+use Rattle.shacl_run.specs.Script.{edit_step, edits_step, make_again, past_of, reading_step, redo_step}
+use Rattle.shacl_run.specs.Script.{refusal}
+use Rattle.shacl_run.specs.Script.{script_step, serve_lines, stays, step_text, take_back, undo_step}
+use Rattle.shacl_run.specs.Script.Said.{answers}
 use Rattle.shacl_run.specs.ScriptState.{ScriptState}
 use Rattle.shacl_run.specs.inner.Serving.{due_at, Prefixed, Feeds, LinesAreReadAt, ReadsOn, TakesStep}
 use Rattle.shacl_run.specs.Work.{Work, and_then}
@@ -48,17 +56,75 @@ not_both false t f = cc
 
 -- ---- a line that was taken
 
-edit_end : (s : ScriptState) (edit : Edit) (comes : Outcome)
-    → (edit_step s edit comes).state.data_end ≡ s.data_end
-edit_end s edit NoEffect = refl
-edit_end s edit PastTriples = refl
-edit_end s edit PastTerms = refl
-edit_end s edit Effect = refl
+-- the state that a step leads to goes on from the same data text
+abbrev EndsAlike : ScriptState → Step → Type 0
+EndsAlike s step = step.state.data_end ≡ s.data_end
+
+change_end : (limits : Limits) (s : ScriptState) (net : Net) (comes : Outcome)
+    → EndsAlike s (change_step limits s net comes)
+change_end limits s net NoEffect = refl
+change_end limits s net PastTriples = refl
+change_end limits s net PastTerms = refl
+change_end limits s net Effect = refl
+
+edits_end : (limits : Limits) (s : ScriptState) (wanted : List Edit)
+    → EndsAlike s (edits_step limits s wanted)
+edits_end limits s wanted =
+    let net = net_of s.graph wanted in
+    change_end limits s net (outcome limits.triples limits.terms s.graph net)
+
+either_end : (s : ScriptState) (b : Bool) (one other : Step) → EndsAlike s one → EndsAlike s other
+    → EndsAlike s (if b then one else other)
+either_end s true one other first second = first
+either_end s false one other first second = second
+
+edit_end : (limits : Limits) (s : ScriptState) (edit : Edit) (group : Option (List Edit))
+    → EndsAlike s (edit_step limits s edit group)
+edit_end limits s edit None = edits_end limits s (edit ∷ [])
+edit_end limits s edit (Some waiting) =
+    either_end s (nat_le limits.group (length waiting)) (refusal s GROUP_TOO_LONG None)
+    (stays (record s { group = Some (waiting ++ edit ∷ []) }) (answers Queued ∷ [])) refl refl
+
+begin_end : (s : ScriptState) (group : Option (List Edit)) → EndsAlike s (begin_step s group)
+begin_end s None = refl
+begin_end s (Some waiting) = refl
+
+commit_end : (limits : Limits) (s : ScriptState) (group : Option (List Edit))
+    → EndsAlike s (commit_step limits s group)
+commit_end limits s None = refl
+commit_end limits s (Some waiting) = edits_end limits s waiting
+
+abandon_end : (s : ScriptState) (group : Option (List Edit)) → EndsAlike s (abandon_step s group)
+abandon_end s None = refl
+abandon_end s (Some waiting) = refl
+
+back_end : (s : ScriptState) (net : Option Net) → EndsAlike s (take_back s net)
+back_end s None = refl
+back_end s (Some net) = refl
+
+again_end : (s : ScriptState) (net : Option Net) → EndsAlike s (make_again s net)
+again_end s None = refl
+again_end s (Some net) = refl
+
+undo_end : (limits : Limits) (s : ScriptState) (group : Option (List Edit))
+    → EndsAlike s (undo_step limits s group)
+undo_end limits s None = back_end s (undo_change (past_of limits s))
+undo_end limits s (Some waiting) = refl
+
+redo_end : (limits : Limits) (s : ScriptState) (group : Option (List Edit))
+    → EndsAlike s (redo_step limits s group)
+redo_end limits s None = again_end s (redo_change (past_of limits s))
+redo_end limits s (Some waiting) = refl
 
 -- no line changes what the names of later lines mean
 step_end : (limits : Limits) (s : ScriptState) (reading : Result Command LineFault)
-    → (reading_step limits s reading).state.data_end ≡ s.data_end
-step_end limits s (Ok (edits edit)) = edit_end s edit (outcome limits.triples limits.terms s.graph edit)
+    → EndsAlike s (reading_step limits s reading)
+step_end limits s (Ok (edits edit)) = edit_end limits s edit s.group
+step_end limits s (Ok Begin) = begin_end s s.group
+step_end limits s (Ok Commit) = commit_end limits s s.group
+step_end limits s (Ok Abandon) = abandon_end s s.group
+step_end limits s (Ok Undo) = undo_end limits s s.group
+step_end limits s (Ok Redo) = redo_end limits s s.group
 step_end limits s (Ok Report) = refl
 step_end limits s (Ok Count) = refl
 step_end limits s (Ok Nothing) = refl

@@ -1,5 +1,6 @@
 -- What a validation stores is as good as the state before the script: the same pairs and the same report.
-use Rattle.std.specs.Prelude.{◌≡◌, ℕ, ◌+◌, false, List, ◌++◌, length}
+use Rattle.std.specs.Prelude.{◌≡◌, ℕ, ◌+◌, false, List, [], ◌++◌, None, length}
+use Rattle.std.specs.Option.{option_map}
 use Rattle.std.specs.Set.{distinct_count}
 use Rattle.std.proofs.Common.{sym, ap, ◌∙◌, subst}
 use Rattle.shx_term.specs.declared.limits.Limits.{Limits}
@@ -14,6 +15,7 @@ use Rattle.shape_eval.specs.Nested.{nested_pairs}
 use Rattle.shape_eval.specs.Plan.{Planned}
 use Rattle.shape_eval.specs.Planned.{plan_of}
 use Rattle.shape_eval.specs.Report.{pairs, report}
+use Rattle.edit_history.specs.History.{Past}
 use Rattle.edit_engine.specs.Remembered.{AreAllRecalled, answer_of, nested_count}
 use Rattle.text_output.specs.declared.format.Format.{Format}
 use Rattle.report_write.specs.ReportTexts.{report_text}
@@ -27,6 +29,10 @@ use Rattle.shacl_run.specs.Script.Said.{reports}
 use Rattle.shacl_run.specs.ScriptState.{ScriptState}
 use Rattle.shacl_run.specs.Work.{Work, and_then}
 use Rattle.shacl_run.proofs.WorkLemmas.{same_work}
+
+-- the history before the first change
+abbrev pub no_past : ℕ → Past
+no_past depth = record { changes = []; cursor = 0; depth = depth; staged = None }
 
 module _ (limits : Limits) (format : Format) (s : ScriptState) (validation : Validation)
     (is : IsValidation limits format s validation) where
@@ -78,23 +84,47 @@ module _ (limits : Limits) (format : Format) (s : ScriptState) (validation : Val
       (λ i. notice_text format notices ++ report_text format (held i) plan.shapes (same i))
       ∙ ap (λ text. notice_text format notices ++ text) (sym (text-validation rows found))
 
+  -- whatever the other limits are
+  pub IsValidation-within : (within : Limits) → within.triples ≡ limits.triples → within.terms ≡ limits.terms
+      → IsValidation within format s validation
+  IsValidation-within within triples terms = record {
+    stores = is.stores;
+    names_are = is.names_are;
+    plan_is = is.plan_is;
+    start = is.start;
+    limits_are = record {
+      triples = is.limits_are.triples ∙ sym triples;
+      terms = is.limits_are.terms ∙ sym terms;
+    };
+    format_is = is.format_is;
+  }
+
   -- a run of the script that begins with it keeps the state
   pub IsScriptRun-opened : (script : ScriptRun) → script.engine.plan ≡ plan → script.engine.graph ≡ stored
       → script.engine.term_limit ≡ validation.graph.pool.limit
       → script.engine.triple_limit ≡ validation.graph.limit → script.document ≡ validation.document
-      → script.format ≡ validation.format → script.line ≡ 0 → script.refused ≡ false
+      → script.format ≡ validation.format → script.group ≡ None → script.history ≡ no_past limits.history
+      → script.line ≡ 0 → script.refused ≡ false
       → nested_pairs plan s.graph ≡ nested_pairs plan stored
       → AreAllRecalled (answer_of script.engine.remembered) (nested_pairs plan stored)
       → IsScriptRun limits format s script
-  IsScriptRun-opened script plans graph terms triples document writes line refused alike recalled = record {
-    stores = subst (SameGraph s.graph) (sym graph) is.stores;
-    names_are = subst (λ (d : Document). HasNamesOf s.data_end d) (sym document) is.names_are;
-    plan_is = plans ∙ is.plan_is;
-    kept_is = subst (AreAllRecalled (answer_of script.engine.remembered))
-        (nested-validation alike ∙ sym is.start.kept) recalled;
-    line_is = line ∙ sym is.start.line;
-    refused_is = refused ∙ sym is.start.refused;
-    triples = triples ∙ is.limits_are.triples;
-    terms = terms ∙ is.limits_are.terms;
-    format_is = writes ∙ is.format_is;
-  }
+  IsScriptRun-opened script plans graph terms triples document writes group past line refused alike recalled
+      = record {
+        stores = subst (SameGraph s.graph) (sym graph) is.stores;
+        names_are = subst (λ (d : Document). HasNamesOf s.data_end d) (sym document) is.names_are;
+        plan_is = plans ∙ is.plan_is;
+        kept_is = subst (AreAllRecalled (answer_of script.engine.remembered))
+            (nested-validation alike ∙ sym is.start.kept) recalled;
+        group_is = ap (option_map (λ edits. edits.items)) group ∙ sym is.start.group;
+        history_is = past ∙ (λ i. record {
+          changes = sym is.start.changes i;
+          cursor = sym is.start.made i;
+          depth = limits.history;
+          staged = None;
+        });
+        line_is = line ∙ sym is.start.line;
+        refused_is = refused ∙ sym is.start.refused;
+        triples = triples ∙ is.limits_are.triples;
+        terms = terms ∙ is.limits_are.terms;
+        format_is = writes ∙ is.format_is;
+      }

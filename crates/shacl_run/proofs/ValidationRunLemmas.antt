@@ -1,5 +1,6 @@
 -- A report is written, and then its script is answered.
-use Rattle.std.proofs.Common.{◌≡◌, ℕ, Bool, false, nat_lt, List, [], Option, None, Some, Result, Ok, Err}
+use Rattle.std.proofs.Common.{◌≡◌, ℕ, Bool, false, nat_lt, List, [], ◌++◌, Option, None, Some}
+use Rattle.std.proofs.Common.{Result, Ok, Err}
 use Rattle.std.proofs.Common.{refl, sym, ap, ◌∙◌, subst, append-nil, arith}
 use Rattle.std.proofs.lemmas.Bool.Decides.{nat_tests}
 use Rattle.std.proofs.lemmas.List.Elements.{All-nil}
@@ -24,7 +25,7 @@ use Rattle.shacl_run.specs.inner.Ends.{Ends}
 use Rattle.shape_eval.specs.Report.{report}
 use Rattle.shacl_run.specs.Run.{Output, Opening, behind, ending, output_from, validation_output, script_text}
 use Rattle.shacl_run.specs.Outside.{Outside, counts}
-use Rattle.shacl_run.specs.Run.{fed_text, first_text, first_work}
+use Rattle.shacl_run.specs.Run.{dropped_text, fed_text, first_text, first_work}
 use Rattle.shacl_run.specs.Run.{opening_output, opening_fed, status_of_rows}
 use Rattle.shacl_run.specs.Manner.{Manner}
 use Rattle.shacl_run.specs.Readings.{IsReadBehind}
@@ -121,16 +122,16 @@ module _ (manner : Manner) (notices : ℕ) (s : ScriptState) where
       record { rest = output_from manner s manner.limits.script bytes; is = refl; whole = refl }
 
   -- of an empty script nothing is due
-  pub validation_alone : s.refused ≡ false
+  pub validation_alone : s.refused ≡ false → s.group ≡ None
       → validation_output manner notices s [] ≡ alone manner.format notices s
-  validation_alone unrefused =
+  validation_alone unrefused ungrouped =
       let limit = manner.limits.script in
       let none : script_lines limit [] ≡ [] = script_lines-none limit in
       let within : nat_lt limit 0 ≡ false = grind (arith, nat_tests) in
       let first = first_text manner.format notices s in
       (λ i. behind first (first_work s) (served_output (within i) (serve_lines manner s (none i))))
       ∙ (λ i. record {
-        text = append-nil first i;
+        text = (ap (λ group. first ++ dropped_text manner.format s group) ungrouped ∙ append-nil first) i;
         status = status_of_unrefused i;
         work = and_then-no_work (first_work s) i;
       })

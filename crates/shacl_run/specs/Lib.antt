@@ -9,6 +9,7 @@ pub mod RunClauses
 pub mod Script
 pub mod ScriptState
 pub mod Status
+pub mod Undone
 pub mod Verdict
 pub mod Work
 pub mod inner

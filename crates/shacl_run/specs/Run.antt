@@ -4,6 +4,7 @@ use Rattle.std.specs.Prelude.{ℕ, ◌==◌, Bool, true, false, nat_lt, List, []
 use Rattle.std.specs.Prelude.{Option, Some, None, if◌then◌else◌}
 use Rattle.std.specs.Option.{option_map, option_and_then}
 use Rattle.shx_outside.specs.declared.role.Role.TheVariants.{Shapes, Data, Script}
+use Rattle.shx_term.specs.declared.edit.Edit.{Edit}
 use Rattle.shx_term.specs.declared.limits.Limits.{Limits}
 use Rattle.graph_view.specs.declared.key.Key.TheVariants.{Predicate}
 use Rattle.graph_view.specs.Graph.{Graph}
@@ -19,7 +20,7 @@ use Rattle.text_output.specs.declared.format.Format.{Format}
 use Rattle.text_output.specs.declared.format.Format.TheVariants.{Lines}
 use Rattle.report_write.specs.declared.answer.Answer.{Answer}
 use Rattle.report_write.specs.declared.answer.Answer.TheVariants.{TextFault, TooLong, Notice}
-use Rattle.report_write.specs.declared.answer.Answer.TheVariants.{Usage}
+use Rattle.report_write.specs.declared.answer.Answer.TheVariants.{GroupDropped, Usage}
 use Rattle.report_write.specs.Answers.{answer_text}
 use Rattle.shacl_run.specs.declared.status.Status.{Status}
 use Rattle.shacl_run.specs.declared.status.Status.TheVariants.{Conforms, Violates, BadWords, Refused}
@@ -68,10 +69,19 @@ status_of_rows (row ∷ rows) = Violates
 abbrev pub status_of_state : ScriptState → Status
 status_of_state s = if s.refused then LinesRefused else status_of_rows (report s.plan s.graph)
 
+-- the notice that a group was open at the end
+abbrev pub dropped_text : Format → ScriptState → Option (List Edit) → List ℕ
+dropped_text format s None = []
+dropped_text format s (Some waiting) = answer_text format s.graph.terms GroupDropped
+
 -- how a run ends after the lines of its script: where it is longer than its limit, and where it is not
 abbrev pub ending : Format → Bool → ScriptState → Output
 ending format true s = refused format s.graph.terms (TooLong Script)
-ending format false s = record { text = []; status = status_of_state s; work = no_work }
+ending format false s = record {
+  text = dropped_text format s s.group;
+  status = status_of_state s;
+  work = no_work;
+}
 
 -- what is due from a state on, of a script of which so many bytes more are allowed, and these are left
 abbrev pub output_from : Manner → ScriptState → ℕ → List ℕ → Output

@@ -1,23 +1,30 @@
 -- Scripts: what each line does to the graph, what is said to it, and what work it takes.
-use Rattle.std.specs.Prelude.{ℕ, ◌+◌, true, List, [], ◌∷◌, ◌++◌, flat_map, length, Option, None, Some, Result}
-use Rattle.std.specs.Prelude.{Ok, Err}
+use Rattle.std.specs.Prelude.{ℕ, ◌+◌, ◌-◌, true, List, [], ◌∷◌, ◌++◌, flat_map, length, nat_le, Option, None}
+use Rattle.std.specs.Prelude.{Some, Result, Ok, Err, if◌then◌else◌}
 use Rattle.shx_term.specs.declared.edit.Edit.{Edit}
-use Rattle.shx_term.specs.declared.fault_codes.TheConstants.{GRAPH_TRIPLES, GRAPH_TERMS}
+use Rattle.shx_term.specs.declared.fault_codes.TheConstants.{GRAPH_TRIPLES, GRAPH_TERMS, GROUP_OPEN, NO_GROUP}
+use Rattle.shx_term.specs.declared.fault_codes.TheConstants.{GROUP_TOO_LONG, NOTHING_TO_UNDO}
+use Rattle.shx_term.specs.declared.fault_codes.TheConstants.{NOTHING_TO_REDO}
 use Rattle.shx_term.specs.declared.limits.Limits.{Limits}
 use Rattle.comp_core.specs.declared.pair.Pair.{Pair}
+use Rattle.edit_history.specs.declared.net.Net.{Net}
+use Rattle.edit_history.specs.History.{Past, history_after, redo_change, undo_change}
 use Rattle.shape_eval.specs.Report.{pairs, report}
-use Rattle.edit_engine.specs.Edits.{Outcome, NoEffect, PastTriples, PastTerms, Effect}
-use Rattle.edit_engine.specs.Edits.{changed_by, edited, outcome}
+use Rattle.edit_engine.specs.Edits.{net_of}
+use Rattle.edit_engine.specs.Nets.{Outcome, NoEffect, PastTriples, PastTerms, Effect}
+use Rattle.edit_engine.specs.Nets.{changed_by, graph_after, outcome, turned}
 use Rattle.edit_engine.specs.Remembered.{fresh_count, kept_pairs}
 use Rattle.edit_engine.specs.Touched.{touched_pairs}
 use Rattle.text_output.specs.declared.format.Format.{Format}
 use Rattle.report_write.specs.declared.answer.Answer.{Answer}
 use Rattle.report_write.specs.declared.answer.Answer.TheVariants.{Changed, Count as counted, Unchanged}
 use Rattle.report_write.specs.declared.answer.Answer.TheVariants.{RefusedLine, RefusedAt}
+use Rattle.report_write.specs.declared.answer.Answer.TheVariants.{Abandoned, Begun, Queued}
 use Rattle.report_write.specs.Answers.{answer_text}
 use Rattle.report_write.specs.ReportTexts.{report_text}
 use Rattle.script_lines.specs.declared.command.Command.{Command}
-use Rattle.script_lines.specs.declared.command.Command.TheVariants.{Edit as edits, Report, Count, Nothing}
+use Rattle.script_lines.specs.declared.command.Command.TheVariants.{Edit as edits, Report, Count, Begin}
+use Rattle.script_lines.specs.declared.command.Command.TheVariants.{Commit, Abandon, Undo, Redo, Nothing}
 use Rattle.script_lines.specs.declared.fault.LineFault.{LineFault}
 use Rattle.script_lines.specs.declared.fault.LineFault.TheVariants.{Line, Memory}
 use Rattle.shacl_run.specs.Manner.{Manner}
@@ -69,33 +76,95 @@ refusal s code at = record {
 
 -- ---- what lines ask for
 
--- how many pairs an edit touches
-abbrev pub touched_count : ScriptState → Edit → ℕ
-touched_count s edit =
-    length (touched_pairs s.plan s.graph (edited s.graph edit) (changed_by s.graph edit))
+-- how many pairs a change touches
+abbrev pub touched_count : ScriptState → Net → ℕ
+touched_count s net =
+    length (touched_pairs s.plan s.graph (graph_after s.graph net) (changed_by s.graph net))
 
 -- for how many nested pairs nothing right is remembered
-abbrev pub nested_due : ScriptState → Edit → ℕ
-nested_due s edit = fresh_count s.plan s.graph (edited s.graph edit) (changed_by s.graph edit) s.kept
+abbrev pub nested_due : ScriptState → Net → ℕ
+nested_due s net = fresh_count s.plan s.graph (graph_after s.graph net) (changed_by s.graph net) s.kept
 
 -- which are remembered from then on
-abbrev pub kept_by : ScriptState → Edit → List Pair
-kept_by s edit = kept_pairs s.plan s.graph (edited s.graph edit) (changed_by s.graph edit) s.kept
+abbrev pub kept_by : ScriptState → Net → List Pair
+kept_by s net = kept_pairs s.plan s.graph (graph_after s.graph net) (changed_by s.graph net) s.kept
 
--- the graph is another one, for which so many pairs were evaluated
-abbrev pub changed : ScriptState → Edit → Step
-changed s edit = record {
-  said = answers (Changed (touched_count s edit)) ∷ [];
-  state = record s { graph = edited s.graph edit; kept = kept_by s edit; line = s.line + 1 };
-  work = evaluating (touched_count s edit) (nested_due s edit);
+-- the graph is another one, for which so many pairs were evaluated; and these are the changes from then on,
+-- of which so many are made
+abbrev pub changed : ScriptState → Net → List Net → ℕ → Step
+changed s net changes made = record {
+  said = answers (Changed (touched_count s net)) ∷ [];
+  state = record s {
+    graph = graph_after s.graph net;
+    kept = kept_by s net;
+    group = None;
+    changes = changes;
+    made = made;
+    line = s.line + 1;
+  };
+  work = evaluating (touched_count s net) (nested_due s net);
 }
 
--- by what comes of it
-abbrev pub edit_step : ScriptState → Edit → Outcome → Step
-edit_step s edit NoEffect = stays s (answers Unchanged ∷ [])
-edit_step s edit PastTriples = refusal s GRAPH_TRIPLES None
-edit_step s edit PastTerms = refusal s GRAPH_TERMS None
-edit_step s edit Effect = changed s edit
+-- the changes as a history of so many
+abbrev pub past_of : Limits → ScriptState → Past
+past_of limits s = record {
+  changes = s.changes;
+  cursor = s.made;
+  depth = limits.history;
+  staged = None;
+}
+
+-- a change that is new, by what comes of it: it is the last from then on
+abbrev pub change_step : Limits → ScriptState → Net → Outcome → Step
+change_step limits s net NoEffect = stays (record s { group = None }) (answers Unchanged ∷ [])
+change_step limits s net PastTriples = refusal s GRAPH_TRIPLES None
+change_step limits s net PastTerms = refusal s GRAPH_TERMS None
+change_step limits s net Effect =
+    let changes = history_after (past_of limits s) net in changed s net changes (length changes)
+
+-- edits are made in order, as one change
+abbrev pub edits_step : Limits → ScriptState → List Edit → Step
+edits_step limits s wanted =
+    let net = net_of s.graph wanted in
+    change_step limits s net (outcome limits.triples limits.terms s.graph net)
+
+-- an edit is made, or waits in the open group
+abbrev pub edit_step : Limits → ScriptState → Edit → Option (List Edit) → Step
+edit_step limits s edit None = edits_step limits s (edit ∷ [])
+edit_step limits s edit (Some waiting) =
+    if nat_le limits.group (length waiting) then refusal s GROUP_TOO_LONG None
+    else stays (record s { group = Some (waiting ++ edit ∷ []) }) (answers Queued ∷ [])
+
+abbrev pub begin_step : ScriptState → Option (List Edit) → Step
+begin_step s None = stays (record s { group = Some [] }) (answers Begun ∷ [])
+begin_step s (Some waiting) = refusal s GROUP_OPEN None
+
+abbrev pub commit_step : Limits → ScriptState → Option (List Edit) → Step
+commit_step limits s None = refusal s NO_GROUP None
+commit_step limits s (Some waiting) = edits_step limits s waiting
+
+abbrev pub abandon_step : ScriptState → Option (List Edit) → Step
+abandon_step s None = refusal s NO_GROUP None
+abandon_step s (Some waiting) = stays (record s { group = None }) (answers Abandoned ∷ [])
+
+-- the last change that is made is taken back, where there is one
+abbrev pub take_back : ScriptState → Option Net → Step
+take_back s None = refusal s NOTHING_TO_UNDO None
+take_back s (Some net) = changed s (turned true net) s.changes (s.made - 1)
+
+-- the first that was taken back is made again, where there is one
+abbrev pub make_again : ScriptState → Option Net → Step
+make_again s None = refusal s NOTHING_TO_REDO None
+make_again s (Some net) = changed s net s.changes (s.made + 1)
+
+-- neither is done within a group
+abbrev pub undo_step : Limits → ScriptState → Option (List Edit) → Step
+undo_step limits s None = take_back s (undo_change (past_of limits s))
+undo_step limits s (Some waiting) = refusal s GROUP_OPEN None
+
+abbrev pub redo_step : Limits → ScriptState → Option (List Edit) → Step
+redo_step limits s None = make_again s (redo_change (past_of limits s))
+redo_step limits s (Some waiting) = refusal s GROUP_OPEN None
 
 -- how many triples, pairs and results there are
 abbrev pub count_answer : ScriptState → Answer
@@ -103,7 +172,12 @@ count_answer s =
     counted (length s.graph.triples) (length (pairs s.plan s.graph)) (length (report s.plan s.graph))
 
 abbrev pub command_step : Limits → ScriptState → Command → Step
-command_step limits s (edits edit) = edit_step s edit (outcome limits.triples limits.terms s.graph edit)
+command_step limits s (edits edit) = edit_step limits s edit s.group
+command_step limits s Begin = begin_step s s.group
+command_step limits s Commit = commit_step limits s s.group
+command_step limits s Abandon = abandon_step s s.group
+command_step limits s Undo = undo_step limits s s.group
+command_step limits s Redo = redo_step limits s s.group
 command_step limits s Report = stays s (reports ∷ [])
 command_step limits s Count = stays s (answers (count_answer s) ∷ [])
 command_step limits s Nothing = stays s []

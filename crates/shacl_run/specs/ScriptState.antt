@@ -1,19 +1,25 @@
 -- Where a script stands.
-use Rattle.std.specs.Prelude.{ℕ, Bool, false, List}
+use Rattle.std.specs.Prelude.{ℕ, Bool, false, List, [], Option, None}
+use Rattle.shx_term.specs.declared.edit.Edit.{Edit}
+use Rattle.edit_history.specs.declared.net.Net.{Net}
 use Rattle.graph_view.specs.Graph.{Graph}
 use Rattle.comp_core.specs.declared.pair.Pair.{Pair}
 use Rattle.shape_eval.specs.Nested.{nested_pairs}
 use Rattle.shape_eval.specs.Plan.{Planned}
 use Rattle.ttl_meaning.specs.State.{State}
 
--- where a script stands: the graph, the plan of the shapes, the nested pairs that are remembered, how many
--- lines were answered, and whether one of them was refused; and the state at the end of the data text, whose
--- base, prefixes and blank nodes are those of lines
+-- where a script stands: the graph, the plan of the shapes, the nested pairs that are remembered, the edits
+-- of the open group where one is open, the changes that were made, of which the first so many were not taken
+-- back, how many lines were answered, and whether one of them was refused; and the state at the end of the
+-- data text, whose base, prefixes and blank nodes are those of lines
 pub record ScriptState : Type 0 where
   pub graph : Graph
   pub data_end : State
   pub plan : Planned
   pub kept : List Pair
+  pub group : Option (List Edit)
+  pub changes : List Net
+  pub made : ℕ
   pub line : ℕ
   pub refused : Bool
 
@@ -24,6 +30,9 @@ start_state g end plan = record {
   data_end = end;
   plan = plan;
   kept = nested_pairs plan g;
+  group = None;
+  changes = [];
+  made = 0;
   line = 0;
   refused = false;
 }

@@ -1,4 +1,5 @@
 -- Words by which only the inside of this crate is proved: nothing that a caller relies on cites them.
+pub mod Changing
 pub mod Ends
 pub mod Files
 pub mod Judging

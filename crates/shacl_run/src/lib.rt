@@ -14,7 +14,10 @@
 //! | `evaluation.rt` | all results of a graph, where there is none |
 //! | `script_run.rt` | `ScriptRun`: the engine that keeps the report, and how far the script has come |
 //! | `serve.rt`, `take_line.rt`, `reply.rt` | a script line by line: taken, done, answered |
+//! | `changing.rt` | lines that change the graph: edits, groups, undo and redo |
+//! | `alike.rt` | a law: the same comes of a change as the graph is stored |
 //! | `read_once.rt` | a law: a line has one reading |
+//! | `undone.rt` | laws: what undo gives back, and redo |
 //! | `turtle.rt`, `refusal.rt` | what a text of Turtle states; why a text is not taken |
 //! | `stored_graph.rt` | the form in which graphs are stored |
 //!
@@ -25,6 +28,8 @@
 //! and `specs/Verdict.antt` what shapes come to.
 #![tactic(auto)]
 
+mod alike;
+mod changing;
 mod complete;
 mod ending;
 mod evaluation;
@@ -44,6 +49,7 @@ mod stored_graph;
 mod take_line;
 mod top;
 mod turtle;
+mod undone;
 mod unopened;
 mod validation;
 
@@ -53,3 +59,4 @@ pub use complete::{
 };
 pub use status::Status;
 pub use top::run;
+pub use undone::{scripts_stand_well, undo_gives_back};

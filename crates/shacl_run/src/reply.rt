@@ -1,30 +1,25 @@
 //! Replies to the lines of a script.
-ghost use Rattle.std.specs.Prelude.{◌≡◌, ◌<◌, ◌+◌, ◌-◌, ◌^◌, true, false, IfOk, OnOk};
+ghost use Rattle.std.specs.Prelude.{◌≡◌, ◌<◌, ◌+◌, ◌-◌, ◌^◌, IfOk, OnOk};
 ghost use Rattle.shacl_run.specs.Manner.{Manner};
 ghost use Rattle.text_output.specs.Writes.{Writes};
 ghost use Rattle.script_lines.specs.Lines.{IsValidCommand};
-ghost use Rattle.shx_term.specs.declared.edit.Edit.{Edit as edit_type};
-ghost use Rattle.shx_term.specs.Edit.{IsValidEdit};
-ghost use Rattle.edit_engine.specs.Edits.{outcome};
 ghost use Rattle.shacl_run.specs.inner.Reply.{reply_text, Replies};
 ghost use Rattle.ttl_meaning.specs.State.{State};
 ghost use Rattle.shacl_run.specs.Names.{HasNamesOf};
 ghost use Rattle.shacl_run.specs.Readings.{HasReading, IsReadBehind};
-ghost use Rattle.shacl_run.specs.Script.{command_step, edit_step, refusal, script_step};
+ghost use Rattle.shacl_run.specs.Script.{command_step, refusal, script_step};
 ghost use Rattle.shacl_run.specs.ScriptState.{ScriptState};
 ghost use Rattle.shacl_run.specs.Work.{NoneFell, Work, evaluating};
-ghost use Rattle.shacl_run.specs.inner.Validation.{IsScriptRun};
+ghost use Rattle.shacl_run.specs.inner.Validation.{IsScriptRun, MayGoOn};
 
+use crate::changing::{abandon, begin, commit, do_edit, redo, undo};
 use crate::read_once::lines_are_read_once;
 use crate::script_run::ScriptRun;
-use edit_engine::{
-    Change, Edit, EditFault, same_graphs_answer_alike, same_graphs_are_edited_alike,
-};
+use edit_engine::same_graphs_answer_alike;
 use graph_view::GraphView;
 use report_write::{Answer, write_answer, write_report};
 use script_lines::{Command, LineFault, read_line};
 use shx_outside::Sink;
-use shx_term::fault_codes::{GRAPH_TERMS, GRAPH_TRIPLES};
 use shx_term::{Limits, Memory, Steps};
 use std::alloc::{AllocError, Global};
 use std::sync::ledger::Ledger;
@@ -51,12 +46,14 @@ pub fn reply_to<K: Ledger, L: Ledger>(
     steps: &mut Steps<L>,
 ) -> Result<Reply, Memory>
     requires few { script.old.line < 2 ^ 64 - 1 }
+    requires goes_on { MayGoOn script.old }
     ensures replies { (manner : Manner) (s : ScriptState) → manner.limits ≡ limits.now
         → IsScriptRun manner.limits manner.format s script.old
         → IsReadBehind limits.now s.data_end line.now (manner.lines line.now)
         → IfOk result (λ reply.
         Replies manner (script_step manner s line.now) reply script.new
         (evaluating steps.old nested.old) (evaluating steps.new nested.new)) }
+    ensures goes_on { OnOk result (MayGoOn script.new) }
     ensures read { (end : State) → HasNamesOf end script.old.document
         → IfOk result (λ reply. HasReading limits.now end line.now) }
     ensures names { script.new.document ≡ script.old.document }
@@ -67,7 +64,7 @@ pub fn reply_to<K: Ledger, L: Ledger>(
     // So what is read here is the reading that was told.
     lines_are_read_once();
     match read_line(alloc, line, &script.document, limits) {
-        Ok(command) => do_command(alloc, script, &command, nested, steps),
+        Ok(command) => do_command(alloc, script, command, limits, nested, steps),
         Err(LineFault::Line { code, at }) => Ok(refuse_line(script, code, at)),
         Err(LineFault::Memory) => Err(AllocError),
     }
@@ -79,6 +76,7 @@ pub fn refuse_line(script: &mut ScriptRun, code: u32, at: Option<u64>) -> Reply
     ensures replies { (manner : Manner) (s : ScriptState) (work : Work)
         → IsScriptRun manner.limits manner.format s script.old
         → Replies manner (refusal s code at) result script.new work work }
+    ensures goes_on { MayGoOn script.old → MayGoOn script.new }
     ensures names { script.new.document ≡ script.old.document }
     ensures line { script.new.line ≡ script.old.line + 1 }
 {
@@ -94,17 +92,20 @@ pub fn refuse_line(script: &mut ScriptRun, code: u32, at: Option<u64>) -> Reply
 fn do_command<K: Ledger, L: Ledger>(
     alloc: Global,
     script: &mut ScriptRun,
-    command: &Command,
+    command: Command,
+    limits: &Limits,
     nested: &mut Steps<K>,
     steps: &mut Steps<L>,
 ) -> Result<Reply, Memory>
     requires few { script.old.line < 2 ^ 64 - 1 }
-    requires valid { IsValidCommand command.now }
-    ensures replies { (manner : Manner) (s : ScriptState)
+    requires valid { IsValidCommand command }
+    requires goes_on { MayGoOn script.old }
+    ensures replies { (manner : Manner) (s : ScriptState) → manner.limits ≡ limits.now
         → IsScriptRun manner.limits manner.format s script.old
         → IfOk result (λ reply.
-        Replies manner (command_step manner.limits s command.now) reply script.new
+        Replies manner (command_step manner.limits s command) reply script.new
         (evaluating steps.old nested.old) (evaluating steps.new nested.new)) }
+    ensures goes_on { OnOk result (MayGoOn script.new) }
     ensures names { script.new.document ≡ script.old.document }
     ensures line { OnOk result (script.new.line ≡ script.old.line + 1) }
     ensures risen { OnOk result
@@ -113,66 +114,28 @@ fn do_command<K: Ledger, L: Ledger>(
     // The graph may be stored in another order than the script's.
     same_graphs_answer_alike();
     let _ = script.engine.view();
-    match command {
-        Command::Edit(edit) => do_edit(alloc, script, edit, nested, steps),
-        Command::Report => Ok(said(script, Reply::Report)),
+    match &command {
+        Command::Edit(_) => {}
+        Command::Report => return Ok(said(script, Reply::Report)),
         Command::Count => {
             let answer = script.count();
-            Ok(said(script, Reply::Answers(answer)))
+            return Ok(said(script, Reply::Answers(answer)));
         }
-        Command::Nothing => Ok(said(script, Reply::Nothing)),
+        Command::Begin => return Ok(begin(alloc, script)),
+        Command::Commit => return commit(alloc, script, nested, steps),
+        Command::Abandon => return Ok(abandon(script)),
+        Command::Undo => return undo(alloc, script, nested, steps),
+        Command::Redo => return redo(alloc, script, nested, steps),
+        Command::Nothing => return Ok(said(script, Reply::Nothing)),
+    }
+    match command.into_edit() {
+        Some(edit) => do_edit(alloc, script, edit, limits, nested, steps),
+        None => unreachable!(),
     }
 }
 
-// Makes an edit, and says what came of it.
-fn do_edit<K: Ledger, L: Ledger>(
-    alloc: Global,
-    script: &mut ScriptRun,
-    edit: &Edit,
-    nested: &mut Steps<K>,
-    steps: &mut Steps<L>,
-) -> Result<Reply, Memory>
-    requires few { script.old.line < 2 ^ 64 - 1 }
-    requires valid { IsValidEdit edit.now }
-    ensures replies { (manner : Manner) (s : ScriptState)
-        → IsScriptRun manner.limits manner.format s script.old
-        → IfOk result (λ reply. Replies manner
-        (edit_step s edit.now (outcome manner.limits.triples manner.limits.terms s.graph edit.now)) reply
-        script.new (evaluating steps.old nested.old) (evaluating steps.new nested.new)) }
-    ensures names { script.new.document ≡ script.old.document }
-    ensures line { OnOk result (script.new.line ≡ script.old.line + 1) }
-    ensures risen { OnOk result
-        (NoneFell (evaluating steps.old nested.old) (evaluating steps.new nested.new)) }
-{
-    // The graph may be stored in another order than the script's.
-    same_graphs_are_edited_alike();
-    let _ = script.engine.view();
-    // Only nodes that have terms are remembered.
-    let _ = script.engine.recall();
-    match script.engine.apply(alloc, edit, nested, steps) {
-        Ok(change) => Ok(said(script, Reply::Answers(change_answer(change)))),
-        Err(EditFault::TooManyTriples) => Ok(refuse_line(script, GRAPH_TRIPLES, None)),
-        Err(EditFault::TooManyTerms) => Ok(refuse_line(script, GRAPH_TERMS, None)),
-        Err(EditFault::Memory) => Err(AllocError),
-    }
-}
-
-// What came of an edit, as it is told.
-fn change_answer(change: Change) -> Answer
-    ensures changed { change.changed ≡ true → result ≡ Answer.Changed change.evaluated }
-    ensures unchanged { change.changed ≡ false → result ≡ Answer.Unchanged }
-{
-    if change.changed {
-        Answer::Changed {
-            evaluated: change.evaluated,
-        }
-    } else {
-        Answer::Unchanged
-    }
-}
-
-// The line at hand was answered so.
-fn said(script: &mut ScriptRun, reply: Reply) -> Reply
+/// The line at hand was answered so.
+pub fn said(script: &mut ScriptRun, reply: Reply) -> Reply
     requires { script.old.line < 2 ^ 64 - 1 }
     ensures reply { result ≡ reply }
     ensures counted { script.new ≡ record script.old { line = script.old.line + 1 } }

@@ -7,6 +7,7 @@ ghost use Rattle.comp_core.specs.declared.row.ResultRow.{ResultRow as row_type};
 ghost use Rattle.shx_outside.specs.declared.role.Role.TheVariants.{Script};
 ghost use Rattle.shx_outside.specs.Outside.{PatternState};
 ghost use Rattle.shx_outside.specs.Told.{IsAtEnd, OthersStay};
+ghost use Rattle.shx_term.specs.Limits.{AreUsable};
 ghost use Rattle.shx_term.specs.declared.limits.Limits.{Limits as LimitsOf};
 ghost use Rattle.text_input.specs.TextRead.{TakesWithin};
 ghost use Rattle.shacl_run.specs.declared.status.Status.TheVariants.{InputFault};
@@ -61,6 +62,7 @@ pub fn run_validation<I: Inputs, O: Sink, K: Ledger, L: Ledger>(
     steps: &mut Steps<L>,
 ) -> Result<Status, Stop>
     requires stands { Stands validation }
+    requires limits { AreUsable limits.now }
     requires admitted { AdmitsScript (I.admits host.old) (option_map (λ name. name.now) script) }
     ensures ends { (manner : Manner) (s : ScriptState) (patterns : PatternState) → manner.limits ≡ limits.now
         → IsValidation manner.limits manner.format s validation
@@ -114,6 +116,7 @@ fn run_script<I: Inputs, O: Sink, K: Ledger, L: Ledger>(
     steps: &mut Steps<L>,
 ) -> Result<Status, Stop>
     requires stands { Stands validation }
+    requires limits { AreUsable limits.now }
     requires admitted { I.admits host.old Script name.now }
     ensures ends { (manner : Manner) (s : ScriptState) (patterns : PatternState) → manner.limits ≡ limits.now
         → IsValidation manner.limits manner.format s validation
@@ -145,7 +148,7 @@ fn run_script<I: Inputs, O: Sink, K: Ledger, L: Ledger>(
     ensures words { end_status result ≢ Status.BadWords }
 {
     let passed_over = validation.passed_over;
-    let mut script = ScriptRun::open(alloc, validation, nested, steps)?;
+    let mut script = ScriptRun::open(alloc, validation, limits, nested, steps)?;
     write_current(passed_over, &script, out)?;
     host.open(Role::Script, name)?;
     serve(alloc, &mut script, host, out, limits, nested, steps)

@@ -1,4 +1,5 @@
-ghost use Rattle.std.specs.Prelude.{◌≡◌, ◌+◌, IfOk, OnOk};
+ghost use Rattle.std.specs.Prelude.{◌≡◌, IfOk, OnOk};
+ghost use Rattle.shx_term.specs.Limits.{AreUsable};
 ghost use Rattle.shx_term.specs.declared.limits.Limits.{Limits as LimitsOf};
 ghost use Rattle.text_output.specs.declared.format.Format.{Format as FormatOf};
 ghost use Rattle.shacl_run.specs.Manner.{Manner};
@@ -7,15 +8,16 @@ ghost use Rattle.shacl_run.specs.Script.{count_answer};
 ghost use Rattle.shacl_run.specs.ScriptState.{ScriptState};
 ghost use Rattle.shacl_run.specs.Status.{IsReported};
 ghost use Rattle.shacl_run.specs.Work.{and_then, evaluating};
-ghost use Rattle.shacl_run.specs.inner.Validation.{IsScriptRun, IsValidation, Stands};
+ghost use Rattle.shacl_run.specs.inner.Validation.{IsScriptRun, IsValidation, MayGoOn, Stands};
 
 use crate::status::Status;
 use crate::stored_graph::StoredGraph;
 use crate::validation::Validation;
-use edit_engine::{Engine, same_graphs_answer_alike};
+use edit_engine::{Edit, Engine, changes_can_be_taken_back, same_graphs_answer_alike};
+use edit_history::History;
 use graph_view::GraphView;
 use report_write::Answer;
-use shx_term::{Memory, Steps};
+use shx_term::{Limits, Memory, Steps};
 use std::alloc::Global;
 use std::sync::ledger::Ledger;
 use text_output::Format;
@@ -26,6 +28,10 @@ use ttl_read::Document;
 #[derive(Drop)]
 pub struct ScriptRun {
     pub engine: Engine<StoredGraph>,
+    /// The edits of the open group, where one is open.
+    pub group: Option<Vec<Edit>>,
+    /// The changes that can be taken back, and made again.
+    pub history: History,
     /// The data text without its triples: the base, the prefixes and the blank nodes at its end.
     pub document: Document,
     /// How answers are written.
@@ -42,12 +48,16 @@ impl ScriptRun {
     pub fn open<K: Ledger, L: Ledger>(
         alloc: Global,
         validation: Validation,
+        limits: &Limits,
         nested: &mut Steps<K>,
         steps: &mut Steps<L>,
     ) -> Result<ScriptRun, Memory>
-        requires { Stands validation }
-        ensures opened { (limits : LimitsOf) (format : FormatOf) (s : ScriptState)
-            → IsValidation limits format s validation → IfOk result (IsScriptRun limits format s) }
+        requires stands { Stands validation }
+        requires limits { AreUsable limits.now }
+        ensures opened { (within : LimitsOf) (format : FormatOf) (s : ScriptState)
+            → within.history ≡ limits.now.history → IsValidation within format s validation
+            → IfOk result (IsScriptRun within format s) }
+        ensures goes_on { IfOk result MayGoOn }
         ensures names { IfOk result (λ script. script.document ≡ validation.document) }
         ensures format { IfOk result (λ script. script.format ≡ validation.format) }
         ensures line { IfOk result (λ script. script.line ≡ 0) }
@@ -58,6 +68,7 @@ impl ScriptRun {
     {
         // The order in which the graph is stored makes no difference.
         same_graphs_answer_alike();
+        changes_can_be_taken_back();
         let Validation {
             graph,
             document,
@@ -68,6 +79,8 @@ impl ScriptRun {
         let engine = Engine::open(alloc, plan, graph, nested, steps)?;
         Ok(ScriptRun {
             engine,
+            group: None,
+            history: History::new(alloc, limits.history),
             document,
             format,
             line: 0,

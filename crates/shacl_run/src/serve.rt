@@ -1,9 +1,10 @@
 //! Answering the lines of a script.
-ghost use Rattle.std.specs.Prelude.{◌≡◌, ◌≢◌, ℕ, true, None, Some};
+ghost use Rattle.std.specs.Prelude.{◌≡◌, ◌≢◌, true, None, Some};
 ghost use Rattle.shx_outside.specs.declared.role.Role.TheVariants.{Script};
 ghost use Rattle.shx_outside.specs.Outside.{PatternState};
 ghost use Rattle.shx_outside.specs.Told.{IsAtEnd, OthersStay};
 ghost use Rattle.text_input.specs.TextRead.{TakesWithin};
+ghost use Rattle.text_output.specs.Writes.{Writes};
 ghost use Rattle.shacl_run.specs.declared.status.Status.TheVariants.{InputFault};
 ghost use Rattle.shacl_run.specs.inner.Ends.{Ends};
 ghost use Rattle.report_write.specs.declared.answer.Answer.TheVariants.{TooLong};
@@ -14,8 +15,9 @@ ghost use Rattle.shacl_run.specs.ScriptState.{ScriptState};
 ghost use Rattle.shacl_run.specs.Manner.{Manner};
 ghost use Rattle.shacl_run.specs.Names.{HasNamesOf};
 ghost use Rattle.ttl_meaning.specs.State.{State};
+ghost use Rattle.shacl_run.specs.inner.Reply.{open_notice};
 ghost use Rattle.shacl_run.specs.inner.Serving.{due_at, HaveReadings, LinesAreReadAt};
-ghost use Rattle.shacl_run.specs.inner.Validation.{IsScriptRun};
+ghost use Rattle.shacl_run.specs.inner.Validation.{IsScriptRun, MayGoOn};
 ghost use Rattle.shacl_run.specs.Status.{IsAnswered, IsReported};
 ghost use Rattle.shacl_run.specs.inner.Stops.{end_status};
 
@@ -26,12 +28,13 @@ use crate::status::Status;
 use crate::stop::Stop;
 use crate::take_line::{Taken, take_line};
 use graph_view::GraphView;
-use report_write::Answer;
+use report_write::{Answer, write_answer};
 use shx_outside::{Inputs, Role, Sink};
 use shx_term::{Limits, Steps};
 use std::alloc::Global;
 use std::sync::ledger::Ledger;
 use text_input::ScriptReader;
+use text_output::WriteFault;
 
 /// Answers the lines of an opened script, each before the next is taken.
 pub fn serve<I: Inputs, O: Sink, K: Ledger, L: Ledger>(
@@ -45,6 +48,7 @@ pub fn serve<I: Inputs, O: Sink, K: Ledger, L: Ledger>(
 ) -> Result<Status, Stop>
     requires opened { (I.state host.old).opened Script ≡ true }
     requires fresh { script.old.line ≡ 0 }
+    requires goes_on { MayGoOn script.old }
     ensures ends { (manner : Manner) (s : ScriptState) (patterns : PatternState) → manner.limits ≡ limits.now
         → IsScriptRun manner.limits manner.format s script.old
         → LinesAreReadAt manner s limits.now.script ((I.state host.old).rest Script)
@@ -75,10 +79,29 @@ pub fn serve<I: Inputs, O: Sink, K: Ledger, L: Ledger>(
         let taken = take_line(alloc, &mut reader, script, host, limits, nested, steps)?;
         match &taken {
             Taken::Replied(reply) => write_reply(reply, script, out)?,
-            Taken::End => return Ok(script.status()),
+            Taken::End => {
+                write_dropped(script, out)?;
+                return Ok(script.status());
+            }
             Taken::PastLimit => return refuse_script(script, out),
         }
     }
+}
+
+// Writes that a group was open at the end of the script, where one was.
+fn write_dropped<O: Sink>(script: &ScriptRun, out: &mut O) -> Result<(), WriteFault>
+    ensures { Writes (O.state out.old) (O.state out.new)
+        (open_notice script.now.format script.now.engine.graph.terms script.now.group) result }
+{
+    if script.group.is_none() {
+        return Ok(());
+    }
+    write_answer(
+        &Answer::GroupDropped,
+        script.engine.view().pool(),
+        script.format,
+        out,
+    )
 }
 
 // Writes that the script goes on past its limit.

@@ -9,7 +9,7 @@ ghost use Rattle.shacl_run.specs.Work.{NoneFell, evaluating};
 ghost use Rattle.shacl_run.specs.Manner.{Manner};
 ghost use Rattle.shacl_run.specs.Names.{HasNamesOf};
 ghost use Rattle.shacl_run.specs.inner.Serving.{GivesReadings, LinesAreReadAt, TakesLine, TakesBytes};
-ghost use Rattle.shacl_run.specs.inner.Validation.{IsScriptRun};
+ghost use Rattle.shacl_run.specs.inner.Validation.{IsScriptRun, MayGoOn};
 
 use crate::read_once::lines_are_read_once;
 use crate::reply::{Reply, refuse_line, reply_to};
@@ -44,12 +44,14 @@ pub fn take_line<I: Inputs, K: Ledger, L: Ledger>(
     requires opened { (I.state host.old).opened Script ≡ true }
     requires met { MetEnd reader.old.ended ((I.state host.old).rest Script) }
     requires few { script.old.line + reader.old.budget < 2 ^ 64 }
+    requires goes_on { MayGoOn script.old }
     ensures taken { (manner : Manner) (s : ScriptState) → manner.limits ≡ limits.now
         → IsScriptRun manner.limits manner.format s script.old
         → LinesAreReadAt manner s reader.old.budget (left_of reader.old ((I.state host.old).rest Script))
         → IfOk result (TakesLine manner s script.new reader.old reader.new
         ((I.state host.old).rest Script) ((I.state host.new).rest Script)
         (evaluating steps.old nested.old) (evaluating steps.new nested.new)) }
+    ensures goes_on_still { OnOk result (MayGoOn script.new) }
     ensures read { (end : State) → HasNamesOf end script.old.document
         → IfOk result (GivesReadings limits.now end reader.old reader.new
         ((I.state host.old).rest Script) ((I.state host.new).rest Script)) }

@@ -19,7 +19,7 @@ const MARKS: [&str; 10] = [
 ];
 
 // The names of limits.
-const LIMITS: [&str; 10] = [
+const LIMITS: [&str; 12] = [
     "text ",
     "script ",
     "line ",
@@ -30,6 +30,8 @@ const LIMITS: [&str; 10] = [
     "path parts ",
     "references ",
     "shapes ",
+    "group ",
+    "history ",
 ];
 
 /// A run, and how it has to end.
@@ -153,6 +155,8 @@ fn limits_of(lines: &str) -> Result<Limits, RowFault>
     limits.path_parts = number_behind(lines, "path parts ", 4_096)?.clamp(1, 4_096) as u32;
     limits.reference_depth = number_behind(lines, "references ", 64)?.clamp(1, 64) as u32;
     limits.shapes = number_behind(lines, "shapes ", 100_000)?.clamp(1, 100_000) as u32;
+    limits.group = number_behind(lines, "group ", 10_000)?.clamp(1, 10_000) as u32;
+    limits.history = number_behind(lines, "history ", 100)?.clamp(1, 100) as u32;
     Ok(limits)
 }
 

@@ -9,7 +9,7 @@ line 32
 == script
 xxxxxxxxxxxxxxxxxxxxxxxxxxxxxxxxx
 \u{ffff}
-begin
+begun
 == output
 report conforms=true results=0
 refused line 1: 50 LineTooLong
@@ -165,7 +165,7 @@ fault script: 58 ScriptTooLong
 == limits
 script 6
 == script
-begin
+begun
 report
 == output
 report conforms=true results=0

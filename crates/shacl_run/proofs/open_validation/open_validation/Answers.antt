@@ -25,7 +25,14 @@ returns-clause-opened c =
           stores = made.stores;
           names_are = made.names end names;
           plan_is = made.plan;
-          start = record { kept = refl; line = refl; refused = refl };
+          start = record {
+            kept = refl;
+            group = refl;
+            changes = refl;
+            made = refl;
+            line = refl;
+            refused = refl;
+          };
           limits_are = record {
             triples = made.triple_limit;
             terms = made.term_limit ∙ c.read_turtle.ensures.limit ∙ c.requires.limit;

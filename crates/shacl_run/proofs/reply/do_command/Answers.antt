@@ -3,7 +3,7 @@ use Rattle.shacl_run.proofs.ScriptRunLemmas.{Replies-answers, Replies-nothing, R
 use Rattle.shacl_run.proofs.reply.do_command.Goals as goal
 
 pub returns-in-Report-clause-replies : goal.returns-in-Report-clause-replies
-returns-in-Report-clause-replies g c = λ manner s is.
+returns-in-Report-clause-replies g c = λ manner s same is.
     let script = c.args.script.now in
     let alike = c.same_graphs_answer_alike.ensures.report script.engine.plan s.graph script.engine.graph
     is.stores c.view.ensures.asked in
@@ -11,7 +11,7 @@ returns-in-Report-clause-replies g c = λ manner s is.
     (Replies-report manner s script is (evaluating c.args.steps.now c.args.nested.now) alike)
 
 pub returns-in-Count-clause-replies : goal.returns-in-Count-clause-replies
-returns-in-Count-clause-replies g c = λ manner s is.
+returns-in-Count-clause-replies g c = λ manner s same is.
     let script = c.args.script.now in
     rw (
       c.in-Count.is,
@@ -21,7 +21,15 @@ returns-in-Count-clause-replies g c = λ manner s is.
     ) (Replies-answers manner s script is (evaluating c.args.steps.now c.args.nested.now)
     c.count-answer.result)
 
+pub returns-in-Begin-clause-replies : goal.returns-in-Begin-clause-replies
+returns-in-Begin-clause-replies g c = λ manner s same is.
+    rw c.in-Begin.is (c.begin.ensures.replies manner s (evaluating c.args.steps.now c.args.nested.now) is)
+
+pub returns-in-Abandon-clause-replies : goal.returns-in-Abandon-clause-replies
+returns-in-Abandon-clause-replies g c = λ manner s same is.
+    rw c.in-Abandon.is (c.abandon.ensures.replies manner s (evaluating c.args.steps.now c.args.nested.now) is)
+
 pub returns-in-Nothing-clause-replies : goal.returns-in-Nothing-clause-replies
-returns-in-Nothing-clause-replies g c = λ manner s is.
+returns-in-Nothing-clause-replies g c = λ manner s same is.
     rw (c.in-Nothing.is, c.said-in-Nothing.ensures.reply, c.said-in-Nothing.ensures.counted)
     (Replies-nothing manner s c.args.script.now is (evaluating c.args.steps.now c.args.nested.now))

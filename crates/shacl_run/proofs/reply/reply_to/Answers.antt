@@ -25,7 +25,7 @@ returns-in-Ok-clause-replies g c = λ manner s same is told.
     Replies manner (reading_step manner.limits s reading) reply c.do_command.new.script
     (evaluating c.args.steps.now c.args.nested.now)
     (evaluating c.do_command.new.steps c.do_command.new.nested))) (sym one)
-    (c.do_command.ensures.replies manner s is)
+    (c.do_command.ensures.replies manner s same is)
 
 pub returns-in-Ok-clause-read : goal.returns-in-Ok-clause-read
 returns-in-Ok-clause-read g c = λ end names.

@@ -1,8 +1,9 @@
-use Rattle.std.proofs.Common.{None, refl, sym, ◌∙◌, subst, arith}
+use Rattle.std.proofs.Common.{None, refl, sym, ap, ◌∙◌, subst, arith}
 use Rattle.std.specs.Option.{option_map}
 use Rattle.shx_outside.specs.declared.role.Role.TheVariants.{Script}
 use Rattle.shx_outside.proofs.ToldLemmas.{OthersStay-same, OthersStay-then}
 use Rattle.shx_outside.specs.Counted.{Rose}
+use Rattle.shx_term.specs.declared.limits.Limits.{Limits}
 use Rattle.text_input.specs.TextRead.{TakesWithin}
 use Rattle.ttl_meaning.specs.declared.document.Document.{Document}
 use Rattle.shacl_run.specs.declared.status.Status.TheVariants.{InputFault}
@@ -15,6 +16,7 @@ use Rattle.shacl_run.specs.Run.{validation_output}
 use Rattle.shacl_run.proofs.EndLemmas.{Ends-input, Ends-memory, passed_on}
 use Rattle.shacl_run.proofs.OpenedLemmas.{next_bounded, next_rose, not_opened}
 use Rattle.shacl_run.proofs.ServedLemmas.{cut_unanswered, reported_answered, stop_words}
+use Rattle.shacl_run.proofs.ValidationLemmas.{IsValidation-within}
 use Rattle.shacl_run.proofs.ValidationRunLemmas.{Ends-behind_report, Ends-within_report, StopsFed-reported}
 use Rattle.shacl_run.proofs.ValidationRunLemmas.{validation_prefixed}
 use Rattle.shacl_run.proofs.run_validation.run_script.Goals as goal
@@ -83,7 +85,8 @@ returns-in_err-write_current-clause-ends g c = λ manner s patterns same is line
     let notices = c.args.validation.passed_over in
     let script = inputs.text c.args.name.now in
     let exit = c.from_residual-in_err-write_current in
-    let kept = c.in_ok-script.ensures.opened manner.limits manner.format s is in
+    let kept = c.in_ok-script.ensures.opened manner.limits manner.format s
+    (ap (λ (l : Limits). l.history) same) is in
     let writes = c.in_err-write_current.ensures manner.limits manner.format s kept in
     rw (passed_on exit.result Write exit.ensures.1)
     (Ends-within_report manner.format notices s (option_map (validation_output manner notices s) script)
@@ -98,8 +101,10 @@ returns-in_err-write_current-clause-causes g c = λ limits s patterns is.
     let after = outside inputs (g.O.Sink.state c.write_current.new.out) patterns c.open.new.nested
     c.open.new.steps in
     let exit = c.from_residual-in_err-write_current in
-    let kept = c.in_ok-script.ensures.opened limits validation.format s is in
-    let writes = c.in_err-write_current.ensures limits validation.format s kept in
+    let within_limits : Limits = record limits { history = c.args.limits.now.history } in
+    let kept = c.in_ok-script.ensures.opened within_limits validation.format s refl
+    (IsValidation-within limits validation.format s validation is within_limits refl refl) in
+    let writes = c.in_err-write_current.ensures within_limits validation.format s kept in
     rw (passed_on exit.result Write exit.ensures.1)
     (Ends-within_report validation.format validation.passed_over s None None tt before after refl writes.err)
 
@@ -149,7 +154,8 @@ returns-in_err-open-clause-ends g c = λ manner s patterns same is lines.
     let script = inputs.text c.args.name.now in
     let later = due_at manner s manner.limits.script script in
     let exit = c.from_residual-in_err-open in
-    let kept = c.in_ok-script.ensures.opened manner.limits manner.format s is in
+    let kept = c.in_ok-script.ensures.opened manner.limits manner.format s
+    (ap (λ (l : Limits). l.history) same) is in
     let writes = c.in_ok-write_current.ensures manner.limits manner.format s kept in
     rw (passed_on exit.result Input exit.ensures.1)
     (Ends-behind_report manner.format notices s (option_map (validation_output manner notices s) script)
@@ -167,8 +173,10 @@ returns-in_err-open-clause-causes g c = λ limits s patterns is.
     let after = outside (g.I.Inputs.state c.open-2.new.self) sink patterns c.open.new.nested
     c.open.new.steps in
     let exit = c.from_residual-in_err-open in
-    let kept = c.in_ok-script.ensures.opened limits validation.format s is in
-    let writes = c.in_ok-write_current.ensures limits validation.format s kept in
+    let within_limits : Limits = record limits { history = c.args.limits.now.history } in
+    let kept = c.in_ok-script.ensures.opened within_limits validation.format s refl
+    (IsValidation-within limits validation.format s validation is within_limits refl refl) in
+    let writes = c.in_ok-write_current.ensures within_limits validation.format s kept in
     rw (passed_on exit.result Input exit.ensures.1)
     (Ends-behind_report validation.format validation.passed_over s None None tt InputFault before within after
     writes.ok refl (c.in_ok-script.ensures.work limits validation.format s is)
@@ -216,7 +224,8 @@ returns-clause-ends g c = λ manner s patterns same is lines.
     c.serve.new.nested c.serve.new.steps in
     let notices = c.args.validation.passed_over in
     let script = inputs.text c.args.name.now in
-    let kept = c.in_ok-script.ensures.opened manner.limits manner.format s is in
+    let kept = c.in_ok-script.ensures.opened manner.limits manner.format s
+    (ap (λ (l : Limits). l.history) same) is in
     let writes = c.in_ok-write_current.ensures manner.limits manner.format s kept in
     Ends-behind_report manner.format notices s (option_map (validation_output manner notices s) script)
     (due_at manner s manner.limits.script script) (validation_prefixed manner notices s script)
@@ -235,8 +244,10 @@ returns-clause-causes g c = λ limits s patterns is.
     c.open.new.nested c.open.new.steps in
     let after = outside (g.I.Inputs.state c.serve.new.host) (g.O.Sink.state c.serve.new.out) patterns
     c.serve.new.nested c.serve.new.steps in
-    let kept = c.in_ok-script.ensures.opened limits validation.format s is in
-    let writes = c.in_ok-write_current.ensures limits validation.format s kept in
+    let within_limits : Limits = record limits { history = c.args.limits.now.history } in
+    let kept = c.in_ok-script.ensures.opened within_limits validation.format s refl
+    (IsValidation-within limits validation.format s validation is within_limits refl refl) in
+    let writes = c.in_ok-write_current.ensures within_limits validation.format s kept in
     Ends-behind_report validation.format validation.passed_over s None None tt (end_status c.serve.result)
     before within after writes.ok c.in_ok-open.ensures.cause.quiet
     (c.in_ok-script.ensures.work limits validation.format s is) (c.serve.ensures.causes patterns)
@@ -245,7 +256,8 @@ pub returns-clause-fed : goal.returns-clause-fed
 returns-clause-fed g c = λ manner s same is lines failed opened.
     let notices = c.args.validation.passed_over in
     let inputs = g.I.Inputs.state c.args.host.now in
-    let kept = c.in_ok-script.ensures.opened manner.limits manner.format s is in
+    let kept = c.in_ok-script.ensures.opened manner.limits manner.format s
+    (ap (λ (l : Limits). l.history) same) is in
     let writes = c.in_ok-write_current.ensures manner.limits manner.format s kept in
     StopsFed-reported manner notices s (inputs.text c.args.name.now)
     ((g.I.Inputs.state c.serve.new.host).rest Script) (g.O.Sink.state c.args.out.now)

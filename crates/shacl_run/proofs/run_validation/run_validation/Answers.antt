@@ -22,7 +22,8 @@ returns-in-None-clause-ends g c = λ manner s patterns same is lines.
     rw c.in-None.is
     (Ends-unscripted manner.format validation.passed_over s
     (Some (validation_output manner validation.passed_over s []))
-    (validation_alone manner validation.passed_over s is.start.refused) c.put_report.result before after puts
+    (validation_alone manner validation.passed_over s is.start.refused is.start.group) c.put_report.result
+    before after puts
     refl)
 
 pub returns-in-None-clause-causes : goal.returns-in-None-clause-causes

@@ -4,12 +4,14 @@ use Rattle.shx_outside.specs.declared.role.Role.TheVariants.{Script}
 use Rattle.shx_outside.specs.Outside.{PatternState}
 use Rattle.text_input.specs.ScriptReader.{left_of}
 use Rattle.ttl_meaning.specs.declared.document.Document.{Document}
+use Rattle.text_output.specs.Writes.{FellShort, Put}
 use Rattle.report_write.specs.declared.answer.Answer.TheVariants.{TooLong}
 use Rattle.text_input.proofs.CountLemmas.{GoesOn-then}
 use Rattle.shacl_run.specs.declared.status.Status.TheVariants.{BadWords, InputFault}
 use Rattle.shacl_run.specs.declared.stop.Stop.TheVariants.{Write}
 use Rattle.shacl_run.specs.declared.take_line.Taken.{Taken}
 use Rattle.shacl_run.specs.inner.Ends.{Ends}
+use Rattle.shacl_run.specs.inner.Reply.{open_notice}
 use Rattle.shacl_run.specs.inner.Serving.{due_at}
 use Rattle.shacl_run.specs.inner.Stops.{end_status, stop_status}
 use Rattle.shacl_run.specs.Names.{HasNamesOf}
@@ -19,7 +21,8 @@ use Rattle.shacl_run.proofs.EndLemmas.{Ends-from_still, Ends-told, IsStill, pass
 use Rattle.shacl_run.proofs.LineReadingLemmas.{readings_start}
 use Rattle.shacl_run.proofs.ReachedLemmas.{PutsOn-short, PutsOn-start, PutsOn-step, by_told, Reached-start}
 use Rattle.shacl_run.proofs.ReachedLemmas.{Reached-step, Reached-short}
-use Rattle.shacl_run.proofs.ServedLemmas.{Ends-answered, Ends-last, Ends-stopped, TakesWithin-read}
+use Rattle.shacl_run.proofs.ServedLemmas.{Ends-answered, Ends-last, Ends-last_short, Ends-stopped}
+use Rattle.shacl_run.proofs.ServedLemmas.{TakesWithin-read, notice_is}
 use Rattle.shacl_run.proofs.ServedLemmas.{cut_unanswered, not_ended, reported_answered, reported_apart}
 use Rattle.shacl_run.proofs.ServingLemmas.{stops_here}
 use Rattle.shacl_run.proofs.serve.serve.Goals as goal
@@ -32,6 +35,7 @@ loop-taken-init g c =
     outside inputs (g.O.Sink.state c.args.out.now) patterns c.args.nested.now c.args.steps.now in
     rw c.new-reader.ensures (record {
       goes_on = search rules;
+      may = c.requires.goes_on;
       few = omega (arith, c.requires.fresh);
       names = refl;
       puts = λ patterns. PutsOn-start (at patterns);
@@ -164,38 +168,43 @@ returns-in-End-clause-ends g c = λ manner s patterns same is lines.
     let l = c.loop-taken in
     let before = g.I.Inputs.state c.args.host.now in
     let inputs = g.I.Inputs.state l.host in
-    let sink = g.O.Sink.state l.out in
     let start = outside before (g.O.Sink.state c.args.out.now) patterns c.args.nested.now c.args.steps.now in
-    let at = outside inputs sink patterns l.nested l.steps in
-    let after = outside (g.I.Inputs.state c.take_line.new.host) sink patterns c.take_line.new.nested
-    c.take_line.new.steps in
-    let still : IsStill at after = record { sink = refl; inputs = c.in_ok-taken.ensures.cause } in
+    let at = outside inputs (g.O.Sink.state l.out) patterns l.nested l.steps in
+    let after = outside (g.I.Inputs.state c.take_line.new.host) (g.O.Sink.state c.write_dropped.new.out)
+    patterns c.take_line.new.nested c.take_line.new.steps in
+    let quiet = c.in_ok-taken.ensures.cause in
+    let put = c.in_ok-write_dropped-in-End.ensures.ok in
+    let script = c.take_line.new.script in
+    let text = open_notice script.format script.engine.graph.terms script.group in
     let status = c.status.result in
     by_told (before.rest Script)
     (λ script. Ends (due_at manner s c.args.limits.now.script script) status start after)
     ((l.invariant.puts patterns).onward status after
-    (Ends-answered status at after (reported_answered status c.status.ensures.reported) still
+    (Ends-answered status text at after (reported_answered status c.status.ensures.reported) quiet put
     c.in_ok-taken.ensures.risen))
     (λ bytes told.
     let reached = l.invariant.reached manner s patterns bytes same is told lines in
     let due = due_at manner reached.state l.reader.budget (left_of l.reader (inputs.rest Script)) in
     let taken = (rw c.in-End.is at c.in_ok-taken.ensures.taken) manner reached.state same reached.stored
     reached.lines in
+    let told_put = subst (Put at.sink after.sink)
+    (notice_is manner.limits manner.format reached.state script taken.0) put in
     rw (c.status.ensures.is manner reached.state taken.0)
     (reached.onward _ after
-    (Ends-last due manner.format reached.state at after taken.1.due still taken.2)))
+    (Ends-last due manner.format reached.state at after taken.1.due quiet taken.2 told_put)))
 
 pub returns-in-End-clause-causes : goal.returns-in-End-clause-causes
 returns-in-End-clause-causes g c = λ patterns.
     let l = c.loop-taken in
-    let sink = g.O.Sink.state l.out in
-    let at = outside (g.I.Inputs.state l.host) sink patterns l.nested l.steps in
-    let after = outside (g.I.Inputs.state c.take_line.new.host) sink patterns c.take_line.new.nested
-    c.take_line.new.steps in
+    let at = outside (g.I.Inputs.state l.host) (g.O.Sink.state l.out) patterns l.nested l.steps in
+    let after = outside (g.I.Inputs.state c.take_line.new.host) (g.O.Sink.state c.write_dropped.new.out)
+    patterns c.take_line.new.nested c.take_line.new.steps in
+    let script = c.take_line.new.script in
+    let text = open_notice script.format script.engine.graph.terms script.group in
     let status = c.status.result in
     (l.invariant.puts patterns).onward status after
-    (Ends-answered status at after (reported_answered status c.status.ensures.reported)
-    (record { sink = refl; inputs = c.in_ok-taken.ensures.cause }) c.in_ok-taken.ensures.risen)
+    (Ends-answered status text at after (reported_answered status c.status.ensures.reported)
+    c.in_ok-taken.ensures.cause c.in_ok-write_dropped-in-End.ensures.ok c.in_ok-taken.ensures.risen)
 
 pub returns-in-End-clause-fed : goal.returns-in-End-clause-fed
 returns-in-End-clause-fed g c = λ manner s same is lines failed.
@@ -214,6 +223,58 @@ returns-in-End-clause-read g c = λ answered end names.
 
 pub returns-in-End-clause-within : goal.returns-in-End-clause-within
 returns-in-End-clause-within g c =
+    TakesWithin-read c.args.limits.now.script c.loop-taken.invariant.goes_on c.take_line.ensures.goes_on
+
+-- ---- the notice of an open group could not be written
+
+pub returns-in_err-write_dropped-in-End-clause-ends : goal.returns-in_err-write_dropped-in-End-clause-ends
+returns-in_err-write_dropped-in-End-clause-ends g c = λ manner s patterns same is lines.
+    let l = c.loop-taken in
+    let before = g.I.Inputs.state c.args.host.now in
+    let inputs = g.I.Inputs.state l.host in
+    let start = outside before (g.O.Sink.state c.args.out.now) patterns c.args.nested.now c.args.steps.now in
+    let at = outside inputs (g.O.Sink.state l.out) patterns l.nested l.steps in
+    let next = outside (g.I.Inputs.state c.take_line.new.host) (g.O.Sink.state c.write_dropped.new.out)
+    patterns c.take_line.new.nested c.take_line.new.steps in
+    let exit = c.from_residual-in_err-write_dropped-in-End in
+    let short = c.in_err-write_dropped-in-End.ensures.err in
+    let quiet = c.in_ok-taken.ensures.cause in
+    let script = c.take_line.new.script in
+    rw (passed_on exit.result Write exit.ensures.1)
+    (by_told (before.rest Script)
+    (λ script. Ends (due_at manner s c.args.limits.now.script script) (stop_status Write) start next)
+    (PutsOn-short start at next _ (l.invariant.puts patterns) quiet short)
+    (λ bytes told.
+    let reached = l.invariant.reached manner s patterns bytes same is told lines in
+    let due = due_at manner reached.state l.reader.budget (left_of l.reader (inputs.rest Script)) in
+    let taken = (rw c.in-End.is at c.in_ok-taken.ensures.taken) manner reached.state same reached.stored
+    reached.lines in
+    let told_short = subst (FellShort at.sink next.sink)
+    (notice_is manner.limits manner.format reached.state script taken.0) short in
+    reached.onward (stop_status Write) next
+    (Ends-last_short due manner.format reached.state at next taken.1.due quiet told_short)))
+
+pub returns-in_err-write_dropped-in-End-clause-causes : goal.returns-in_err-write_dropped-in-End-clause-causes
+returns-in_err-write_dropped-in-End-clause-causes g c = λ patterns.
+    let l = c.loop-taken in
+    let start = outside (g.I.Inputs.state c.args.host.now) (g.O.Sink.state c.args.out.now) patterns
+    c.args.nested.now c.args.steps.now in
+    let at = outside (g.I.Inputs.state l.host) (g.O.Sink.state l.out) patterns l.nested l.steps in
+    let next = outside (g.I.Inputs.state c.take_line.new.host) (g.O.Sink.state c.write_dropped.new.out)
+    patterns c.take_line.new.nested c.take_line.new.steps in
+    let exit = c.from_residual-in_err-write_dropped-in-End in
+    rw (passed_on exit.result Write exit.ensures.1)
+    (PutsOn-short start at next _ (l.invariant.puts patterns) c.in_ok-taken.ensures.cause
+    c.in_err-write_dropped-in-End.ensures.err)
+
+pub returns-in_err-write_dropped-in-End-clause-read : goal.returns-in_err-write_dropped-in-End-clause-read
+returns-in_err-write_dropped-in-End-clause-read g c = λ answered.
+    let exit = c.from_residual-in_err-write_dropped-in-End in
+    absurd (cut_unanswered exit.result Write (passed_on exit.result Write exit.ensures.1) answered)
+
+pub returns-in_err-write_dropped-in-End-clause-within :
+    goal.returns-in_err-write_dropped-in-End-clause-within
+returns-in_err-write_dropped-in-End-clause-within g c =
     TakesWithin-read c.args.limits.now.script c.loop-taken.invariant.goes_on c.take_line.ensures.goes_on
 
 -- ---- the script goes on past its limit
@@ -299,6 +360,7 @@ loop-taken-preserved g c =
     let bytes = rw c.in-Replied.is at c.in_ok-taken.ensures.bytes in
     record {
       goes_on = GoesOn-then l.invariant.goes_on c.take_line.ensures.goes_on;
+      may = c.in_ok-taken.ensures.goes_on_still;
       few = omega (arith, l.invariant.few, bytes.0, bytes.1);
       names = c.take_line.ensures.names ∙ l.invariant.names;
       puts = λ patterns. PutsOn-step (start patterns) (at patterns) (next patterns) _

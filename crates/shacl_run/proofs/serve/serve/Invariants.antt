@@ -8,7 +8,7 @@ use Rattle.shacl_run.specs.Names.{HasNamesOf}
 use Rattle.shacl_run.specs.Outside.{outside}
 use Rattle.shacl_run.specs.ScriptState.{ScriptState}
 use Rattle.shacl_run.specs.inner.Serving.{HaveReadings, LinesAreReadAt}
-use Rattle.shacl_run.specs.inner.Validation.{IsScriptRun}
+use Rattle.shacl_run.specs.inner.Validation.{IsScriptRun, MayGoOn}
 use Rattle.shacl_run.proofs.ReachedLemmas.{PutsOn, Reached}
 use Rattle.shacl_run.proofs.serve.serve.Given as goal
 
@@ -21,6 +21,7 @@ invariant-loop-taken g l =
     let at = λ (patterns : PatternState). outside inputs (g.O.Sink.state l.out) patterns l.nested l.steps in
     record {
       goes_on : GoesOn (new_reader l.limits.script) inputs0 l.reader inputs;
+      may : MayGoOn l.script;
       few : l.script.line + l.reader.budget < 2 ^ 64;
       names : l.script.document ≡ l.fn.script.document;
       puts : (patterns : PatternState) → PutsOn (start patterns) (at patterns);

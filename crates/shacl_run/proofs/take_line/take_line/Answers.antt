@@ -10,8 +10,8 @@ use Rattle.shacl_run.proofs.LineReadingLemmas.{reads_too_long, readings_none, re
 use Rattle.shacl_run.proofs.ServingLemmas.{TakesStep-line, end_met, step_once, step_too_long}
 use Rattle.shacl_run.proofs.take_line.take_line.Goals as goal
 
-pub reply_to-requires : goal.reply_to-requires
-reply_to-requires g c =
+pub reply_to-requires-clause-few : goal.reply_to-requires-clause-few
+reply_to-requires-clause-few g c =
     let read = rw c.in-Is.is at c.in_ok-line.ensures.line in
     omega (arith, c.requires.few, read.2)
 

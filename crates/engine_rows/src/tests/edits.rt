@@ -1,5 +1,6 @@
 //! An engine goes through the edits of a row. Behind each its report is the one that is made from nothing.
-ghost use Rattle.std.specs.Prelude.{◌≡◌, ◌<◌, length, IfOk};
+ghost use Rattle.std.specs.Prelude.{◌≡◌, ◌<◌, length, All, IfOk};
+ghost use Rattle.shx_term.specs.Edit.{IsValidEdit};
 ghost use Rattle.shape_eval.specs.Planned.{plan_of};
 ghost use Rattle.graph_view.specs.ListGraph.{plain_graph};
 ghost use Rattle.script_lines.specs.Lines.{IsValidCommand};
@@ -9,7 +10,7 @@ use super::beside::is_current;
 use super::opened::{Opened, open_texts};
 use super::rows::ROWS;
 use super::watched::{Watched, watch_of};
-use edit_engine::{Change, EditFault, Engine};
+use edit_engine::{Change, Edit, EditFault, Engine};
 use graph_view::{GraphEdit, GraphView};
 use row_tools::{RowFault, all_blocks_met, cut, in_four};
 use script_lines::{Command, LineFault, read_line};
@@ -43,25 +44,21 @@ fn told(alloc: Global, outcome: &Result<Change, EditFault>) -> Result<String, Me
     }
 }
 
-// Whether a command is an edit, of which so much is told.
-fn is_told<V: GraphEdit, L: Ledger, M: Ledger>(
-    alloc: Global,
-    engine: &mut Engine<V>,
-    command: &Command,
-    due: &str,
-    nested: &mut Steps<M>,
-    steps: &mut Steps<L>,
-) -> Result<bool, Memory>
-    requires { IsValidCommand command.now }
+// The edits of a step, which stand with ` ; ` between them.
+fn edits_of(alloc: Global, document: &Document, lines: &str) -> Result<Vec<Edit>, RowFault>
+    ensures { IfOk result (λ edits. All IsValidEdit edits.items) }
 {
-    let Command::Edit(edit) = command else {
-        return Ok(false);
-    };
-    let outcome = engine.apply(alloc, edit, nested, steps);
-    Ok(told(alloc, &outcome)?.as_str() == due)
+    let mut edits = Vec::new(alloc);
+    for line in lines.split(" ; ") {
+        match read(alloc, document, line)?.into_edit() {
+            Some(edit) => edits.push(edit)?,
+            None => return Err(RowFault::Unread),
+        }
+    }
+    Ok(edits)
 }
 
-// Whether a step ends as it says: `EDIT → TOLD, PAIRS RESULTS`, or `EDIT → TOLD`.
+// Whether a step ends as it says: `EDITS → TOLD, PAIRS RESULTS`, or `EDITS → TOLD`.
 fn is_met<V: GraphEdit, L: Ledger, M: Ledger>(
     alloc: Global,
     engine: &mut Engine<V>,
@@ -70,13 +67,11 @@ fn is_met<V: GraphEdit, L: Ledger, M: Ledger>(
     nested: &mut Steps<M>,
     steps: &mut Steps<L>,
 ) -> Result<bool, RowFault> {
-    let (edit, due) = cut(step, " → ")?;
+    let (lines, due) = cut(step, " → ")?;
     let (due, counts) = due.split_once(", ").unwrap_or((due, ""));
-    let command = read(alloc, document, edit)?;
-    Ok(
-        is_told(alloc, engine, &command, due, nested, steps)?
-            && is_current(alloc, engine, counts, nested, steps)?,
-    )
+    let edits = edits_of(alloc, document, lines)?;
+    let outcome = engine.apply_all(alloc, &edits, nested, steps);
+    Ok(told(alloc, &outcome)?.as_str() == due && is_current(alloc, engine, counts, nested, steps)?)
 }
 
 /// A block: shapes, data, how many pairs and results there are or which key is watched, and steps.

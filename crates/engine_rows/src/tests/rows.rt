@@ -1,6 +1,6 @@
 //! Edits, a block for each engine: its shapes, its data, how many pairs and results there are, and then
 //! edits, each with how many pairs it evaluates, or why it has no effect, and how many pairs and results
-//! there are then. It may hold eight triples.
+//! there are then. Edits with ` ; ` between them are made at once. The engine may hold eight triples.
 
 pub const ROWS: &str = "\
 e:S sh:targetNode e:a ; sh:path e:p ; sh:minCount 1 .
@@ -139,4 +139,32 @@ insert e:y a e:C . → 0, 2 2
 remove e:y e:t 1 . → 0, 2 2
 remove e:y rdf:type e:C . → 0, 1 1
 insert e:x e:p 1 . → 1, 1 0
+
+e:S sh:targetNode e:a ; sh:path e:q ; sh:property e:I . e:I sh:path e:p ; sh:maxCount 9 .
+e:a e:q e:c .
+1 0
+insert e:c e:p 1 . ; insert e:a e:q e:d . ; insert e:d e:p 1 . → 1, 1 0
+insert e:c e:p 2 . ; remove e:c e:p 2 . → unchanged, 1 0
+remove e:c e:p 1 . ; insert e:c e:p 1 . ; remove e:z e:p 1 . → unchanged, 1 0
+remove e:a e:q e:c . ; remove e:a e:q e:d . ; remove e:c e:p 1 . ; remove e:d e:p 1 . → 1, 1 0
+
+e:S sh:targetClass e:C ; sh:property [ sh:path e:p ; sh:minCount 1 ] .
+e:D rdfs:subClassOf e:C . e:x a e:D . e:y a e:D .
+2 2
+remove e:D rdfs:subClassOf e:C . ; insert e:D rdfs:subClassOf e:B . ; \
+insert e:B rdfs:subClassOf e:C . → 0, 2 2
+remove e:B rdfs:subClassOf e:C . ; insert e:x rdf:type e:C . ; insert e:y e:p 1 . → 0, 1 1
+insert e:B rdfs:subClassOf e:C . ; remove e:x rdf:type e:D . ; insert e:x e:p 1 . → 2, 2 0
+insert e:z rdf:type e:C . ; insert e:w rdf:type e:C . ; \
+insert e:v rdf:type e:C . → the graph is full, 2 0
+insert e:z rdf:type e:C . ; insert e:w rdf:type e:D . ; \
+remove e:x rdf:type e:C . ; remove e:x e:p 1 . → 2, 3 2
+
+e:S sh:targetSubjectsOf e:p ; sh:path e:q ; sh:maxCount 1 . \
+e:T sh:targetObjectsOf e:p ; sh:nodeKind sh:IRI .
+e:a e:p e:b ; e:q 1 , 2 .
+2 1
+remove e:a e:p e:b . ; insert e:b e:p e:a . → 2, 2 0
+insert e:a e:p e:b . ; remove e:a e:q 2 . ; insert e:b e:q 1 . ; insert e:b e:q 2 . → 3, 4 1
+remove e:a e:p e:b . ; remove e:b e:p e:a . ; remove e:b e:q 1 . → 0, 0 0
 ";

@@ -10,6 +10,7 @@ use graph_view::{GraphEdit, GraphView, ListGraph, Patched, Reads};
 use row_tools::{RowFault, all_met, cut, in_four, in_three, number};
 use std::alloc::Global;
 use std::test::Fail;
+use triple_store::Overlay;
 
 // Whether a graph with a change that is not made answers a question as is due.
 fn patched_answers<V: GraphView>(
@@ -22,8 +23,9 @@ fn patched_answers<V: GraphView>(
     if !is_patch(base, added, removed) || !is_countable(base, added, removed) {
         return Err(RowFault::Unread);
     }
-    let view = Patched::new(base, added.triples(), removed.triples());
-    answers(alloc, &view, question, due)
+    let patched = Patched::new(base, added.triples(), removed.triples());
+    let overlay = Overlay::new(alloc, base, added.triples(), removed.triples())?;
+    Ok(answers(alloc, &patched, question, due)? && answers(alloc, &overlay, question, due)?)
 }
 
 // The same where the base may be asked the question's key alone, if any.
@@ -90,8 +92,9 @@ fn is_patched_as<V: GraphView>(
     if !is_patch(base, added, removed) || !is_countable(base, added, removed) {
         return Err(RowFault::Unread);
     }
-    let view = Patched::new(base, added.triples(), removed.triples());
-    Ok(is_same(alloc, &view, other)?)
+    let patched = Patched::new(base, added.triples(), removed.triples());
+    let overlay = Overlay::new(alloc, base, added.triples(), removed.triples())?;
+    Ok(is_same(alloc, &patched, other)? && is_same(alloc, &overlay, other)?)
 }
 
 // Whether a change of a graph that is as the base ends as is due, is as it was looked through if it is made,

@@ -79,6 +79,52 @@ def hub(n):
     return shapes, "".join(data)
 
 
+def failing_hub(n):
+    """n nodes that ask about one node, which has n values and fails"""
+    shapes, data = hub(n)
+    return shapes.replace("sh:nodeKind sh:IRI", f"sh:nodeKind sh:IRI ; sh:minCount {n + 1}"), data
+
+
+def chain_of_nodes(n):
+    """n nodes at a shape that asks the next one about the same node, 30 deep"""
+    shapes = [f"e:s{at} sh:node e:s{at + 1} .\n" for at in range(30)]
+    shapes.append("e:s0 sh:targetSubjectsOf e:p . e:s30 sh:property [ sh:path e:p ; sh:maxCount 1 ] .\n")
+    return "".join(shapes), "".join(f"e:n{at} e:p {at} .\n" for at in range(n))
+
+
+def failing_diamonds(n):
+    """n nodes at a shape that asks the next one twice, by two paths, 30 deep, and fails"""
+    shapes = [
+        f"e:s{at} sh:property [ sh:path e:p ; sh:node e:s{at + 1} ] , [ sh:path e:q ; sh:node e:s{at + 1} ] .\n"
+        for at in range(30)
+    ]
+    shapes.append("e:s0 sh:targetSubjectsOf e:start . e:s30 sh:nodeKind sh:Literal .\n")
+    data = [f"e:v{at} e:p e:v{at + 1} ; e:q e:v{at + 1} .\n" for at in range(30)]
+    data += [f"e:n{at} e:start 1 ; e:p e:v1 ; e:q e:v1 .\n" for at in range(n)]
+    return "".join(shapes), "".join(data)
+
+
+def one_shape_many_times(n):
+    """sh:xone of one shape as many times as there are values, n in all"""
+    side = int(n**0.5)
+    shapes = f"e:S sh:targetNode e:a ; sh:path e:p ; sh:xone {listed(['e:T'] * side)} .\n"
+    return shapes + "e:T sh:nodeKind sh:IRI .\n", f"e:a e:p {' , '.join(names(side, 'v'))} .\n"
+
+
+def doubling_tree(n):
+    """a shape below which sh:property leads to n results, by shapes that lead to the next one twice"""
+    levels = n.bit_length() - 1
+    shapes = [
+        f"e:s{at} sh:property [ sh:path e:p ; sh:property e:s{at + 1} ] , "
+        f"[ sh:path e:p ; sh:property e:s{at + 1} ] .\n"
+        for at in range(levels)
+    ]
+    shapes = [shape if at == 0 else shape.replace(" sh:property [", " sh:path e:p ; sh:property [", 1)
+              for at, shape in enumerate(shapes)]
+    shapes.append(f"e:s{levels} sh:path e:p ; sh:minCount 2 .\n e:s0 sh:targetNode e:a .\n")
+    return "".join(shapes), "e:a e:p e:a .\n"
+
+
 def siblings_at_values(n):
     """qualified values with siblings, at as many values, n in all"""
     side = int(n**0.5)
@@ -137,6 +183,11 @@ CONSTRUCTS = {
         (clique_of_classes, 40_000),
         (many_class_parameters, 25_000),
         (hub, 5_000),
+        (failing_hub, 5_000),
+        (chain_of_nodes, 10_000),
+        (failing_diamonds, 5_000),
+        (one_shape_many_times, 250_000),
+        (doubling_tree, 16_384),
         (siblings_at_values, 10_000),
         (many_ignored, 12_500),
         (patterns, 12_500),

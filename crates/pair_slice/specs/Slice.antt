@@ -12,8 +12,7 @@ use Rattle.shape_eval.specs.Laws.{IsSamePair}
 use Rattle.shape_eval.specs.Plan.{IsKnownPlan, RefersLower}
 use Rattle.shape_eval.specs.Results.{pair_reads}
 
--- the triples of the graph that touch one of the keys, each once, by subject, predicate and object in term
--- order
+-- the triples of the graph that touch one of the keys, in the order of triples, none of them twice
 abbrev pub slice_triples : Graph → List Key → List Triple
 slice_triples g keys = in_triple_order g.terms (filter (λ t. list_any (is_touching t) keys) g.triples)
 

@@ -7,5 +7,10 @@ returns g c =
     let view = g.V.GraphView.graph c.args.view.now in
     let keys = c.keys-key-items in
     let all = take_all c.loop-key.key-index keys.result.now c.loop-key-test.false in
-    rw (c.triples_in_order-triples.ensures, c.pool.ensures.terms, c.loop-key.invariant, all, keys.ensures.keys)
-    (found_slice view c.args.reads.now)
+    rw (
+      c.triples_in_order-triples.ensures,
+      c.pool.ensures.terms,
+      c.loop-key.invariant,
+      all,
+      keys.ensures.keys,
+    ) (found_slice view c.args.reads.now)

@@ -241,7 +241,8 @@ module _ {K : Type 0} (cmp : K → K → Ordering) where
     pub merge_starts : (found new ascending : List K) → ascending ≡ in_order cmp new
         → in_order cmp (found ++ ascending) ≡ in_order cmp (found ++ new)
     merge_starts found new ascending e =
-        let part : SameMembers (in_order cmp new) new = record { each = (in_order_lists cmp order new).each } in
+        let part : SameMembers (in_order cmp new) new =
+            record { each = (in_order_lists cmp order new).each } in
         ap (λ xs. in_order cmp (found ++ xs)) e
         ∙ in_order_same cmp order (found ++ in_order cmp new) (found ++ new)
         (SameMembers-append found (in_order cmp new) found new (SameMembers-itself found) part).each
@@ -273,5 +274,6 @@ module _ {K : Type 0} (cmp : K → K → Ordering) where
 
     pub in_order_empty : (found new : List K) → IsStrictlySortedBy cmp found → (length new == 0) ≡ true
         → found ≡ in_order cmp (found ++ new)
-    in_order_empty found [] sorted e = in_order_itself found sorted ∙ ap (in_order cmp) (sym (append-nil found))
+    in_order_empty found [] sorted e =
+        in_order_itself found sorted ∙ ap (in_order cmp) (sym (append-nil found))
     in_order_empty found (x ∷ xs) sorted e = absurd (omega (arith, eqb-true (length (x ∷ xs)) 0 e))

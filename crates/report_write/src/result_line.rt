@@ -3,7 +3,8 @@ ghost use Rattle.std.specs.Prelude.{codes, flat_map};
 ghost use Rattle.std.specs.Option.{unwrap_or};
 ghost use Rattle.shape_eval.specs.Planned.{plan_of};
 ghost use Rattle.text_output.specs.declared.format.Format.TheVariants.{Lines};
-ghost use Rattle.report_write.specs.ResultLines.{detail_line, finding_line, lines_text, message_text, source_text};
+ghost use Rattle.report_write.specs.ResultLines.{detail_line, finding_line, lines_text, message_text};
+ghost use Rattle.report_write.specs.ResultLines.{source_text};
 ghost use Rattle.report_write.specs.ResultPaths.{result_path_text};
 
 use crate::path::add_path;

@@ -5,7 +5,7 @@ use Rattle.shx_term.proofs.MemberLemmas.{Contains-map, none_in_empty}
 use Rattle.shape_eval.specs.Constraint.{members_of, shapes_named}
 use Rattle.shape_eval.specs.declared.constraint.Constraint.{Constraint}
 use Rattle.shape_eval.specs.declared.constraint.Constraint.TheVariants as any
-use Rattle.shape_compile.specs.Constraints.{Content, Members, Names, Permits, content_of}
+use Rattle.shape_eval.specs.Content.{Content, Members, Names, Permits, content_of}
 
 -- the members of a list that it says, or what it permits and ignores
 abbrev pub members_in : Content → List ℕ

@@ -42,7 +42,8 @@ use Rattle.shape_decl.specs.Tables.{list_predicates, shape_list_predicates, shap
 use Rattle.shape_refs.specs.References.{declared_at, members_under, named_by, references_of}
 use Rattle.shape_refs.specs.References.{siblings_of}
 use Rattle.shape_refs.specs.Truth.{is_true}
-use Rattle.shape_compile.specs.Constraints.{Content, Nothing, Matches, Members, Names, Saying, says}
+use Rattle.shape_eval.specs.Content.{Content, Nothing, Matches, Members, Names}
+use Rattle.shape_compile.specs.Constraints.{Saying, says}
 use Rattle.shape_compile.specs.Constraints.{predicate_of, permitted_by}
 use Rattle.shape_compile.specs.Constraints.{closes, constraints_stated, each_count, each_list, each_pattern}
 use Rattle.shape_compile.specs.Constraints.{each_shape, each_shape_list, each_true, each_value}

@@ -1,6 +1,5 @@
 -- The constraints that a shape states (SHACL, section 4), by component and then by parameter in term order.
 use Rattle.std.specs.Prelude.{ℕ, List, [], ◌∷◌, ◌++◌, Option, Some, filter, flat_map, map}
-use Rattle.std.specs.Prelude.{slice_get}
 use Rattle.shx_outside.specs.declared.flags.Flags.{Flags}
 use Rattle.shx_term.specs.declared.term.Term.{Term}
 use Rattle.shx_term.specs.declared.vocabulary.TheConstants.{SH_PROPERTY, SH_IGNORED_PROPERTIES, SH_CLASS}
@@ -27,25 +26,13 @@ use Rattle.shape_decl.specs.Declarations.{Declaration, ListReading, lists_under,
 use Rattle.shape_decl.specs.PathReadings.{RouteReading, Read}
 use Rattle.shape_decl.specs.Shapes.{members_or_none}
 use Rattle.shape_eval.specs.declared.constraint.Constraint.{Constraint}
-use Rattle.shape_eval.specs.declared.constraint.Constraint.TheVariants as any
 use Rattle.shape_eval.specs.Constraint.{kind_of, parameter_of}
+use Rattle.shape_eval.specs.Content.{Content, Matches, Members, Names, Nothing, Permits, content_of}
 use Rattle.shape_refs.specs.References.{declared_at, members_under, siblings_of}
 use Rattle.shape_refs.specs.Truth.{is_true}
 use Rattle.shape_compile.specs.Patterns.{flags_of, text_at}
 
 -- ---- what a constraint says
-
--- beside its component and its parameter
-pub data Content : Type 0 where
-  Nothing : Content
-  -- the text of a pattern, and its flags
-  Matches : List ℕ → Flags → Content
-  -- the members of a list
-  Members : List ℕ → Content
-  -- the nodes of the shapes that it names
-  Names : List (Option ℕ) → Content
-  -- the predicates that are permitted, and those that are ignored
-  Permits : List ℕ → List ℕ → Content
 
 pub record Saying : Type 0 where
   pub kind : ℕ
@@ -55,25 +42,7 @@ pub record Saying : Type 0 where
 abbrev pub says : ℕ → Content → ℕ → Saying
 says kind content parameter = record { kind = kind; parameter = parameter; content = content }
 
--- ---- what a constraint of a plan says, where its shapes are of these nodes
-
-abbrev pub content_of : List ℕ → Constraint → Content
-content_of nodes (any.Pattern c) = Matches c.built.text c.built.flags
-content_of nodes (any.LanguageIn c) = Members c.members.items
-content_of nodes (any.Not c) = Names (slice_get nodes c.shape ∷ [])
-content_of nodes (any.And c) = Names (map (slice_get nodes) c.shapes.items)
-content_of nodes (any.Or c) = Names (map (slice_get nodes) c.shapes.items)
-content_of nodes (any.Xone c) = Names (map (slice_get nodes) c.shapes.items)
-content_of nodes (any.Node c) = Names (slice_get nodes c.shape ∷ [])
-content_of nodes (any.Property c) = Names (slice_get nodes c.shape ∷ [])
-content_of nodes (any.QualifiedMinCount c) =
-    Names (slice_get nodes c.shape ∷ map (slice_get nodes) c.siblings.items)
-content_of nodes (any.QualifiedMaxCount c) =
-    Names (slice_get nodes c.shape ∷ map (slice_get nodes) c.siblings.items)
-content_of nodes (any.Closed c) = Permits c.permitted.items c.ignored.items
-content_of nodes (any.In c) = Members c.members.items
-content_of nodes c = Nothing
-
+-- what a constraint of a plan says, where its shapes are of these nodes
 abbrev pub said_by : List ℕ → Constraint → Saying
 said_by nodes c = says (kind_of c) (content_of nodes c) (parameter_of c)
 

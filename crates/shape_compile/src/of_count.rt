@@ -2,7 +2,8 @@
 ghost use Rattle.std.specs.Prelude.{◌≡◌, ℕ, List, ◌∷◌, ◌++◌, All, Contains, Some, map, slice_get, OnOk};
 ghost use Rattle.shx_term.specs.declared.vocabulary.TheConstants.{SH_QUALIFIED_VALUE_SHAPE as QUALIFIED};
 ghost use Rattle.shape_decl.specs.Declarations.{told_decl, values_under};
-ghost use Rattle.shape_compile.specs.Constraints.{Names, said_by, says};
+ghost use Rattle.shape_eval.specs.Content.{Names};
+ghost use Rattle.shape_compile.specs.Constraints.{said_by, says};
 ghost use Rattle.shape_compile.specs.inner.Shapes.{count_kind, count_predicate, stated_of_count};
 
 use crate::numbers::{number_of, numbers_of};

@@ -1,7 +1,8 @@
 //! Constraints with the members of a list.
 ghost use Rattle.std.specs.Prelude.{◌≡◌, ℕ, List, ◌++◌, map, OnOk};
 ghost use Rattle.shape_decl.specs.Declarations.{told_decl};
-ghost use Rattle.shape_compile.specs.Constraints.{Members, said_by, says};
+ghost use Rattle.shape_eval.specs.Content.{Members};
+ghost use Rattle.shape_compile.specs.Constraints.{said_by, says};
 ghost use Rattle.shape_compile.specs.inner.Shapes.{list_kind, list_predicate, stated_of_list};
 
 use crate::lists::members_of;

@@ -1,7 +1,8 @@
 //! Constraints that name a shape by their parameter.
 ghost use Rattle.std.specs.Prelude.{◌≡◌, ℕ, List, [], ◌∷◌, ◌++◌, All, Contains, map, slice_get, OnOk};
 ghost use Rattle.shape_decl.specs.Declarations.{told_decl, values_under};
-ghost use Rattle.shape_compile.specs.Constraints.{Names, said_by, says};
+ghost use Rattle.shape_eval.specs.Content.{Names};
+ghost use Rattle.shape_compile.specs.Constraints.{said_by, says};
 ghost use Rattle.shape_compile.specs.inner.Shapes.{shape_kind, shape_predicate, stated_of_shape};
 
 use crate::numbers::number_of;

@@ -2,7 +2,8 @@
 ghost use Rattle.std.specs.Prelude.{◌≡◌, ℕ, List, ◌++◌, All, Contains, map, slice_get, OnOk};
 ghost use Rattle.shape_decl.specs.Declarations.{told_decl};
 ghost use Rattle.shape_refs.specs.References.{members_under};
-ghost use Rattle.shape_compile.specs.Constraints.{Names, said_by, says};
+ghost use Rattle.shape_eval.specs.Content.{Names};
+ghost use Rattle.shape_compile.specs.Constraints.{said_by, says};
 ghost use Rattle.shape_compile.specs.inner.Shapes.{shape_list_kind, shape_list_predicate};
 ghost use Rattle.shape_compile.specs.inner.Shapes.{stated_of_shape_list};
 

@@ -1,7 +1,8 @@
 //! Parameters each value of which makes a constraint by itself.
 ghost use Rattle.std.specs.Prelude.{◌≡◌, ℕ, List, ◌++◌, flat_map, map, OnOk};
 ghost use Rattle.shape_decl.specs.Declarations.{told_decl};
-ghost use Rattle.shape_compile.specs.Constraints.{Nothing, said_by, says};
+ghost use Rattle.shape_eval.specs.Content.{Nothing};
+ghost use Rattle.shape_compile.specs.Constraints.{said_by, says};
 ghost use Rattle.shape_compile.specs.inner.Parameters.{kind_made, predicate_of, stated_by};
 
 use pair_components::{Disjoint, Equals, LessThan, LessThanOrEquals};

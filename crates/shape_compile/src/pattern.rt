@@ -4,7 +4,8 @@ ghost use Rattle.shx_term.specs.declared.vocabulary.TheConstants.{SH_PATTERN as 
 ghost use Rattle.shx_term.specs.declared.vocabulary.TheConstants.{SH_UNIQUE_LANG as UNIQUE_PREDICATE};
 ghost use Rattle.comp_core.specs.declared.kinds.TheConstants.{UNIQUE_LANG};
 ghost use Rattle.shape_decl.specs.Declarations.{told_decl, values_under};
-ghost use Rattle.shape_compile.specs.Constraints.{Nothing, each_pattern, each_true, said_by};
+ghost use Rattle.shape_eval.specs.Content.{Nothing};
+ghost use Rattle.shape_compile.specs.Constraints.{each_pattern, each_true, said_by};
 ghost use Rattle.shape_compile.specs.Patterns.{flags_of};
 ghost use Rattle.shape_compile.specs.inner.Built.{IsBuiltFor};
 

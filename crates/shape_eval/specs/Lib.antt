@@ -1,5 +1,6 @@
 pub mod Answered
 pub mod Constraint
+pub mod Content
 pub mod Known
 pub mod Laws
 pub mod Nested

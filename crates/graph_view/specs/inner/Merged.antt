@@ -5,8 +5,8 @@ use Rattle.std.specs.declared.cmp.Ordering.TheVariants.{Less}
 use Rattle.std.specs.List.Sorted.{IsStrictlySortedBy}
 use Rattle.shx_term.specs.InOrder.{in_order}
 
--- a part of what is left, and an element behind it, were put behind what is done: with whatever comes behind the
--- element, this is how the whole begins
+-- a part of what is left, and an element behind it, were put behind what is done: with whatever comes behind
+-- the element, this is how the whole begins
 pub record PutsBefore {K : Type 0} (cmp : K → K → Ordering) (x : K) (rest left done new : List K)
     : Type 0 where
   pub front : List K

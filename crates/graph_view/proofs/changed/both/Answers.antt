@@ -19,7 +19,8 @@ loop-x-preserved g c =
       puts.sorted,
       merge_goes_on cmp (g.T.Found.exact terms) c.args.new.now c.loop-x.rest.now c.in_ok-rest.rest.now
           c.loop-x.all.items c.put_before.new.all.items (in_order cmp (c.args.found.now ++ c.args.new.now))
-          c.loop-x.x-index c.x-item.result c.loop-x-test.true c.x-item.is c.requires.new puts c.loop-x.invariant.1,
+          c.loop-x.x-index c.x-item.result c.loop-x-test.true c.x-item.is c.requires.new puts
+          c.loop-x.invariant.1,
     )
 
 pub returns : goal.returns

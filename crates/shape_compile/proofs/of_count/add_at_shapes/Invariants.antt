@@ -1,5 +1,6 @@
 use Rattle.std.specs.Prelude.{◌≡◌, ◌∷◌, ◌++◌, Some, map, take}
-use Rattle.shape_compile.specs.Constraints.{Names, said_by, says}
+use Rattle.shape_eval.specs.Content.{Names}
+use Rattle.shape_compile.specs.Constraints.{said_by, says}
 use Rattle.shape_compile.specs.inner.Shapes.{count_kind}
 use Rattle.shape_compile.proofs.of_count.add_at_shapes.Given as goal
 

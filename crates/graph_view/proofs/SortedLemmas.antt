@@ -242,7 +242,7 @@ module _ {K : Type 0} (cmp : K → K → Ordering) where
         → in_order cmp (found ++ ascending) ≡ in_order cmp (found ++ new)
     merge_starts found new ascending e =
         let part : SameMembers (in_order cmp new) new =
-            record { each = (in_order_lists cmp order new).each } in
+        record { each = (in_order_lists cmp order new).each } in
         ap (λ xs. in_order cmp (found ++ xs)) e
         ∙ in_order_same cmp order (found ++ in_order cmp new) (found ++ new)
         (SameMembers-append found (in_order cmp new) found new (SameMembers-itself found) part).each

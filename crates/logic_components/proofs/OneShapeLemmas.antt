@@ -13,7 +13,7 @@ module _ (shape : ℕ) (vs : List ℕ) (i : ℕ) (inside : i < length vs) where
       → held (pair_of (get_or vs i 0) shape)
   is_held held all =
       All_head held (pair_of (get_or vs i 0) shape) []
-          (All_part held (pairs_at (shape ∷ [])) vs i 0 inside all)
+      (All_part held (pairs_at (shape ∷ [])) vs i 0 inside all)
 
   pub are_noted : {N : Type 0} {notes : N → N → List Key → Type 0} → IsNoting notes → (r : Pair → List Key)
       → {old mid new : N} → notes old mid (asked_keys r (shape ∷ []) (take i vs))

@@ -3,13 +3,15 @@ use Rattle.std.proofs.Common.{◌≡◌, ℕ, zero, true, List, ◌++◌, Option
 use Rattle.std.proofs.Common.{refl, sym, ap, ◌∙◌, codes, nat_eq, MatchOption}
 use Rattle.std.specs.List.{starts_with}
 use Rattle.script_lines.specs.declared.form.Form.{Form}
-use Rattle.script_lines.specs.declared.form.Form.TheVariants.{Blank, Alone, Insert, Remove}
+use Rattle.script_lines.specs.declared.form.Form.TheVariants.{Blank, Alone, Insert, Remove, Slice}
+use Rattle.script_lines.specs.declared.form.PairTokens.{PairTokens}
 use Rattle.script_lines.specs.declared.form.Terms.{Terms}
 use Rattle.script_lines.specs.declared.word.Word.{Word}
 use Rattle.script_lines.specs.declared.word.Word.TheVariants.{Report, Count, Begin, Commit, Abandon}
 use Rattle.script_lines.specs.declared.word.Word.TheVariants.{Undo, Redo}
-use Rattle.script_lines.specs.Forms.{EndsAt, HasForm, IsEdit, begins_with, word_start, word_end, word_text}
-use Rattle.script_lines.specs.inner.Parts.{IsParted, IsWordEnd}
+use Rattle.script_lines.specs.Forms.{EndsAt, HasForm, IsPair, IsTriple, begins_with, word_start, word_end}
+use Rattle.script_lines.specs.Forms.{word_text}
+use Rattle.script_lines.specs.inner.Parts.{IsPartedWord, IsWordEnd}
 use Rattle.script_lines.proofs.WordLemmas.{begins_is}
 
 -- a form without its terms
@@ -18,12 +20,14 @@ pub data Head : Type 0 where
   Lone : Word → Head
   Inserts : Head
   Removes : Head
+  Slices : Head
 
 abbrev pub head : Form → Head
 head Blank = Empty
 head (Alone word) = Lone word
 head (Insert terms) = Inserts
 head (Remove terms) = Removes
+head (Slice pair) = Slices
 
 -- whether a text begins with a word, and what it is then
 abbrev or_else : List ℕ → List ℕ → Head → Head → Head
@@ -37,7 +41,8 @@ abbrev head_of : List ℕ → Head
 head_of text =
     or_alone text Report (or_alone text Count (or_alone text Begin (or_alone text Commit
     (or_alone text Abandon (or_alone text Undo (or_alone text Redo
-    (or_else text (codes "insert") Inserts (or_else text (codes "remove") Removes Empty))))))))
+    (or_else text (codes "insert") Inserts (or_else text (codes "remove") Removes
+    (or_else text (codes "slice") Slices Empty)))))))))
 
 -- ... which is the only one, since none of them is a front of another
 word_tells : (word : Word) (more : List ℕ) → head_of (word_text word ++ more) ≡ Lone word
@@ -65,12 +70,16 @@ module _ (line : List ℕ) where
   pub remove_head : begins_with (codes "remove") line ≡ true → line_head ≡ Removes
   remove_head begins = ap head_of (begins_is (codes "remove") line begins)
 
+  pub slice_head : begins_with (codes "slice") line ≡ true → line_head ≡ Slices
+  slice_head begins = ap head_of (begins_is (codes "slice") line begins)
+
   module _ (some : EndsAt line zero → ⊥) where
     pub form_head : (form : Form) → HasForm line form → line_head ≡ head form
     form_head Blank h = absurd (some h)
     form_head (Alone word) h = alone_head word h.begins
-    form_head (Insert terms) h = insert_head h.begins
-    form_head (Remove terms) h = remove_head h.begins
+    form_head (Insert terms) h = insert_head h.word_is.begins
+    form_head (Remove terms) h = remove_head h.word_is.begins
+    form_head (Slice pair) h = slice_head h.word_is.begins
 
     -- ---- no form but that of the word
 
@@ -80,14 +89,19 @@ module _ (line : List ℕ) where
     by_word word form is h = absurd (cc)
 
     by_insert : (form : Form) → head form ≡ Inserts → HasForm line form
-        → (terms : Terms) × IsParted line (word_end (codes "insert") line) terms
-    by_insert (Insert terms) is h = (terms, record { parted = h.parted; triple = h.triple })
+        → (terms : Terms) × IsTriple line (word_end (codes "insert") line) terms
+    by_insert (Insert terms) is h = (terms, h.triple)
     by_insert form is h = absurd (cc)
 
     by_remove : (form : Form) → head form ≡ Removes → HasForm line form
-        → (terms : Terms) × IsParted line (word_end (codes "remove") line) terms
-    by_remove (Remove terms) is h = (terms, record { parted = h.parted; triple = h.triple })
+        → (terms : Terms) × IsTriple line (word_end (codes "remove") line) terms
+    by_remove (Remove terms) is h = (terms, h.triple)
     by_remove form is h = absurd (cc)
+
+    by_slice : (form : Form) → head form ≡ Slices → HasForm line form
+        → (pair : PairTokens) × IsPair line (word_end (codes "slice") line) pair
+    by_slice (Slice pair) is h = (pair, h.pair_is)
+    by_slice form is h = absurd (cc)
 
     -- ---- the answers
 
@@ -104,23 +118,21 @@ module _ (line : List ℕ) where
           rw here.0 (record { begins = end.begins; ends = rw end.place at here.1 })
 
       -- no triple follows
-      pub no_insert : IsWordEnd line (codes "insert") at → ((terms : Terms) → IsParted line at terms → ⊥)
-          → NoForm
-      no_insert end none = λ form h.
-          let parted = by_insert form (sym (form_head form h) ∙ insert_head end.begins) h in
-          none parted.0 (rw end.place parted.1)
+      pub no_insert : IsPartedWord line (codes "insert") at
+          → ((terms : Terms) → IsTriple line at terms → ⊥) → NoForm
+      no_insert word none = λ form h.
+          let triple = by_insert form (sym (form_head form h) ∙ insert_head word.ends.begins) h in
+          none triple.0 (rw word.ends.place triple.1)
 
-      pub no_remove : IsWordEnd line (codes "remove") at → ((terms : Terms) → IsParted line at terms → ⊥)
-          → NoForm
-      no_remove end none = λ form h.
-          let parted = by_remove form (sym (form_head form h) ∙ remove_head end.begins) h in
-          none parted.0 (rw end.place parted.1)
+      pub no_remove : IsPartedWord line (codes "remove") at
+          → ((terms : Terms) → IsTriple line at terms → ⊥) → NoForm
+      no_remove word none = λ form h.
+          let triple = by_remove form (sym (form_head form h) ∙ remove_head word.ends.begins) h in
+          none triple.0 (rw word.ends.place triple.1)
 
-  -- white space and a triple follow
-  pub an_edit : (word : List ℕ) (at : ℕ) → IsWordEnd line word at → (terms : Terms) → IsParted line at terms
-      → IsEdit line word terms
-  an_edit word at end terms here = record {
-    begins = end.begins;
-    parted = rw end.place at here.parted;
-    triple = rw end.place at here.triple;
-  }
+      -- no pair follows
+      pub no_slice : IsPartedWord line (codes "slice") at
+          → ((pair : PairTokens) → IsPair line at pair → ⊥) → NoForm
+      no_slice word none = λ form h.
+          let pair = by_slice form (sym (form_head form h) ∙ slice_head word.ends.begins) h in
+          none pair.0 (rw word.ends.place pair.1)

@@ -3,6 +3,8 @@ pub mod FormLemmas
 pub mod LineLemmas
 pub mod OneFormLemmas
 pub mod OneReadingLemmas
+pub mod PairLemmas
+pub mod PairReadLemmas
 pub mod SameNamesLemmas
 pub mod TermLemmas
 pub mod TripleLemmas

@@ -12,9 +12,10 @@ use Rattle.script_lines.specs.declared.fault.LineFault.{LineFault}
 use Rattle.script_lines.specs.declared.fault.LineFault.TheVariants.{Line}
 use Rattle.script_lines.specs.declared.form.Form.{Form}
 use Rattle.script_lines.specs.declared.form.Form.TheVariants as the_form
+use Rattle.script_lines.specs.declared.form.PairTokens.{PairTokens}
 use Rattle.script_lines.specs.declared.form.Terms.{Terms}
 use Rattle.script_lines.specs.Forms.{HasForm, word_end}
-use Rattle.script_lines.specs.Lines.{IsAsked, IsLineRead, IsTripleRead, NoForm, AForm}
+use Rattle.script_lines.specs.Lines.{IsAsked, IsLineRead, IsPairRead, IsTripleRead, NoForm, AForm}
 use Rattle.script_lines.specs.inner.Parts.{HasTerms}
 
 -- ---- what a form asks for
@@ -28,6 +29,11 @@ pub remove_terms : (line : List ℕ) (form : Form) (terms : Terms) → form ≡ 
     → HasForm line form → HasTerms line terms
 remove_terms line form terms is has =
     let edit = subst (λ (f : Form). HasForm line f) is has in (word_end (codes "remove") line, edit.triple)
+
+pub slice_asked : (line : List ℕ) (document : Document) (form : Form) (pair : PairTokens)
+    → form ≡ the_form.Slice pair → (reading : Result Command LineFault)
+    → IsPairRead line document pair reading → IsAsked line document form reading
+slice_asked line document form pair is reading read = rw is read
 
 module _ (line : List ℕ) (document : Document) (form : Form) (terms : Terms) where
   pub insert_asked : form ≡ the_form.Insert terms → (triple : TermTriple)

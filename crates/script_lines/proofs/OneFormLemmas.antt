@@ -5,7 +5,7 @@ use Rattle.ttl_tokens.specs.declared.token.Token.{Token}
 use Rattle.ttl_tokens.specs.Tokens.{IsTokenAt}
 use Rattle.ttl_tokens.proofs.OneTokenLemmas.{one_token}
 use Rattle.script_lines.specs.declared.form.Form.{Form}
-use Rattle.script_lines.specs.declared.form.Form.TheVariants.{Blank, Alone, Insert, Remove}
+use Rattle.script_lines.specs.declared.form.Form.TheVariants.{Blank, Alone, Insert, Remove, Slice}
 use Rattle.script_lines.specs.declared.form.Terms.{Terms}
 use Rattle.script_lines.specs.declared.word.Word.{Word}
 use Rattle.script_lines.specs.declared.word.Word.TheVariants.{Report, Count, Begin, Commit, Abandon}
@@ -13,6 +13,7 @@ use Rattle.script_lines.specs.declared.word.Word.TheVariants.{Undo, Redo}
 use Rattle.script_lines.specs.Forms.{EndsAt, HasForm, IsTriple, begins_with, word_end, word_text}
 use Rattle.script_lines.proofs.BlankLineLemmas.{is_letter, not_blank}
 use Rattle.script_lines.proofs.FormLemmas.{form_head, head}
+use Rattle.script_lines.proofs.PairLemmas.{one_pair}
 
 same_terms : (a b : Terms) → a.subject ≡ b.subject → a.predicate ≡ b.predicate → a.object ≡ b.object → a ≡ b
 same_terms a b s p o = rw (s, p, o) refl
@@ -50,11 +51,15 @@ module _ (line : List ℕ) (utf8 : IsUtf8 line) where
   remove_more : begins_with (codes "remove") line ≡ true → EndsAt line zero → ⊥
   remove_more = not_blank line utf8 (codes "remove") refl
 
+  slice_more : begins_with (codes "slice") line ≡ true → EndsAt line zero → ⊥
+  slice_more = not_blank line utf8 (codes "slice") refl
+
   only_blank : EndsAt line zero → (form : Form) → HasForm line form → form ≡ Blank
   only_blank end Blank h = refl
   only_blank end (Alone word) h = absurd (word_more word h.begins end)
-  only_blank end (Insert terms) h = absurd (insert_more h.begins end)
-  only_blank end (Remove terms) h = absurd (remove_more h.begins end)
+  only_blank end (Insert terms) h = absurd (insert_more h.word_is.begins end)
+  only_blank end (Remove terms) h = absurd (remove_more h.word_is.begins end)
+  only_blank end (Slice pair) h = absurd (slice_more h.word_is.begins end)
 
   -- ---- by the word
 
@@ -65,6 +70,8 @@ module _ (line : List ℕ) (utf8 : IsUtf8 line) where
       ap Insert (one_triple (word_end (codes "insert") line) a b h.triple k.triple)
   one_head (Remove a) (Remove b) e h k =
       ap Remove (one_triple (word_end (codes "remove") line) a b h.triple k.triple)
+  one_head (Slice a) (Slice b) e h k =
+      ap Slice (one_pair line utf8 (word_end (codes "slice") line) a b h.pair_is k.pair_is)
   one_head a b e h k = absurd (cc)
 
   some_word : (EndsAt line zero → ⊥) → (a b : Form) → HasForm line a → HasForm line b → a ≡ b
@@ -74,5 +81,6 @@ module _ (line : List ℕ) (utf8 : IsUtf8 line) where
   pub one_form : (a b : Form) → HasForm line a → HasForm line b → a ≡ b
   one_form Blank b h k = sym (only_blank h b k)
   one_form (Alone word) b h k = some_word (word_more word h.begins) (Alone word) b h k
-  one_form (Insert terms) b h k = some_word (insert_more h.begins) (Insert terms) b h k
-  one_form (Remove terms) b h k = some_word (remove_more h.begins) (Remove terms) b h k
+  one_form (Insert terms) b h k = some_word (insert_more h.word_is.begins) (Insert terms) b h k
+  one_form (Remove terms) b h k = some_word (remove_more h.word_is.begins) (Remove terms) b h k
+  one_form (Slice pair) b h k = some_word (slice_more h.word_is.begins) (Slice pair) b h k

@@ -17,18 +17,8 @@ use Rattle.script_lines.specs.Lines.{IsPredicateFound, IsTripleRead, BadSubject,
 use Rattle.script_lines.specs.Lines.{ATriple, IsAsked, IsLineRead, TooLong, NotUtf8, NoForm, AForm}
 use Rattle.script_lines.specs.Lines.{edits_by, term_fault}
 use Rattle.script_lines.proofs.OneFormLemmas.{one_form}
-
--- ---- the parts of two things that are found
-
-found_or_not : (term : Term) (end code at : ℕ) → A term end ≡ No code at → ⊥
-found_or_not term end code at e = cc
-
-same_fault : (code at c a : ℕ) → No code at ≡ No c a → term_fault code at ≡ term_fault c a
-same_fault code at c a e =
-    let codes : code ≡ c = cc in let places : at ≡ a = cc in rw (codes, places) refl
-
-same_term : (s t : Term) (end stop : ℕ) → A s end ≡ A t stop → s ≡ t
-same_term s t end stop e = cc
+use Rattle.script_lines.proofs.PairReadLemmas.{one_pair_read}
+use Rattle.script_lines.proofs.TermLemmas.{found_or_not, same_fault, same_term}
 
 module _ (line : List ℕ) (utf8 : IsUtf8 line) (document : Document) where
   one_predicate : (terms : Terms) (a b : Found) → IsPredicateFound line terms.predicate document a
@@ -117,6 +107,7 @@ module _ (line : List ℕ) (utf8 : IsUtf8 line) (document : Document) where
       h.2 ∙ ap (edits_by Insert) (one_triple_read terms h.0 k.0 h.1 k.1) ∙ sym k.2
   one_asked (the_form.Remove terms) a b h k =
       h.2 ∙ ap (edits_by Remove) (one_triple_read terms h.0 k.0 h.1 k.1) ∙ sym k.2
+  one_asked (the_form.Slice pair) a b h k = one_pair_read line utf8 document pair a b h k
 
 -- ---- the line
 

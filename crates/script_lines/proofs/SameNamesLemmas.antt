@@ -16,9 +16,11 @@ use Rattle.script_lines.specs.declared.command.Command.{Command}
 use Rattle.script_lines.specs.declared.fault.LineFault.{LineFault}
 use Rattle.script_lines.specs.declared.form.Form.{Form}
 use Rattle.script_lines.specs.declared.form.Form.TheVariants as form
+use Rattle.script_lines.specs.declared.form.PairTokens.{PairTokens}
 use Rattle.script_lines.specs.declared.form.Terms.{Terms}
 use Rattle.script_lines.specs.Lines.{IsAsked, IsLineRead, TooLong, NotUtf8, NoForm, AForm, IsPredicateFound}
 use Rattle.script_lines.specs.Lines.{IsTripleRead, BadSubject, BadPredicate, BadObject, ATriple}
+use Rattle.script_lines.specs.Lines.{IsShapeFound, IsPairRead, BadShape, BadNode, APair}
 use Rattle.script_lines.specs.SameNames.{HaveSameNames}
 
 module _ (a b : Document) (alike : HaveSameNames a b) where
@@ -73,12 +75,26 @@ module _ (a b : Document) (alike : HaveSameNames a b) where
         ATriple s p o s_end p_end o_end (term_found terms.subject _ sf)
         (predicate_found terms.predicate _ pf) (term_found terms.object _ of) is
 
+    shape_found : (token : Token) (answer : Found) → IsShapeFound line token a answer
+        → IsShapeFound line token b answer
+    shape_found token answer (inl label) = inl label
+    shape_found token answer (inr (other, is)) = inr (other, term_found token answer is)
+
+    pair_read : (pair : PairTokens) (command : Result Command LineFault) → IsPairRead line a pair command
+        → IsPairRead line b pair command
+    pair_read pair command (BadShape code at s is) = BadShape code at (shape_found pair.shape _ s) is
+    pair_read pair command (BadNode s s_end sf code at nf is) =
+        BadNode s s_end (shape_found pair.shape _ sf) code at (term_found pair.node _ nf) is
+    pair_read pair command (APair s n s_end n_end sf nf is) =
+        APair s n s_end n_end (shape_found pair.shape _ sf) (term_found pair.node _ nf) is
+
     asked : (f : Form) (reading : Result Command LineFault) → IsAsked line a f reading
         → IsAsked line b f reading
     asked form.Blank reading is = is
     asked (form.Alone word) reading is = is
     asked (form.Insert terms) reading (triple, read, is) = (triple, triple_read terms triple read, is)
     asked (form.Remove terms) reading (triple, read, is) = (triple, triple_read terms triple read, is)
+    asked (form.Slice pair) reading is = pair_read pair reading is
 
     pub line_read : (limits : Limits) (reading : Result Command LineFault) → IsLineRead limits a line reading
         → IsLineRead limits b line reading

@@ -17,8 +17,20 @@ use Rattle.script_lines.specs.declared.fault.LineFault.TheVariants.{Line, Memory
 use Rattle.script_lines.specs.declared.form.Terms.{Terms}
 use Rattle.script_lines.specs.Forms.{IsTriple, is_subject}
 use Rattle.script_lines.specs.Lines.{IsPredicateFound, IsTripleRead, BadSubject, BadPredicate, BadObject}
-use Rattle.script_lines.specs.Lines.{ATriple, line_code}
+use Rattle.script_lines.specs.Lines.{ATriple, line_code, term_fault}
 use Rattle.script_lines.specs.inner.Parts.{IsTermRead}
+
+-- ---- the parts of two things that are found
+
+pub found_or_not : (term : Term) (end code at : ℕ) → A term end ≡ No code at → ⊥
+found_or_not term end code at e = cc
+
+pub same_fault : (code at c a : ℕ) → No code at ≡ No c a → term_fault code at ≡ term_fault c a
+same_fault code at c a e =
+    let codes : code ≡ c = cc in let places : at ≡ a = cc in rw (codes, places) refl
+
+pub same_term : (s t : Term) (end stop : ℕ) → A s end ≡ A t stop → s ≡ t
+same_term s t end stop e = cc
 
 -- ---- one term
 

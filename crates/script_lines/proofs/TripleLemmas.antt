@@ -1,14 +1,12 @@
 -- The tokens of a line, one behind the other, up to its end.
-use Rattle.std.proofs.Common.{◌≡◌, ℕ, Bool, true, false, List, Option, Some, None, Result, Ok, Err}
+use Rattle.std.proofs.Common.{◌≡◌, ℕ, Bool, true, false, List, Result, Ok, Err}
 use Rattle.std.proofs.Common.{refl, sym, ◌∙◌, subst, true≢false, IfOk, IfErr, MatchOption, IsTrue, ◌↔◌}
-use Rattle.std.proofs.Common.{slice_index}
 use Rattle.std.specs.Result.{result_ok}
 use Rattle.std.specs.Str.{IsUtf8}
 use Rattle.ttl_tokens.specs.declared.token.NoToken.{NoToken}
 use Rattle.ttl_tokens.specs.declared.token.Token.{Token}
 use Rattle.ttl_tokens.specs.declared.token.TokenKind.{TokenKind}
 use Rattle.ttl_tokens.specs.declared.token.TokenKind.TheVariants.{Dot, End}
-use Rattle.ttl_tokens.specs.Chars.{is_white}
 use Rattle.ttl_tokens.specs.Tokens.{IsTokenAt, IsNoTokenAt}
 use Rattle.ttl_tokens.proofs.OneTokenLemmas.{one_token, token_or_none}
 use Rattle.ttl_read.specs.Grammar.{begins_verb, is_kind}
@@ -17,7 +15,7 @@ use Rattle.ttl_read.proofs.GoesToLemmas.{IsPlace, goes_within, one_end}
 use Rattle.ttl_read.proofs.KindLemmas.{kind_is}
 use Rattle.script_lines.specs.declared.form.Terms.{Terms}
 use Rattle.script_lines.specs.Forms.{Comes, EndsAt, IsTriple, is_subject}
-use Rattle.script_lines.specs.inner.Parts.{IsParted, IsStop}
+use Rattle.script_lines.specs.inner.Parts.{IsStop}
 
 module _ (line : List ℕ) (utf8 : IsUtf8 line) (at : ℕ) where
   -- ---- one token
@@ -71,14 +69,6 @@ module _ (line : List ℕ) (utf8 : IsUtf8 line) (at : ℕ) where
 
   pub stops_not : ((dot : Token) → Comes line at (is_kind Dot) dot → ⊥) → IsTrue false ↔ IsStop line at
   stops_not none = (λ holds. absurd (true≢false (sym holds)), λ stop. absurd (none stop.dot stop.dotted))
-
-  -- ---- white space and a triple
-
-  pub parted_answer : is_white (slice_index line at) ≡ true → (found : Option Terms)
-      → MatchOption found ((terms : Terms) → IsTriple line at terms → ⊥) (IsTriple line at)
-      → MatchOption found ((terms : Terms) → IsParted line at terms → ⊥) (IsParted line at)
-  parted_answer white None none = λ terms here. none terms here.triple
-  parted_answer white (Some terms) here = record { parted = white; triple = here }
 
   -- ---- a triple
 

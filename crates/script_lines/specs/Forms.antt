@@ -1,5 +1,6 @@
--- The forms of a line, by the tokens of Turtle: nothing but white space and comments; a word alone; or a word
--- and a triple. Before the word of a line stands white space alone, and it is written in small letters.
+-- The forms of a line, by the tokens of Turtle: nothing but white space and comments; a word alone; a word
+-- and a triple; or a word with a shape and a node. Before the word of a line stands white space alone, and it
+-- is written in small letters.
 use Rattle.std.specs.Prelude.{◌≡◌, ℕ, ◌+◌, Bool, true, not, ◌||◌, List, drop, length, nat_eq, codes}
 use Rattle.std.specs.Prelude.{slice_index}
 use Rattle.std.specs.List.{before_first, starts_with}
@@ -11,7 +12,8 @@ use Rattle.ttl_tokens.specs.Tokens.{IsTokenAt}
 use Rattle.ttl_read.specs.Grammar.{begins_verb, is_iri, is_kind}
 use Rattle.ttl_read.specs.ReadTerm.{GoesTo}
 use Rattle.script_lines.specs.declared.form.Form.{Form}
-use Rattle.script_lines.specs.declared.form.Form.TheVariants.{Blank, Alone, Insert, Remove}
+use Rattle.script_lines.specs.declared.form.Form.TheVariants.{Blank, Alone, Insert, Remove, Slice}
+use Rattle.script_lines.specs.declared.form.PairTokens.{PairTokens}
 use Rattle.script_lines.specs.declared.form.Terms.{Terms}
 use Rattle.script_lines.specs.declared.word.Word.{Word}
 use Rattle.script_lines.specs.declared.word.Word.TheVariants.{Report, Count, Begin, Commit, Abandon}
@@ -73,11 +75,30 @@ pub record IsTriple (line : List ℕ) (at : ℕ) (terms : Terms) : Type 0 where
   pub dotted : Comes line behind (is_kind Dot) dot
   pub ends : EndsAt line dot.end
 
--- a word, white space, and a triple
-pub record IsEdit (line word : List ℕ) (terms : Terms) : Type 0 where
+-- the line begins with a word, and white space stands behind it
+pub record BeginsWith (line word : List ℕ) : Type 0 where
   pub begins : begins_with word line ≡ true
   pub parted : is_white (slice_index line (word_end word line)) ≡ true
+
+-- a word, white space, and a triple
+pub record IsEdit (line word : List ℕ) (terms : Terms) : Type 0 where
+  pub word_is : BeginsWith line word
   pub triple : IsTriple line (word_end word line) terms
+
+-- ---- pairs
+
+-- a shape and a node, which begin with these tokens; and then nothing more
+pub record IsPair (line : List ℕ) (at : ℕ) (pair : PairTokens) : Type 0 where
+  pub shape : Comes line at is_subject pair.shape
+  pub node : IsTokenAt line pair.shape.end pair.node
+  pub behind : ℕ
+  pub node_goes : GoesTo line pair.node behind
+  pub ends : EndsAt line behind
+
+-- a word, white space, and a pair
+pub record IsSlice (line word : List ℕ) (pair : PairTokens) : Type 0 where
+  pub word_is : BeginsWith line word
+  pub pair_is : IsPair line (word_end word line) pair
 
 -- ---- lines
 
@@ -86,3 +107,4 @@ HasForm line Blank = EndsAt line 0
 HasForm line (Alone word) = IsWord line (word_text word)
 HasForm line (Insert terms) = IsEdit line (codes "insert") terms
 HasForm line (Remove terms) = IsEdit line (codes "remove") terms
+HasForm line (Slice pair) = IsSlice line (codes "slice") pair

@@ -17,16 +17,19 @@ use Rattle.shx_term.specs.declared.triple.TermTriple.{TermTriple}
 use Rattle.shx_term.specs.Edit.{IsValidEdit}
 use Rattle.shx_term.specs.Vocabulary.{rdf}
 use Rattle.ttl_tokens.specs.declared.token.Token.{Token}
-use Rattle.ttl_tokens.specs.declared.token.TokenKind.TheVariants.{WordA}
+use Rattle.ttl_tokens.specs.declared.token.TokenKind.TheVariants.{BlankLabel, WordA}
 use Rattle.ttl_meaning.specs.declared.document.Document.{Document}
-use Rattle.ttl_read.specs.ReadTerm.{Found, A, No, IsFound}
+use Rattle.ttl_meaning.specs.ShapesNodes.{MayBeOfShapes}
+use Rattle.ttl_read.specs.ReadTerm.{Found, A, No, IsFound, IsOneFound}
 use Rattle.script_lines.specs.declared.command.Command.{Command}
 use Rattle.script_lines.specs.declared.command.Command.TheVariants.{Edit as edits, Report, Count, Begin}
-use Rattle.script_lines.specs.declared.command.Command.TheVariants.{Commit, Abandon, Undo, Redo, Nothing}
+use Rattle.script_lines.specs.declared.command.Command.TheVariants.{Commit, Abandon, Undo, Redo}
+use Rattle.script_lines.specs.declared.command.Command.TheVariants.{Slice, Nothing}
 use Rattle.script_lines.specs.declared.fault.LineFault.{LineFault}
 use Rattle.script_lines.specs.declared.fault.LineFault.TheVariants.{Line}
 use Rattle.script_lines.specs.declared.form.Form.{Form}
 use Rattle.script_lines.specs.declared.form.Form.TheVariants as form
+use Rattle.script_lines.specs.declared.form.PairTokens.{PairTokens}
 use Rattle.script_lines.specs.declared.form.Terms.{Terms}
 use Rattle.script_lines.specs.declared.word.Word.{Word}
 use Rattle.script_lines.specs.declared.word.Word.TheVariants as word
@@ -70,6 +73,27 @@ pub data IsTripleRead (line : List ℕ) (document : Document) (terms : Terms)
       → IsFound line terms.object document (A o o_end)
       → triple ≡ Ok (record { s = s; p = p; o = o }) → IsTripleRead line document terms triple
 
+-- ---- pairs
+
+-- a shape is called by its IRI, or by the name of a blank node that a shapes text may have
+abbrev pub IsShapeFound : List ℕ → Token → Document → Found → Type 0
+IsShapeFound line token document answer =
+    ((token.kind ≡ BlankLabel) × IsOneFound MayBeOfShapes line token answer)
+    ⊎ ((token.kind ≢ BlankLabel) × IsFound line token document answer)
+
+-- the pair of two terms, or the first fault among them
+pub data IsPairRead (line : List ℕ) (document : Document) (pair : PairTokens)
+    (command : Result Command LineFault) : Type 0 where
+  BadShape : (code at : ℕ) → IsShapeFound line pair.shape document (No code at)
+      → command ≡ Err (term_fault code at) → IsPairRead line document pair command
+  BadNode : (shape : Term) (shape_end : ℕ) → IsShapeFound line pair.shape document (A shape shape_end)
+      → (code at : ℕ) → IsFound line pair.node document (No code at)
+      → command ≡ Err (term_fault code at) → IsPairRead line document pair command
+  APair : (shape node : Term) (shape_end node_end : ℕ)
+      → IsShapeFound line pair.shape document (A shape shape_end)
+      → IsFound line pair.node document (A node node_end)
+      → command ≡ Ok (Slice shape node) → IsPairRead line document pair command
+
 -- ---- lines
 
 -- an edit by a triple, or the triple's fault
@@ -97,6 +121,7 @@ IsAsked line document (form.Insert terms) reading =
 IsAsked line document (form.Remove terms) reading =
     (triple : Result TermTriple LineFault) × IsTripleRead line document terms triple
     × (reading ≡ edits_by Remove triple)
+IsAsked line document (form.Slice pair) reading = IsPairRead line document pair reading
 
 -- a line is read so: the first of these that holds
 pub data IsLineRead (limits : Limits) (document : Document) (line : List ℕ)
@@ -120,4 +145,5 @@ IsValidCommand Commit = Unit {0}
 IsValidCommand Abandon = Unit {0}
 IsValidCommand Undo = Unit {0}
 IsValidCommand Redo = Unit {0}
+IsValidCommand (Slice shape node) = Unit {0}
 IsValidCommand Nothing = Unit {0}

@@ -1,7 +1,7 @@
 ghost use Rattle.std.specs.Prelude.{◌≡◌};
 ghost use Rattle.script_lines.specs.Commands.{edit_in};
 
-use shx_term::Edit;
+use shx_term::{Edit, Term};
 
 /// What a line of a script asks for.
 #[derive(Debug)]
@@ -22,6 +22,8 @@ pub enum Command {
     Undo,
     /// The change that was taken back last is made again.
     Redo,
+    /// The triples on which the results of a shape at a node rest.
+    Slice { shape: Term, node: Term },
     /// Nothing: the line is blank.
     Nothing,
 }
@@ -36,6 +38,7 @@ impl Command {
             Command::Report | Command::Count | Command::Nothing => None,
             Command::Begin | Command::Commit | Command::Abandon => None,
             Command::Undo | Command::Redo => None,
+            Command::Slice { .. } => None,
         }
     }
 }
@@ -48,6 +51,10 @@ impl Drop for Command {
             Command::Report | Command::Count | Command::Nothing => {}
             Command::Begin | Command::Commit | Command::Abandon => {}
             Command::Undo | Command::Redo => {}
+            Command::Slice {
+                shape: _shape,
+                node: _node,
+            } => {}
         }
     }
 }

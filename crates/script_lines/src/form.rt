@@ -5,9 +5,11 @@ ghost use Rattle.ttl_tokens.specs.declared.token.Token.{Token as token_type};
 ghost use Rattle.ttl_tokens.specs.Tokens.{IsTokenAt};
 ghost use Rattle.ttl_read.specs.Grammar.{begins_verb};
 ghost use Rattle.script_lines.specs.declared.form.Form.{Form as form_type};
+ghost use Rattle.script_lines.specs.declared.form.PairTokens.{PairTokens as pair_type};
 ghost use Rattle.script_lines.specs.declared.form.Terms.{Terms as terms_type};
-ghost use Rattle.script_lines.specs.Forms.{Comes, EndsAt, HasForm, IsTriple, is_subject};
-ghost use Rattle.script_lines.specs.inner.Parts.{IsParted, IsStop};
+ghost use Rattle.script_lines.specs.Forms.{BeginsWith, Comes, EndsAt, HasForm, IsPair, IsTriple};
+ghost use Rattle.script_lines.specs.Forms.{is_subject, word_start};
+ghost use Rattle.script_lines.specs.inner.Parts.{IsPartedWord, IsStop};
 
 use crate::word::{Word, is_white, word_alone, word_end, word_start};
 use ttl_read::{begins_verb, is_iri, term_end};
@@ -20,6 +22,7 @@ pub(crate) enum Form {
     Alone(Word),
     Insert(Terms),
     Remove(Terms),
+    Slice(PairTokens),
 }
 
 /// The tokens with which the terms of a triple begin.
@@ -28,6 +31,13 @@ pub(crate) struct Terms {
     pub subject: Token,
     pub predicate: Token,
     pub object: Token,
+}
+
+/// The tokens with which the terms of a pair begin.
+#[derive(Clone, Copy, Debug)]
+pub(crate) struct PairTokens {
+    pub shape: Token,
+    pub node: Token,
 }
 
 /// The form of a line, where it has one.
@@ -41,11 +51,14 @@ pub(crate) fn form_of(line: &str) -> Option<Form>
     if let Some((word, at)) = word_alone(line, start) {
         return alone(line, at, word);
     }
-    if let Some(at) = word_end(line, start, "insert") {
-        return Some(Form::Insert(edit_at(line, at)?));
+    if let Some(at) = parted_word(line, start, "insert") {
+        return Some(Form::Insert(triple_at(line, at)?));
     }
-    if let Some(at) = word_end(line, start, "remove") {
-        return Some(Form::Remove(edit_at(line, at)?));
+    if let Some(at) = parted_word(line, start, "remove") {
+        return Some(Form::Remove(triple_at(line, at)?));
+    }
+    if let Some(at) = parted_word(line, start, "slice") {
+        return Some(Form::Slice(pair_at(line, at)?));
     }
     None
 }
@@ -76,16 +89,27 @@ fn ends_at(line: &str, at: usize) -> bool
     }
 }
 
-// The terms of a triple behind white space, where there is one and then nothing more.
-fn edit_at(line: &str, at: usize) -> Option<Terms>
+// The byte behind a word, where the line begins with it and white space stands behind it.
+fn parted_word(line: &str, start: usize, word: &str) -> Option<usize>
+    requires { start ≡ word_start line.now }
+    ensures { MatchOption result (BeginsWith line.now word.now → ⊥) (IsPartedWord line.now word.now) }
+{
+    let at = word_end(line, start, word)?;
+    let byte = line.as_bytes().get(at)?;
+    if is_white(*byte) { Some(at) } else { None }
+}
+
+// The terms of a pair, where there is one and then nothing more.
+fn pair_at(line: &str, at: usize) -> Option<PairTokens>
     requires within { at ≤ length line.now }
     requires boundary { IsCharBoundary line.now at }
-    ensures { MatchOption result ((terms : terms_type) → IsParted line.now at terms → ⊥)
-        (IsParted line.now at) }
+    ensures { MatchOption result ((pair : pair_type) → IsPair line.now at pair → ⊥)
+        (IsPair line.now at) }
 {
-    let byte = line.as_bytes().get(at)?;
-    if is_white(*byte) {
-        triple_at(line, at)
+    let shape = subject_at(line, at)?;
+    let node = token_at(line, shape.end)?;
+    if ends_at(line, term_end(line, &node)?) {
+        Some(PairTokens { shape, node })
     } else {
         None
     }

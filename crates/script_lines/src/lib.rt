@@ -10,8 +10,9 @@
 //! | `term.rt` | the terms of a line |
 //! | `laws.rt` | a line has one reading, by the base, prefixes and blank nodes of the data text |
 //!
-//! It stands on `ttl_tokens` for the tokens of a line and on `ttl_read` for its terms. Start with `line.rt`;
-//! `specs/Forms.antt` says which forms a line may have, and `specs/Lines.antt` what it then asks for.
+//! It stands on `ttl_tokens` for the tokens of a line, on `ttl_read` for its terms and on `ttl_meaning` for
+//! the names of shapes. Start with `line.rt`; `specs/Forms.antt` says which forms a line may have, and
+//! `specs/Lines.antt` what it then asks for.
 #![tactic(auto)]
 
 mod command;

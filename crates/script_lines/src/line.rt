@@ -2,11 +2,12 @@
 ghost use Rattle.std.specs.Prelude.{◌≢◌, Ok, Err, IfOk, IfErr};
 ghost use Rattle.shx_term.specs.ValidTriples.{IsValidTermTriple};
 ghost use Rattle.script_lines.specs.Forms.{HasForm};
-ghost use Rattle.script_lines.specs.inner.Parts.{HasTerms};
-ghost use Rattle.script_lines.specs.Lines.{IsAsked, IsLineRead, IsTripleRead, IsValidCommand};
+ghost use Rattle.script_lines.specs.inner.Parts.{HasPair, HasTerms};
+ghost use Rattle.script_lines.specs.Lines.{IsAsked, IsLineRead, IsPairRead, IsTripleRead};
+ghost use Rattle.script_lines.specs.Lines.{IsValidCommand};
 
-use crate::form::{Form, Terms, form_of};
-use crate::term::{predicate_at, term_at};
+use crate::form::{Form, PairTokens, Terms, form_of};
+use crate::term::{predicate_at, shape_at, term_at};
 use crate::{Command, LineFault};
 use shx_term::fault_codes::{LINE_NOT_UTF8, LINE_SYNTAX, LINE_TOO_LONG};
 use shx_term::{Edit, Limits, TermTriple};
@@ -69,6 +70,7 @@ fn command_of(
             let triple = read_triple(alloc, line, terms, document)?;
             Ok(Command::Edit(Edit::Remove(triple)))
         }
+        Form::Slice(pair) => read_pair(alloc, line, pair, document),
     }
 }
 
@@ -89,4 +91,22 @@ fn read_triple(
     let p = predicate_at(alloc, line, &terms.predicate, document)?;
     let o = term_at(alloc, line, &terms.object, document)?;
     Ok(TermTriple { s, p, o })
+}
+
+// The slice of the pair whose terms begin at these tokens.
+fn read_pair(
+    alloc: Global,
+    line: &str,
+    pair: &PairTokens,
+    document: &Document,
+) -> Result<Command, LineFault>
+    requires { HasPair line.now pair.now }
+    ensures command { IfOk result (λ command. IsPairRead line.now document.now pair.now (Ok command)) }
+    ensures valid { IfOk result IsValidCommand }
+    ensures refused { IfErr result (λ fault. fault ≢ LineFault.Memory
+        → IsPairRead line.now document.now pair.now (Err fault)) }
+{
+    let shape = shape_at(alloc, line, &pair.shape, document)?;
+    let node = term_at(alloc, line, &pair.node, document)?;
+    Ok(Command::Slice { shape, node })
 }

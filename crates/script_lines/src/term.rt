@@ -3,15 +3,16 @@ ghost use Rattle.std.specs.Prelude.{◌≡◌};
 ghost use Rattle.ttl_tokens.specs.Unescaped.{IsGiven};
 ghost use Rattle.ttl_read.specs.ReadTerm.{IsFound};
 ghost use Rattle.script_lines.specs.inner.Parts.{IsTermRead};
-ghost use Rattle.script_lines.specs.Lines.{IsPredicateFound, line_code};
+ghost use Rattle.script_lines.specs.Lines.{IsPredicateFound, IsShapeFound, line_code};
 
 use crate::LineFault;
 use shx_term::fault_codes::{
-    BAD_IRI, FLOAT_LITERAL, LINE_FLOAT, LINE_IRI, LINE_PREFIX, LINE_WIDE, UNKNOWN_PREFIX,
-    WIDE_VALUE,
+    BAD_IRI, FLOAT_LITERAL, LINE_FLOAT, LINE_IRI, LINE_PREFIX, LINE_WIDE, UNKNOWN_BLANK,
+    UNKNOWN_PREFIX, WIDE_VALUE,
 };
 use shx_term::{IriText, Term};
 use std::alloc::Global;
+use ttl_meaning::{NoNode, shapes_node};
 use ttl_read::{Document, Reading, TtlFault, read_term};
 use ttl_tokens::{Token, TokenKind};
 
@@ -31,6 +32,26 @@ pub(crate) fn predicate_at(
         return Ok(Term::Iri(IriText::new(String::from_str(alloc, RDF_TYPE)?)));
     }
     term_at(alloc, line, token, document)
+}
+
+/// The shape that begins at a token: an IRI, or a blank node that a shapes text may have.
+pub(crate) fn shape_at(
+    alloc: Global,
+    line: &str,
+    token: &Token,
+    document: &Document,
+) -> Result<Term, LineFault>
+    requires { IsGiven line.now token.now }
+    ensures { IsTermRead (IsShapeFound line.now token.now document.now) result }
+{
+    if token.kind != TokenKind::BlankLabel {
+        return term_at(alloc, line, token, document);
+    }
+    match shapes_node(alloc, &line[token.start..token.end]) {
+        Ok(shape) => Ok(shape),
+        Err(NoNode::Unknown) => Err(LineFault::of_term(UNKNOWN_BLANK, token.start as u64)),
+        Err(NoNode::Memory) => Err(LineFault::Memory),
+    }
 }
 
 /// The term that begins at a token.

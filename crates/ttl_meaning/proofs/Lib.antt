@@ -5,5 +5,6 @@ pub mod KeepsLemmas
 pub mod NodeLemmas
 pub mod PlacedLemmas
 pub mod SearchLemmas
+pub mod ShapesNodeLemmas
 pub mod StatedLemmas
 pub mod TokenTextLemmas

@@ -31,10 +31,12 @@ HasName document (Anonymous number) = (1 ≤ number) × (number ≤ document.ano
 abbrev pub HasNode : Document → BlankName → Type 0
 HasNode document node = (node.scope ≡ Data) × HasName document node.name
 
--- the node that is spelled so, or that there is none
+-- the one of these nodes that is spelled so, or that there is none
+abbrev pub IsCalled : (BlankName → Type 0) → List ℕ → Result Term NoNode → Type 0
+IsCalled Is name (Ok term) =
+    (node : BlankName) × Is node × (spelling_of (Blank node) ≡ name) × (term ≡ Blank node)
+IsCalled Is name (Err Unknown) = (node : BlankName) → Is node → spelling_of (Blank node) ≡ name → ⊥
+IsCalled Is name (Err Memory) = Unit
+
 abbrev pub IsNodeCalled : Document → List ℕ → Result Term NoNode → Type 0
-IsNodeCalled document name (Ok term) =
-    (node : BlankName) × HasNode document node × (spelling_of (Blank node) ≡ name) × (term ≡ Blank node)
-IsNodeCalled document name (Err Unknown) =
-    (node : BlankName) → HasNode document node → spelling_of (Blank node) ≡ name → ⊥
-IsNodeCalled document name (Err Memory) = Unit
+IsNodeCalled document = IsCalled (HasNode document)

@@ -10,8 +10,8 @@ ghost use Rattle.ttl_meaning.specs.Terms.{iri_of as iri_meant, namespace_of};
 use crate::document::Document;
 use crate::fault::{NoNode, NoTerm};
 use crate::iris::{named, over_base};
+use crate::node_number::node_number;
 use crate::terms::{anonymous, labelled, prefix_text, token_text};
-use itoa::Buffer;
 use shx_term::{IriText, Scope, Term};
 use std::alloc::Global;
 use ttl_tokens::{Token, TokenKind};
@@ -79,16 +79,11 @@ impl Document {
             ((n : ℕ) → n ≤ self.now.anonymous → 1 ≤ n → decimal n ≡ spelled.now → ⊥)
             (λ n. (1 ≤ n) × (n ≤ self.now.anonymous) × (decimal n ≡ spelled.now)) }
     {
-        let Ok(number) = spelled.parse::<u32>() else {
-            return None;
-        };
-        if number == 0 || self.anonymous < number {
-            return None;
+        let number = node_number(spelled)?;
+        if number <= self.anonymous {
+            Some(number)
+        } else {
+            None
         }
-        // A number with zeros or a sign in front of it is spelled otherwise.
-        if Buffer::new().format(number) != spelled {
-            return None;
-        }
-        Some(number)
     }
 }

@@ -14,6 +14,7 @@
 //! | `base.rt` | `Base`: the IRI against which references are resolved |
 //! | `document.rt`, `tables.rt` | `Document`: what a text states |
 //! | `document_terms.rt`, `literals.rt` | what tokens stand for behind a document |
+//! | `shapes_nodes.rt`, `node_number.rt` | the blank nodes that a shapes text may have |
 //! | `context.rt` | `Context`: what the next term belongs to |
 //! | `placed.rt` | `Placed`: a term by itself, or by its number |
 //! | `fault.rt` | why a term has no place here, or there is none |
@@ -31,9 +32,11 @@ mod fault;
 mod iris;
 mod items;
 mod literals;
+mod node_number;
 mod nodes;
 mod placed;
 mod reader_state;
+mod shapes_nodes;
 mod stated;
 mod strings;
 mod tables;
@@ -47,4 +50,5 @@ pub use iris::IriRole;
 pub use literals::{bare_literal, plain_string, tagged_string, typed_string};
 pub use placed::Placed;
 pub use reader_state::ReaderState;
+pub use shapes_nodes::shapes_node;
 pub use stated::{Excess, Stated};

@@ -5,6 +5,7 @@ use Rattle.std.specs.Bool.{MatchBool}
 use Rattle.std.specs.Str.{IsUtf8}
 use Rattle.shx_term.specs.declared.term.BlankName.{BlankName}
 use Rattle.shx_term.specs.declared.term.Term.TheVariants.{Blank}
+use Rattle.shx_term.specs.Spelling.{spelling_of}
 use Rattle.ttl_tokens.specs.declared.token.Token.{Token}
 use Rattle.ttl_tokens.specs.declared.token.TokenKind.{TokenKind}
 use Rattle.ttl_tokens.specs.declared.token.TokenKind.TheVariants.{IriRef, PnameLn, PnameNs, BlankLabel}
@@ -13,18 +14,18 @@ use Rattle.ttl_tokens.specs.declared.token.TokenKind.TheVariants.{WordFalse, Str
 use Rattle.ttl_tokens.specs.declared.token.TokenKind.TheVariants.{StringLongQuote, StringLongSingleQuote}
 use Rattle.ttl_tokens.specs.Unescaped.{token_text}
 use Rattle.ttl_meaning.specs.declared.document.Document.{Document}
-use Rattle.ttl_meaning.specs.InForce.{in_force}
+use Rattle.ttl_meaning.specs.InForce.{HasNode, in_force}
 use Rattle.ttl_meaning.specs.Terms.{said, iri_of, judged, typed, tagged, datatype_of}
 use Rattle.ttl_meaning.proofs.NodeLemmas.{one_node}
 use Rattle.ttl_read.specs.Grammar.{is_iri, is_bare_literal, is_string, is_kind}
 use Rattle.ttl_read.specs.ReadTerm.{Found, A, No, found, found_iri, found_typed}
 use Rattle.ttl_read.specs.ReadTerm.{IsFound, AnIri, ANode, ALiteral, AString, Other, IsNodeFound}
-use Rattle.ttl_read.specs.ReadTerm.{IsStringFound}
+use Rattle.ttl_read.specs.ReadTerm.{IsOneFound, IsStringFound}
 use Rattle.ttl_read.proofs.FoundLemmas.{one_tag, one_datatype, tag_or_datatype}
 use Rattle.ttl_read.proofs.KindLemmas.{not_of_kind}
 
 -- one answer alone
-abbrev IsOnce : (Found → Type 0) → Type 0
+abbrev pub IsOnce : (Found → Type 0) → Type 0
 IsOnce P = (a b : Found) → P a → P b → a ≡ b
 
 once_equal : (answer : Found) → IsOnce (λ a. a ≡ answer)
@@ -34,6 +35,24 @@ once_match : (test : Bool) (P Q : Found → Type 0) → IsOnce P → IsOnce Q
     → IsOnce (λ a. MatchBool test (P a) (Q a))
 once_match true P Q p q = p
 once_match false P Q p q = q
+
+-- ---- a blank node
+
+-- nodes that are spelled alike are one
+abbrev pub AreToldApart : (BlankName → Type 0) → Type 0
+AreToldApart Is =
+    (node other : BlankName) → Is node → Is other → spelling_of (Blank node) ≡ spelling_of (Blank other)
+    → node ≡ other
+
+-- ... so one of them is found
+pub one_of_them : (Is : BlankName → Type 0) → AreToldApart Is → (text : List ℕ) (token : Token)
+    → IsOnce (IsOneFound Is text token)
+one_of_them Is one text token a b (inl n) (inl m) =
+    let same : n.0 ≡ m.0 = one n.0 m.0 n.1 m.1 (n.2 ∙ sym m.2) in
+    n.3 ∙ ap (λ (node : BlankName). A (Blank node) token.end) same ∙ sym m.3
+one_of_them Is one text token a b (inl n) (inr none) = absurd (none.0 n.0 n.1 n.2)
+one_of_them Is one text token a b (inr none) (inl m) = absurd (none.0 m.0 m.1 m.2)
+one_of_them Is one text token a b (inr none) (inr also) = none.1 ∙ sym also.1
 
 -- ---- by the kind of a token, in turn
 
@@ -72,16 +91,6 @@ module _ (P Q R S T : Type 0) where
   by_other k iri label bare string t = rw (iri, not_of_kind BlankLabel k label, bare, string) t
 
 module _ (text : List ℕ) (token : Token) (document : Document) (utf8 : IsUtf8 text) where
-  -- ---- a blank node
-
-  node_once : IsOnce (IsNodeFound text token document)
-  node_once a b (inl n) (inl m) =
-      let same : n.0 ≡ m.0 = one_node document n.0 m.0 n.1 m.1 (n.2 ∙ sym m.2) in
-      n.3 ∙ ap (λ (node : BlankName). A (Blank node) token.end) same ∙ sym m.3
-  node_once a b (inl n) (inr none) = absurd (none.0 n.0 n.1 n.2)
-  node_once a b (inr none) (inl m) = absurd (none.0 m.0 m.1 m.2)
-  node_once a b (inr none) (inr also) = none.1 ∙ sym also.1
-
   -- ---- a string
 
   abbrev with_tag : Token → Found
@@ -125,7 +134,8 @@ module _ (text : List ℕ) (token : Token) (document : Document) (utf8 : IsUtf8 
   by_kind_once : IsOnce IsByKind
   by_kind_once =
       once_match (is_iri token.kind) (λ a. a ≡ the_iri) _ (once_equal the_iri)
-      (once_match (is_kind BlankLabel token.kind) (IsNodeFound text token document) _ node_once
+      (once_match (is_kind BlankLabel token.kind) (IsNodeFound text token document) _
+      (one_of_them (HasNode document) (one_node document) text token)
       (once_match (is_bare_literal token.kind) (λ a. a ≡ the_literal) _ (once_equal the_literal)
       (once_match (is_string token.kind) (IsStringFound text token document) (λ a. a ≡ No 2 token.start)
       string_once (once_equal (No 2 token.start)))))

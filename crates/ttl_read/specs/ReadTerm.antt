@@ -34,13 +34,16 @@ abbrev pub found_iri : Token → Result (List ℕ) TermFaultKind → Found
 found_iri token (Ok iri) = A (Iri iri) token.end
 found_iri token (Err kind) = No (code_of_term kind) token.start
 
--- a blank node is called as it is spelled
-abbrev pub IsNodeFound : List ℕ → Token → Document → Found → Type 0
-IsNodeFound text token document answer =
-    ((node : BlankName) × HasNode document node × (spelling_of (Blank node) ≡ token_text text token)
+-- one of these blank nodes, which is called as it is spelled
+abbrev pub IsOneFound : (BlankName → Type 0) → List ℕ → Token → Found → Type 0
+IsOneFound Is text token answer =
+    ((node : BlankName) × Is node × (spelling_of (Blank node) ≡ token_text text token)
     × (answer ≡ A (Blank node) token.end))
-    ⊎ (((node : BlankName) → HasNode document node → spelling_of (Blank node) ≡ token_text text token → ⊥)
+    ⊎ (((node : BlankName) → Is node → spelling_of (Blank node) ≡ token_text text token → ⊥)
     × (answer ≡ No UNKNOWN_BLANK token.start))
+
+abbrev pub IsNodeFound : List ℕ → Token → Document → Found → Type 0
+IsNodeFound text token document answer = IsOneFound (HasNode document) text token answer
 
 -- a string that ends here, with this datatype
 abbrev pub found_typed : List ℕ → Token → Token → Result (List ℕ) TermFaultKind → Found

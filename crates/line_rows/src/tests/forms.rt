@@ -1,6 +1,7 @@
 mod accepted;
 mod edits;
 mod refused;
+mod slices;
 
 use super::seen::is_read_as_said;
 use row_tools::all_met;
@@ -24,4 +25,14 @@ fn no_word(rt: HostRuntime) -> Result<(), Fail> {
 #[test]
 fn no_triple(rt: HostRuntime) -> Result<(), Fail> {
     all_met(rt.alloc(), edits::ROWS, is_read_as_said)
+}
+
+#[test]
+fn pairs(rt: HostRuntime) -> Result<(), Fail> {
+    all_met(rt.alloc(), slices::PAIRS, is_read_as_said)
+}
+
+#[test]
+fn no_pair(rt: HostRuntime) -> Result<(), Fail> {
+    all_met(rt.alloc(), slices::ROWS, is_read_as_said)
 }

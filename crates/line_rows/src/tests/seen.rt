@@ -4,7 +4,7 @@ use iri_resolve::is_absolute;
 use row_tools::{RowFault, cut, vocabulary_pool};
 use script_lines::{Command, LineFault, read_line};
 use shx_term::vocabulary::VOCABULARY_LEN;
-use shx_term::{Edit, IriText, Limits, Memory, Scope, TermTriple, spell};
+use shx_term::{Edit, IriText, Limits, Memory, Scope, Term, TermTriple, spell};
 use std::alloc::{AllocError, Global};
 use ttl_read::{Document, TtlFault, read_document};
 
@@ -51,6 +51,7 @@ fn shown(
     match &read_line(alloc, line, document, limits) {
         Ok(Command::Edit(Edit::Insert(triple))) => shown_triple(alloc, "insert", triple),
         Ok(Command::Edit(Edit::Remove(triple))) => shown_triple(alloc, "remove", triple),
+        Ok(Command::Slice { shape, node }) => shown_pair(alloc, shape, node),
         Ok(command) => String::from_str(alloc, word_of(command)),
         Err(LineFault::Line { code, at: None }) => format!(in alloc; "{code}"),
         Err(LineFault::Line { code, at: Some(at) }) => format!(in alloc; "{code} at {at}"),
@@ -69,6 +70,7 @@ fn word_of(command: &Command) -> &'static str {
         Command::Abandon => "abandon",
         Command::Undo => "undo",
         Command::Redo => "redo",
+        Command::Slice { .. } => "slice",
         Command::Nothing => "nothing",
     }
 }
@@ -82,7 +84,20 @@ fn shown_triple(alloc: Global, word: &str, triple: &TermTriple) -> Result<String
     spell(&triple.p, &mut out)?;
     out.push(b' ')?;
     spell(&triple.o, &mut out)?;
-    match String::from_utf8(out) {
+    told(alloc, out)
+}
+
+fn shown_pair(alloc: Global, shape: &Term, node: &Term) -> Result<String, Memory> {
+    let mut out = Vec::new(alloc);
+    out.extend_from_slice(b"slice ")?;
+    spell(shape, &mut out)?;
+    out.push(b' ')?;
+    spell(node, &mut out)?;
+    told(alloc, out)
+}
+
+fn told(alloc: Global, text: Vec<u8>) -> Result<String, Memory> {
+    match String::from_utf8(text) {
         Ok(text) => Ok(text),
         Err(_) => String::from_str(alloc, "no text"),
     }

@@ -3,6 +3,7 @@ mod blanks;
 mod iris;
 mod literals;
 mod order;
+mod pairs;
 
 use super::seen::{is_read_as_said, is_read_behind};
 use row_tools::{RowFault, all_met, cut};
@@ -37,6 +38,11 @@ fn unknown_blank_nodes(rt: HostRuntime) -> Result<(), Fail> {
 #[test]
 fn one_fault_of_several(rt: HostRuntime) -> Result<(), Fail> {
     all_met(rt.alloc(), order::ROWS, is_read_as_said)
+}
+
+#[test]
+fn pairs_at_fault(rt: HostRuntime) -> Result<(), Fail> {
+    all_met(rt.alloc(), pairs::ROWS, is_read_as_said)
 }
 
 // Whether the row's line is read as the row says, behind the row's data text.

@@ -9,9 +9,11 @@ use Rattle.ttl_read.specs.Grammar.{is_kind}
 use Rattle.ttl_read.specs.ReadTerm.{Found, A, No}
 use Rattle.script_lines.specs.declared.fault.LineFault.{LineFault}
 use Rattle.script_lines.specs.declared.fault.LineFault.TheVariants.{Memory}
+use Rattle.script_lines.specs.declared.form.PairTokens.{PairTokens}
 use Rattle.script_lines.specs.declared.form.Terms.{Terms}
 use Rattle.script_lines.specs.declared.word.Word.{Word}
-use Rattle.script_lines.specs.Forms.{Comes, EndsAt, IsTriple, begins_with, word_end, word_text}
+use Rattle.script_lines.specs.Forms.{Comes, EndsAt, IsPair, IsTriple, begins_with}
+use Rattle.script_lines.specs.Forms.{word_end, word_text}
 use Rattle.script_lines.specs.Lines.{term_fault}
 
 -- the line begins with the word, which ends here
@@ -30,14 +32,18 @@ pub record IsStop (line : List ℕ) (at : ℕ) : Type 0 where
   pub dotted : Comes line at (is_kind Dot) dot
   pub ends : EndsAt line dot.end
 
--- white space and a triple
-pub record IsParted (line : List ℕ) (at : ℕ) (terms : Terms) : Type 0 where
+-- the line begins with the word, which ends here, with white space behind it
+pub record IsPartedWord (line word : List ℕ) (at : ℕ) : Type 0 where
+  pub ends : IsWordEnd line word at
   pub parted : is_white (slice_index line at) ≡ true
-  pub triple : IsTriple line at terms
 
 -- a triple begins with these tokens
 abbrev pub HasTerms : List ℕ → Terms → Type 0
 HasTerms line terms = (at : ℕ) × IsTriple line at terms
+
+-- a pair begins with these tokens
+abbrev pub HasPair : List ℕ → PairTokens → Type 0
+HasPair line pair = (at : ℕ) × IsPair line at pair
 
 -- a fault that is no want of memory is the one of a term of which this is found
 abbrev pub IsTermFault : (Found → Type 0) → LineFault → Type 0

@@ -1,6 +1,7 @@
-use Rattle.std.proofs.lemmas.Result.{err_from_is_err_and}
+use Rattle.std.proofs.Common.{Err}
+use Rattle.std.proofs.lemmas.Result.{IfErr-weaker, err_from_is_err_and}
 use Rattle.script_lines.proofs.LineLemmas.{insert_terms, remove_terms, insert_asked, remove_asked}
-use Rattle.script_lines.proofs.LineLemmas.{insert_refused, remove_refused}
+use Rattle.script_lines.proofs.LineLemmas.{insert_refused, remove_refused, slice_asked}
 use Rattle.script_lines.proofs.line.command_of.Goals as goal
 
 pub read_triple-requires : goal.read_triple-requires
@@ -41,3 +42,10 @@ pub returns-in_ok-triple-in-Remove-clause-command :
 returns-in_ok-triple-in-Remove-clause-command c =
     remove_asked c.args.line.now c.args.document.now c.args.form.now c.in-Remove.terms c.in-Remove.is
     c.in_ok-triple-in-Remove.triple c.in_ok-triple-in-Remove.ensures.triple
+
+pub returns-in-Slice-clause-refused : goal.returns-in-Slice-clause-refused
+returns-in-Slice-clause-refused c =
+    IfErr-weaker c.read_pair.result _ _
+    (λ fault read other. slice_asked c.args.line.now c.args.document.now c.args.form.now c.in-Slice.pair
+    c.in-Slice.is (Err fault) (read other))
+    c.read_pair.ensures.refused

@@ -1,34 +1,11 @@
-use Rattle.std.proofs.Common.{◌≡◌, true≢false, not, sym, ap, ◌∙◌, arith}
-use Rattle.std.specs.Prelude.{decimal}
-use Rattle.std.proofs.lemmas.Slice.Eq.{bytes_eq-Decides}
-use Rattle.ttl_meaning.proofs.NodeLemmas.{parsed, parsed_same}
+use Rattle.std.proofs.Common.{◌≡◌, sym, ◌∙◌, arith}
+use Rattle.std.proofs.lemmas.Fmt.{decimal_injective}
 use Rattle.ttl_meaning.proofs.document.Document.number.Goals as goal
-use Rattle.ttl_meaning.proofs.document.Document.number.Goals.{then-number-eq0-via-then-number-eq0 as zero}
-use Rattle.ttl_meaning.proofs.document.Document.number.Goals.{
-  then-number-eq0-via-else-number-eq0+then-self-number as past,
-}
 
-pub returns-in_default : goal.returns-in_default
-returns-in_default c = λ n most some is.
-    let text = c.args.spelled.now in
-    c.in_default.not-Ok n (parsed c.args.self.now text c.parse.result c.parse.ensures.value.0 n most is)
-
-pub returns-then-number-eq0 : goal.returns-then-number-eq0
-returns-then-number-eq0 c = λ n most some is.
-    let text = c.args.spelled.now in
-    let parses = c.parse.ensures.value.0 in
-    let number = c.in-Ok.number in
-    let same = parsed_same c.args.self.now text c.parse.result parses n number most is c.in-Ok.is in
-    elim c.then-number-eq0.branch [
-      | zero w ↦ omega (arith, some, same, w.if-number-eq0.true)
-      | past w ↦ omega (arith, most, same, w.if-self-number.true)
-    ]
-
-pub returns-then-ne : goal.returns-then-ne
-returns-then-ne c = λ n most some is.
-    let text = c.args.spelled.now in
-    let parses = c.parse.ensures.value.0 in
-    let number = c.in-Ok.number in
-    let same = parsed_same c.args.self.now text c.parse.result parses n number most is c.in-Ok.is in
-    let spelled : c.format.result.now ≡ text = c.format.ensures.text ∙ ap decimal (sym same) ∙ is in
-    true≢false (c.if-ne.ensures ∙ ap not ((bytes_eq-Decides c.format.result.now text).1 spelled))
+pub returns-else-number-self : goal.returns-else-number-self
+returns-else-number-self c = λ n most some is.
+    let number = c.in_ok-number.number in
+    let same : n ≡ number =
+    decimal_injective n number (omega (arith, most, c.args.self.now.few)) (omega arith)
+    (is ∙ sym c.in_ok-number.ensures.1) in
+    omega (arith, most, same, c.if-number-self.false)

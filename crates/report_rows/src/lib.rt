@@ -9,6 +9,7 @@
 //! | `tests/paths.rt` | the paths |
 //! | `tests/answers.rt` | answers, with the names of codes |
 //! | `tests/shape_answers.rt` | answers that tell terms of the shapes, and the notice |
+//! | `tests/slices.rt` | slices, in both formats |
 //! | `tests/plans.rt` | a plan of three lines, each a shape without constraints |
 //! | `tests/results.rt` | results of lines |
 //! | `tests/terms.rt` | the terms of the tables, and their numbers |

@@ -6,5 +6,6 @@ mod reports;
 mod results;
 mod rows;
 mod shape_answers;
+mod slices;
 mod terms;
 mod turtle_rows;

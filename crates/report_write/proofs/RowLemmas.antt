@@ -1,6 +1,6 @@
 -- The items that an iterator gives, and their texts.
 use Rattle.std.proofs.Common.{◌≡◌, ℕ, ◌+◌, ◌<◌, List, [], ◌∷◌, ◌++◌, flat_map, map, length, take, get_or}
-use Rattle.std.proofs.Common.{Bor, sym, ap, ◌∙◌}
+use Rattle.std.proofs.Common.{Bor, sym, ap, ◌∙◌, append_assoc}
 use Rattle.std.specs.declared.slice.Iter.{Iter}
 use Rattle.std.specs.Iterator.{Drains}
 use Rattle.std.specs.Slice.Iter.{iter_rest, iter_steps}
@@ -30,3 +30,14 @@ pub count_of_slice : {A : Type 0} (s : Iter A) (xs : List A) (items : List (Bor 
     → Drains iter_steps s items → length items ≡ length xs
 count_of_slice s xs items is drained =
     sym (length-map items (λ item. item.now)) ∙ ap length (items_of_slice s xs items is drained)
+
+-- a first text, and behind it one item more of a list
+pub headed_more : {A B : Type 0} (text : B → List ℕ) (view : A → B) (first : B) (items : List A) (i : ℕ)
+    (next : A) → i < length items
+    → flat_map text (first ∷ map view (take (i + 1) items))
+    ≡ flat_map text (first ∷ map view (take i items)) ++ text (view (get_or items i next))
+headed_more text view first items i next inside =
+    ap (λ some. text first ++ flat_map text (map view some)) (take_more items i next inside)
+    ∙ ap (λ behind. text first ++ behind) (rows_more text view (take i items) (get_or items i next))
+    ∙ sym (append_assoc (text first) (flat_map text (map view (take i items)))
+    (text (view (get_or items i next))))

@@ -1,13 +1,13 @@
 ghost use Rattle.std.specs.Prelude.{◌≡◌, ◌++◌, codes, decimal};
 ghost use Rattle.report_write.specs.Answers.{answer_text, code_of_length, code_text, fault_head, line_start};
-ghost use Rattle.report_write.specs.Answers.{line_text, refusal_head, shape_fault_head};
+ghost use Rattle.report_write.specs.Answers.{line_text, refusal_head, shape_fault_head, triple_text};
 ghost use Rattle.text_output.specs.TermTexts.{number_text};
 ghost use Rattle.text_output.specs.Writes.{Writes};
 
 use crate::roles::role_name;
 use shx_outside::{Role, Sink};
 use shx_term::fault_codes::{SCRIPT_TOO_LONG, TEXT_TOO_LONG, code_name};
-use shx_term::{Id, Pieces, Pool};
+use shx_term::{Id, Pieces, Pool, Triple};
 use text_output::{Format, WriteFault, Writer, add_number, add_term};
 
 /// What is said to a line of a script, before a report, or in its place. Terms are told by their numbers.
@@ -32,6 +32,12 @@ pub enum Answer {
         /// Of the report.
         results: u64,
     },
+    /// The results of a pair rest on so many triples.
+    Slice {
+        triples: u64,
+    },
+    /// One of these.
+    SliceTriple(Triple),
     /// A line is refused. Lines are counted from 1.
     RefusedLine {
         line: u64,
@@ -129,6 +135,8 @@ fn add_line<W: Pieces>(answer: &Answer, pool: &Pool, out: &mut W)
             pairs,
             results,
         } => add_count(*triples, *pairs, *results, out),
+        Answer::Slice { triples } => add_slice(*triples, out),
+        Answer::SliceTriple(triple) => add_triple(triple, pool, out),
         Answer::RefusedLine { line, code } => add_refusal(*line, *code, out),
         Answer::RefusedAt { line, code, at } => add_refusal_at(*line, *code, *at, out),
         Answer::TextFault { role, code, at } => add_text_fault(*role, *code, *at, out),
@@ -164,6 +172,26 @@ fn add_count<W: Pieces>(triples: u64, pairs: u64, results: u64, out: &mut W)
     add_number(pairs, out);
     out.add(b" results=");
     add_number(results, out);
+    out.add(b"\n");
+}
+
+fn add_slice<W: Pieces>(triples: u64, out: &mut W)
+    ensures { W.added out.old out.new (codes "slice triples=" ++ decimal triples ++ codes "\n") }
+{
+    out.add(b"slice triples=");
+    add_number(triples, out);
+    out.add(b"\n");
+}
+
+fn add_triple<W: Pieces>(triple: &Triple, pool: &Pool, out: &mut W)
+    ensures { W.added out.old out.new (triple_text pool.now.terms triple.now) }
+{
+    out.add(b"triple ");
+    add_term(triple.s, pool, out);
+    out.add(b" ");
+    add_term(triple.p, pool, out);
+    out.add(b" ");
+    add_term(triple.o, pool, out);
     out.add(b"\n");
 }
 

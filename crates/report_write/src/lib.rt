@@ -9,6 +9,7 @@
 //! | `result_names.rt` | the names of components and of severities |
 //! | `path.rt`, `form.rt` | how a path is written, and the marks of each form |
 //! | `answer.rt` | `Answer` and its text |
+//! | `slice.rt` | the text of a slice |
 //! | `roles.rt` | the names of what texts are read for |
 //!
 //! It stands on `shx_term`, `shx_outside` and `text_output` for texts, on `comp_core` for results, on
@@ -24,8 +25,10 @@ mod result_block;
 mod result_line;
 mod result_names;
 mod roles;
+mod slice;
 
 pub use answer::{Answer, add_answer, write_answer};
 pub use path::add_path;
 pub use report::{add_head, add_rows, add_tail, write_report};
+pub use slice::write_slice;
 pub use text_output::Format;

@@ -44,7 +44,7 @@ use Rattle.edit_engine.proofs.TouchLemmas.{touched_same}
 
 -- ---- targets, pairs and what is kept
 
-Holds-same : (state : Recorded) (reader : Reader) (keys others : List Key) → SameMembers keys others
+pub Holds-same : (state : Recorded) (reader : Reader) (keys others : List Key) → SameMembers keys others
     → Holds state reader keys → Holds state reader others
 Holds-same state reader keys others same held = record {
   reads = held.reads;
@@ -67,7 +67,7 @@ module _ (plan : Planned) (g h : Graph) (alike : AreAlike plan g h) where
   known : AllKnown g
   known = AllKnown-valid g alike.before.valid
 
-  same_target : (n : ℕ) → IsSameTarget shapes g h n
+  pub same_target : (n : ℕ) → IsSameTarget shapes g h n
   same_target n =
       alike.targets_law shapes g h known (AllKnown-valid h alike.after.valid) alike.before.known n
       (alike.agree (target_reads shapes g n))
@@ -79,19 +79,19 @@ module _ (plan : Planned) (g h : Graph) (alike : AreAlike plan g h) where
       (λ n c. ap (map (at_shape n)) (same_target n).nodes)
 
   -- of the pairs themselves
-  held_before : (ns : List ℕ) (p : Pair) → Contains (pairs_of shapes ns h) p
+  pub held_before : (ns : List ℕ) (p : Pair) → Contains (pairs_of shapes ns h) p
       → Contains (pairs_of shapes ns g) p
   held_before ns p c = subst (λ ps. Contains ps p) (sym (pairs_alike ns)) c
 
-  node_before : (ns : List ℕ) (p : Pair) → Contains (pairs_of shapes ns g) p → p.node < length g.terms
+  pub node_before : (ns : List ℕ) (p : Pair) → Contains (pairs_of shapes ns g) p → p.node < length g.terms
   node_before ns p c = node_known shapes g known alike.before.known ns p c
 
-  same_pair_at : (p : Pair) → p.node < length g.terms → IsSamePair shapes g h p
+  pub same_pair_at : (p : Pair) → p.node < length g.terms → IsSamePair shapes g h p
   same_pair_at p inside =
       alike.results_law shapes alike.before.refers g h known (AllKnown-valid h alike.after.valid)
       alike.before.known p inside (alike.agree (pair_reads shapes g p))
 
-  same_results : (ns : List ℕ) (p : Pair) → Contains (pairs_of shapes ns g) p → IsSamePair shapes g h p
+  pub same_results : (ns : List ℕ) (p : Pair) → Contains (pairs_of shapes ns g) p → IsSamePair shapes g h p
   same_results ns p c = same_pair_at p (node_before ns p c)
 
   pub report_alike : report plan g ≡ report plan h
@@ -113,7 +113,7 @@ module _ (plan : Planned) (g h : Graph) (alike : AreAlike plan g h) where
     no_pair = λ p none. all.no_pair p (λ c. none (subst (λ ps. Contains ps p) (pairs_alike ns) c));
   }
 
-  same_term_at : (id : ℕ) → id < length g.terms → slice_get g.terms id ≡ slice_get h.terms id
+  pub same_term_at : (id : ℕ) → id < length g.terms → slice_get g.terms id ≡ slice_get h.terms id
   same_term_at id inside = Agree-term g h id (alike.agree []) inside
 
   AreResults-alike : (ns : List ℕ) (kept : KeptResults) → AreResults shapes ns g kept
@@ -129,12 +129,12 @@ module _ (plan : Planned) (g h : Graph) (alike : AreAlike plan g h) where
   }
 
   module _ (nested_law : NestedDependOnReads) where
-    same_nested : (p : Pair) → p.node < length g.terms → nested_in shapes g p ≡ nested_in shapes h p
+    pub same_nested : (p : Pair) → p.node < length g.terms → nested_in shapes g p ≡ nested_in shapes h p
     same_nested p inside =
         nested_law shapes alike.before.refers g h known (AllKnown-valid h alike.after.valid)
         alike.before.known p inside (alike.agree (pair_reads shapes g p))
 
-    nested_of : (ns : List ℕ)
+    pub nested_of : (ns : List ℕ)
         → flat_map (nested_in shapes g) (pairs_of shapes ns g)
         ≡ flat_map (nested_in shapes h) (pairs_of shapes ns h)
     nested_of ns =

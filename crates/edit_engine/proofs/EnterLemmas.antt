@@ -76,11 +76,11 @@ AreAlike-entered plan g h asked more valid results_law targets_law = record {
   targets_law = targets_law;
 }
 
--- so an engine is whole again once terms were entered
-pub is_whole_again : {due : List Term} (plan : Planned) (g h : Graph) (kept : Kept)
+-- so all is kept once terms were entered
+pub is_kept_again : {due : List Term} (plan : Planned) (g h : Graph) (kept : Kept)
     → MayBeAsked plan g × IsKeptOf plan.shapes plan.targeted g kept → HasMoreTerms due g h → IsValidView h
     → ResultsDependOnReads → TargetsDependOnReads → NestedDependOnReads
     → MayBeAsked plan h × IsKeptOf plan.shapes plan.targeted h kept
-is_whole_again plan g h kept whole more valid results_law targets_law nested_law =
+is_kept_again plan g h kept whole more valid results_law targets_law nested_law =
     let alike = AreAlike-entered plan g h whole.0 more valid results_law targets_law in
     (alike.after, IsKeptOf-alike plan g h alike nested_law plan.targeted kept whole.1)

@@ -36,6 +36,8 @@ pub mod RenewalLemmas
 pub mod RenewedPairLemmas
 pub mod RenewsRecallLemmas
 pub mod SameReportLemmas
+pub mod SettledLemmas
+pub mod ShorterLemmas
 pub mod SoundLemmas
 pub mod StagedLemmas
 pub mod StatedLemmas

@@ -80,11 +80,12 @@ pub record IsRefused (old : EngineState) (net : Net) (cause : Outcome) (new : En
   pub same : new ≡ old
   pub counted : after ≡ before
 
--- nothing changed but that terms of what was to be added may have been entered, and what was evaluated may
--- have been counted
+-- nothing changed but that terms of what was to be added may have been entered, behind those that are
+-- settled, and what was evaluated may have been counted
 pub record WantsMemory (old : EngineState) (net : Net) (new : EngineState) : Type 0 where
   pub graph : HasMoreTerms (terms_of net.added) old.graph new.graph
   pub remembered : new.remembered ≡ old.remembered
+  pub settled : new.settled ≡ old.settled
 
 -- a change that was refused, by its fault
 abbrev pub Refuses : EngineState → Net → EditFault → EngineState → Counted → Counted → Type 0

@@ -3,6 +3,7 @@ pub mod Kept
 pub mod Parts
 pub mod Put
 pub mod Recall
+pub mod Settled
 pub mod Staged
 pub mod Stated
 pub mod Told

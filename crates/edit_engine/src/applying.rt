@@ -214,6 +214,7 @@ impl<V: GraphEdit> Engine<V> {
         match self.view.exchange(removed, added) {
             Ok(()) => {
                 self.kept.commit();
+                self.settled = self.view.pool().len();
                 Ok(evaluated)
             }
             Err(StoreFault::TooMany) => unreachable!(),
@@ -226,7 +227,7 @@ impl<V: GraphEdit> Engine<V> {
 }
 
 // What is true of any view, and of results, targets and nested pairs over any graph, that a change rests on.
-fn changes_rest_on<V: GraphEdit>(view: &V)
+pub(crate) fn changes_rest_on<V: GraphEdit>(view: &V)
     ensures results { ResultsDependOnReads }
     ensures targets { TargetsDependOnReads }
     ensures nested { NestedDependOnReads }

@@ -6,12 +6,15 @@ use std::marker::Model;
 /// A graph and a plan, with the report of the plan on the graph, which edits keep current.
 ///
 /// It keeps the results of each pair of a targeted shape and one of its target nodes, and for each pair, and
-/// each target, the keys that were read; and both of the pairs that are nested in these.
+/// each target, the keys that were read; and both of the pairs that are nested in these. All of it is of the
+/// terms that are settled, so what was entered behind them can be cut off.
 #[derive(Drop)]
 pub struct Engine<V: GraphEdit> {
     pub(crate) plan: Plan,
     pub(crate) view: V,
     pub(crate) kept: Kept,
+    /// How many terms there were when the graph was last changed, or opened.
+    pub(crate) settled: u32,
 }
 
 impl<V: GraphEdit> Model for Engine<V> {
@@ -20,6 +23,7 @@ impl<V: GraphEdit> Model for Engine<V> {
     ghost use Rattle.edit_engine.specs.MayBeAsked.{MayBeAsked};
     ghost use Rattle.edit_engine.specs.EngineState.{EngineState};
     ghost use Rattle.edit_engine.specs.inner.Kept.{IsKeptOf};
+    ghost use Rattle.edit_engine.specs.inner.Settled.{IsSettled};
 
     ghost Value = { EngineState };
 
@@ -36,8 +40,10 @@ impl<V: GraphEdit> Model for Engine<V> {
       term_limit = V.GraphView.term_limit a.view;
       triple_limit = V.triple_limit a.view;
       remembered = all_kept a.kept.recall;
+      settled = a.settled;
     } };
 
     ghost invariant = { λ a. MayBeAsked (plan_of a.plan) (V.GraphView.graph a.view)
-        × IsKeptOf (plan_of a.plan).shapes (plan_of a.plan).targeted (V.GraphView.graph a.view) a.kept };
+        × IsKeptOf (plan_of a.plan).shapes (plan_of a.plan).targeted (V.GraphView.graph a.view) a.kept
+        × IsSettled (plan_of a.plan) (V.GraphView.graph a.view) a.kept a.settled };
 }

@@ -8,6 +8,7 @@
 //! | `opening.rt` | `Engine::open`: everything is evaluated once |
 //! | `netting.rt` | `Engine::net_of`: what edits come to together |
 //! | `applying.rt` | `Engine::apply`, `apply_all`, `apply_net`: a change, tested, evaluated and made |
+//! | `entering.rt` | `Engine::enter`, `cut`: terms that are entered beside the graph, and given back |
 //! | `edit.rt` | `Change`, `EditFault`: what came of an edit, and why nothing did |
 //! | `stated.rt` | the terms of triples, found and entered |
 //! | `renewing.rt` | what a change of the graph makes of what is kept, beside the graph; the opening |
@@ -28,6 +29,7 @@
 mod applying;
 mod edit;
 mod engine;
+mod entering;
 mod kept;
 mod laws;
 mod net_laws;

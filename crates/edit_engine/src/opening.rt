@@ -43,6 +43,12 @@ impl<V: GraphEdit + Drop> Engine<V> {
         let renewal = opening_of(alloc, &view, &plan, &mut answers, nested, steps)?;
         let recall = Recall::of_all(alloc, answers.into_all(alloc)?)?;
         let kept = Kept::adopt(alloc, view.pool(), plan.len(), renewal, recall)?;
-        Ok(Engine { plan, view, kept })
+        let settled = view.pool().len();
+        Ok(Engine {
+            plan,
+            view,
+            kept,
+            settled,
+        })
     }
 }

@@ -1,5 +1,5 @@
 //! What an engine tells of the present graph.
-ghost use Rattle.std.specs.Prelude.{◌≡◌, [], length, IfSome};
+ghost use Rattle.std.specs.Prelude.{◌≡◌, ◌≤◌, [], length, IfSome};
 ghost use Rattle.std.specs.List.{IsDistinct};
 ghost use Rattle.std.specs.Option.{is_some};
 ghost use Rattle.shx_term.specs.Members.{SameMembers};
@@ -106,6 +106,7 @@ impl<V: GraphEdit> Engine<V> {
     pub fn view(&self) -> &V
         ensures asked { MayBeAsked self.now.plan self.now.graph }
         ensures distinct { IsDistinct same_triple self.now.graph.triples }
+        ensures settled { self.now.settled ≤ length self.now.graph.terms }
         ensures graph { V.GraphView.graph result.now ≡ self.now.graph }
         ensures term_limit { V.GraphView.term_limit result.now ≡ self.now.term_limit }
         ensures triple_limit { V.triple_limit result.now ≡ self.now.triple_limit }

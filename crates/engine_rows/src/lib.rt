@@ -7,6 +7,7 @@
 //! | `tests/beside.rt` | the report that is made from nothing, beside the one that an engine keeps |
 //! | `tests/watched.rt` | edits over a graph in which a look-up is seen |
 //! | `tests/refused.rt` | edits for which one look-up after the other is refused |
+//! | `tests/entered.rt` | terms that are entered before an edit, and given back |
 //! | `tests/opened.rt` | plans and graphs of texts |
 #![tactic(auto)]
 

@@ -1,5 +1,6 @@
 mod beside;
 mod edits;
+mod entered;
 mod opened;
 mod refused;
 mod rows;

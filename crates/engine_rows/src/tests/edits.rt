@@ -7,6 +7,7 @@ ghost use Rattle.script_lines.specs.Lines.{IsValidCommand};
 ghost use Rattle.edit_engine.specs.MayBeAsked.{MayBeAsked};
 
 use super::beside::is_current;
+use super::entered::step_beside;
 use super::opened::{Opened, open_texts};
 use super::rows::ROWS;
 use super::watched::{Watched, watch_of};
@@ -58,7 +59,8 @@ fn edits_of(alloc: Global, document: &Document, lines: &str) -> Result<Vec<Edit>
     Ok(edits)
 }
 
-// Whether a step ends as it says: `EDITS → TOLD, PAIRS RESULTS`, or `EDITS → TOLD`.
+// Whether a step ends as it says: `EDITS → TOLD, PAIRS RESULTS`, or `EDITS → TOLD`. Before it may stand terms
+// that are entered beforehand, `TERMS | `.
 fn is_met<V: GraphEdit, L: Ledger, M: Ledger>(
     alloc: Global,
     engine: &mut Engine<V>,
@@ -67,6 +69,9 @@ fn is_met<V: GraphEdit, L: Ledger, M: Ledger>(
     nested: &mut Steps<M>,
     steps: &mut Steps<L>,
 ) -> Result<bool, RowFault> {
+    let Some(step) = step_beside(alloc, engine, step)? else {
+        return Ok(false);
+    };
     let (lines, due) = cut(step, " → ")?;
     let (due, counts) = due.split_once(", ").unwrap_or((due, ""));
     let edits = edits_of(alloc, document, lines)?;

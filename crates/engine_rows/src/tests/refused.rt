@@ -34,7 +34,7 @@ struct Held {
 
 // What an engine tells: its results and its counts, and what it remembers.
 #[derive(Drop)]
-struct Told {
+pub(super) struct Told {
     rows: Vec<ResultRow>,
     pairs: u64,
     remembered: Vec<Held>,
@@ -64,7 +64,7 @@ impl Told {
     }
 
     // Whether the engine still tells this.
-    fn is_of<V: GraphEdit>(&self, engine: &Engine<V>) -> bool {
+    pub(super) fn is_of<V: GraphEdit>(&self, engine: &Engine<V>) -> bool {
         engine.pair_count() == self.pairs
             && engine.result_count() == self.rows.len() as u64
             && engine
@@ -83,7 +83,7 @@ fn is_held<V: GraphEdit>(engine: &Engine<V>, held: &Held) -> bool {
     }
 }
 
-fn told_of<V: GraphEdit>(alloc: Global, engine: &Engine<V>) -> Result<Told, Memory> {
+pub(super) fn told_of<V: GraphEdit>(alloc: Global, engine: &Engine<V>) -> Result<Told, Memory> {
     let mut told = Told {
         rows: Vec::new(alloc),
         pairs: engine.pair_count(),

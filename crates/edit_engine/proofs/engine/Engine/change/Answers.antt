@@ -6,10 +6,11 @@ use Rattle.edit_engine.specs.EngineState.{EngineState}
 use Rattle.edit_engine.specs.Nets.{IsNetOn, is_no_change, net_over}
 use Rattle.edit_engine.proofs.AppliedLemmas.{Applies-changed, adds_some, effect, few_where_fits, removes_some}
 use Rattle.edit_engine.proofs.AppliedLemmas.{room_where_fits}
-use Rattle.edit_engine.proofs.EnterLemmas.{AreAlike-entered, is_whole_again}
+use Rattle.edit_engine.proofs.EnterLemmas.{AreAlike-entered}
 use Rattle.edit_engine.proofs.PatchLemmas.{at_hand, few_removed, length-after, patch_at_hand}
 use Rattle.edit_engine.proofs.PatchLemmas.{patched_is}
 use Rattle.edit_engine.proofs.RememberedLemmas.{recalled_nodes}
+use Rattle.edit_engine.proofs.SettledLemmas.{is_whole_again}
 use Rattle.edit_engine.proofs.SoundLemmas.{IsSound-valid}
 use Rattle.edit_engine.proofs.ValidEditLemmas.{valid_numbered}
 use Rattle.edit_engine.proofs.engine.Engine.change.Goals.{else-is_empty-via-then-is_empty+else-is_empty-2}
@@ -28,14 +29,14 @@ has_room_for-requires g c =
 pub invariant_of-self : goal.invariant_of-self
 invariant_of-self g c =
     is_whole_again (plan_of c.self.inside.plan) (g.V.GraphView.graph c.self.inside.view)
-    (g.V.GraphView.graph c.enter_all.new.graph) c.self.inside.kept c.self.invariant
+    (g.V.GraphView.graph c.enter_all.new.graph) c.self.inside.kept c.self.inside.settled c.self.invariant
     c.enter_all.ensures.more (c.enter_all.ensures.valid c.self.invariant.0.valid c.requires.added_valid)
     c.changes_rest_on.ensures.results c.changes_rest_on.ensures.targets c.changes_rest_on.ensures.nested
 
 pub invariant_of-self-2 : goal.invariant_of-self-2
 invariant_of-self-2 g c =
     is_whole_again (plan_of c.self.inside.plan) (g.V.GraphView.graph c.self.inside.view)
-    (g.V.GraphView.graph c.enter_all.new.graph) c.self.inside.kept c.self.invariant
+    (g.V.GraphView.graph c.enter_all.new.graph) c.self.inside.kept c.self.inside.settled c.self.invariant
     c.enter_all.ensures.more (c.enter_all.ensures.valid c.self.invariant.0.valid c.requires.added_valid)
     c.changes_rest_on.ensures.results c.changes_rest_on.ensures.targets c.changes_rest_on.ensures.nested
 
@@ -88,6 +89,7 @@ returns-clause-applied g c =
       term_limit = g.V.GraphView.term_limit c.self.inside.view;
       triple_limit = g.V.GraphEdit.triple_limit c.self.inside.view;
       remembered = all_kept c.self.inside.kept.recall;
+      settled = c.self.inside.settled;
     } in
     let law = c.changes_rest_on.ensures in
     let at = at_hand {g = old} {h = new} net c.in_ok-new.ensures.terms c.enter_all.ensures.more

@@ -10,11 +10,12 @@ use Rattle.edit_engine.specs.Touched.{touched_pairs}
 use Rattle.edit_engine.specs.EngineState.{EngineState}
 use Rattle.edit_engine.specs.declared.kept.Kept.{Kept}
 use Rattle.edit_engine.specs.inner.Staged.{IsStaged, MayBeStaged}
-use Rattle.edit_engine.proofs.ChangedLemmas.{IsKeptOf-made, IsKeptOf-unchanged, MayBeAsked-exchanged}
+use Rattle.edit_engine.proofs.ChangedLemmas.{IsKeptOf-made, MayBeAsked-exchanged}
 use Rattle.edit_engine.proofs.ChangedLemmas.{MayBeStaged-changed, SameGraph-exchanged}
 use Rattle.edit_engine.proofs.ChangedLemmas.{SameKept-beside, SameKept-dropped, length-evaluated}
 use Rattle.edit_engine.proofs.RememberedLemmas.{brings_told, recalled_settled, told_same}
 use Rattle.edit_engine.proofs.RenewLemmas.{AreKept-beside}
+use Rattle.edit_engine.proofs.SettledLemmas.{IsSettled-all, is_whole_still}
 use Rattle.edit_engine.proofs.engine.Engine.make.Goals as goal
 
 pub renewal_of-found-requires-clause-countable : goal.renewal_of-found-requires-clause-countable
@@ -46,7 +47,7 @@ pub invariant_of-self : goal.invariant_of-self
 invariant_of-self g c =
     let same = SameKept-beside c.self.inside.kept c.drop_staged.new.self c.renewal_of-found.new.recall
     c.renewal_of-found.ensures.kept c.drop_staged.ensures in
-    (c.self.invariant.0, IsKeptOf-unchanged _ _ _ _ _ c.self.invariant.1 same)
+    is_whole_still _ _ _ _ _ c.self.invariant same
 
 pub returns-in_default-clause-refused : goal.returns-in_default-clause-refused
 returns-in_default-clause-refused g c =
@@ -59,7 +60,7 @@ pub invariant_of-self-in_err-stage : goal.invariant_of-self-in_err-stage
 invariant_of-self-in_err-stage g c =
     let same = SameKept-beside c.self.inside.kept c.stage.new.self c.renewal_of-found.new.recall
     c.renewal_of-found.ensures.kept c.in_err-stage.ensures.refused in
-    (c.self.invariant.0, IsKeptOf-unchanged _ _ _ _ _ c.self.invariant.1 same)
+    is_whole_still _ _ _ _ _ c.self.invariant same
 
 pub returns-in_err-stage-clause-refused : goal.returns-in_err-stage-clause-refused
 returns-in_err-stage-clause-refused g c =
@@ -76,8 +77,7 @@ invariant_of-self-in-Err-Memory g c =
     c.in_ok-stage.ensures.pairs c.in_ok-stage.ensures.recall c.drop_staged-in-Err-Memory.ensures in
     let same = SameKept-beside c.self.inside.kept c.drop_staged-in-Err-Memory.new.self recall
     c.renewal_of-found.ensures.kept dropped in
-    rw c.in-Err-Memory.ensures.refused
-    (c.self.invariant.0, IsKeptOf-unchanged _ _ _ _ _ c.self.invariant.1 same)
+    rw c.in-Err-Memory.ensures.refused (is_whole_still _ _ _ _ _ c.self.invariant same)
 
 pub returns-in-Err-Memory-clause-refused : goal.returns-in-Err-Memory-clause-refused
 returns-in-Err-Memory-clause-refused g c =
@@ -109,14 +109,19 @@ invariant_of-self-in-Ok-exchange g c =
     let staged = subst (λ ts. IsStaged ts kept c.stage.new.self c.in-Ok.renewal) c.pool.ensures.terms
     c.in_ok-stage.ensures.staged in
     let keeps = subst (λ (state : RecallState). KeepsRecalled state c.commit.new.self.recall)
-    c.in_ok-stage.ensures.recall commit.recall in (
-      MayBeAsked-exchanged plan before after c.args.added.now c.args.removed.now c.self.invariant.0 fit
-          made.terms made.exchanged,
-      IsKeptOf-made law.results law.targets law.nested plan before after c.args.added.now c.args.removed.now
-          c.in-Ok.renewal c.self.invariant.0 fit c.in-Ok.ensures.renewal made.terms made.exchanged law.terms
-          kept c.stage.new.self c.commit.new.self (AreKept-beside recall c.self.invariant.1) staged
-          commit.records commit.rows commit.places commit.pairs commit.idle recall
-          c.in-Ok.ensures.recall.remembers keeps commit.settled,
+    c.in_ok-stage.ensures.recall commit.recall in
+    let asked = MayBeAsked-exchanged plan before after c.args.added.now c.args.removed.now
+    c.self.invariant.0 fit made.terms made.exchanged in
+    let held = IsKeptOf-made law.results law.targets law.nested plan before after c.args.added.now
+    c.args.removed.now c.in-Ok.renewal c.self.invariant.0 fit c.in-Ok.ensures.renewal made.terms
+    made.exchanged law.terms kept c.stage.new.self c.commit.new.self
+    (AreKept-beside recall c.self.invariant.1) staged commit.records commit.rows commit.places
+    commit.pairs commit.idle recall c.in-Ok.ensures.recall.remembers keeps commit.settled in
+    let pool = c.pool-in-Ok-exchange in (
+      asked,
+      held,
+      IsSettled-all plan after c.commit.new.self pool.result.now.terms c.len-self-inside.result asked held
+          pool.ensures.terms c.len-self-inside.ensures.vocabulary c.len-self-inside.ensures.count,
     )
 
 pub returns-in-Ok-exchange-clause-graph : goal.returns-in-Ok-exchange-clause-graph

@@ -7,6 +7,7 @@ use Rattle.edit_engine.specs.Remembered.{AreAllRecalled}
 use Rattle.edit_engine.proofs.OpenedLemmas.{answered-none, kept_answers, nested_counted, nested_recalled}
 use Rattle.edit_engine.proofs.OpeningLemmas.{IsKeptOf-adopted, MayBeAdopted-opening}
 use Rattle.edit_engine.proofs.RememberedLemmas.{answers_kept}
+use Rattle.edit_engine.proofs.SettledLemmas.{IsSettled-all}
 use Rattle.edit_engine.proofs.engine.Engine.open.Goals as goal
 
 pub of_all-requires : goal.of_all-requires
@@ -24,11 +25,15 @@ invariant_of-result g c =
     let distinct = rw c.pool.ensures.terms at c.terms_are_distinct.ensures in
     let same = c.in_ok-kept.ensures.recall in
     let kept = kept_answers c.opening_of.new.answers c.in_ok-into_all.field-0.items c.in_ok-recall.recall
-    c.in_ok-kept.kept.recall c.in_ok-into_all.ensures.entries c.in_ok-recall.ensures.kept same in (
+    c.in_ok-kept.kept.recall c.in_ok-into_all.ensures.entries c.in_ok-recall.ensures.kept same in
+    let held = IsKeptOf-adopted c.in_ok-renewal.ensures.renewal c.requires.once c.in_ok-kept.kept distinct
+    adopted (rw kept c.in_ok-renewal.ensures.nested.remembers)
+    (ap (λ (state : RecallState). state.staged) same ∙ c.in_ok-recall.ensures.staged) in (
       c.requires,
-      IsKeptOf-adopted c.in_ok-renewal.ensures.renewal c.requires.once c.in_ok-kept.kept distinct adopted
-          (rw kept c.in_ok-renewal.ensures.nested.remembers)
-          (ap (λ (state : RecallState). state.staged) same ∙ c.in_ok-recall.ensures.staged),
+      held,
+      IsSettled-all (plan_of c.args.plan) (g.V.GraphView.graph c.args.view) c.in_ok-kept.kept
+          c.pool-3.result.now.terms c.len-settled.result c.requires held c.pool-3.ensures.terms
+          c.len-settled.ensures.vocabulary c.len-settled.ensures.count,
     )
 
 pub returns-clause-nested : goal.returns-clause-nested

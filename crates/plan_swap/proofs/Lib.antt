@@ -1,0 +1,10 @@
+pub mod AlikeLemmas
+pub mod AskedLemmas
+pub mod DemandLemmas
+pub mod FindingLemmas
+pub mod LevelLemmas
+pub mod PlaceLemmas
+pub mod RenumberLemmas
+pub mod SameLemmas
+pub mod ShapeLemmas
+pub mod TurnLemmas

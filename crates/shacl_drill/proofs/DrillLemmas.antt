@@ -16,13 +16,13 @@ use Rattle.command_words.specs.Words.{command_words}
 use Rattle.shacl_run.specs.declared.status.Status.{Status}
 use Rattle.shacl_run.specs.declared.status.Status.TheVariants.{Conforms, Violates, BadWords, Refused}
 use Rattle.shacl_run.specs.declared.status.Status.TheVariants.{InputFault, WriteFault, Memory, LinesRefused}
-use Rattle.shacl_run.specs.Manner.{Manner}
+use Rattle.script_run.specs.Manner.{Manner}
 use Rattle.shacl_run.specs.Outside.{Outside}
 use Rattle.shacl_run.specs.Readings.{Readings, TextReading, States, Faulty, Long, stated_graph}
 use Rattle.shacl_run.specs.Run.{Opening, Output, ends, opens, files_opening, opening_output}
 use Rattle.shacl_run.specs.Run.{passed_over, run_output, script_text, with_data, with_shapes}
 use Rattle.shacl_run.specs.Run.{with_verdict, words_manner, words_script}
-use Rattle.shacl_run.specs.ScriptState.{ScriptState}
+use Rattle.script_run.specs.ScriptState.{ScriptState}
 use Rattle.shacl_run.specs.RunClauses.{DataIsReadBy, IsRun, LinesAreReadBy, WritesDue, WritesWhole}
 use Rattle.shacl_run.specs.Status.{IsAnswered, IsReported, status_number}
 use Rattle.shacl_run.specs.Verdict.{Verdict, plans, stops}

@@ -18,9 +18,9 @@ use Rattle.shacl_run.specs.Outside.{Outside, counts}
 use Rattle.shacl_run.specs.Run.{Output}
 use Rattle.shacl_run.specs.inner.Serving.{Prefixed}
 use Rattle.shacl_run.specs.Status.{IsAnswered, IsCutShort, IsReported}
-use Rattle.shacl_run.specs.Work.{NoneFell, Work, and_then}
+use Rattle.script_run.specs.Work.{NoneFell, Work, and_then}
 use Rattle.shacl_run.specs.inner.Stops.{stop_status}
-use Rattle.shacl_run.proofs.WorkLemmas.{NoneFell-by, NoneFell-then, work_then}
+use Rattle.script_run.proofs.WorkLemmas.{NoneFell-by, NoneFell-then, work_then}
 
 -- where two lists together are empty, each of them is
 pub append_none : (xs ys : List ℕ) → xs ++ ys ≡ [] → (xs ≡ []) × (ys ≡ [])

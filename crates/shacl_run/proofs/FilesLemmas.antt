@@ -22,23 +22,24 @@ use Rattle.shacl_run.specs.declared.status.Status.{Status}
 use Rattle.shacl_run.specs.declared.status.Status.TheVariants.{InputFault}
 use Rattle.shacl_run.specs.declared.unopened.Unopened.{Unopened}
 use Rattle.shacl_run.specs.declared.unopened.Unopened.TheVariants.{Told}
-use Rattle.shacl_run.specs.declared.validation.Validation.{Validation}
+use Rattle.script_run.specs.declared.validation.Validation.{Validation}
 use Rattle.shacl_run.specs.inner.Ends.{Ends, EndsByPattern}
 use Rattle.shacl_run.specs.inner.Files.{FilesAreRead, FilesOpenOnly, RunsFiles, RunsWords, files_output}
 use Rattle.shacl_run.specs.inner.Prepared.{AreRead, IsPrepared}
 use Rattle.shacl_run.specs.inner.Serving.{HaveReadings, LinesAreReadAt}
-use Rattle.shacl_run.specs.inner.Validation.{IsValidation}
-use Rattle.shacl_run.specs.Manner.{LineReadings, Manner}
-use Rattle.shacl_run.specs.Names.{HasNamesOf}
+use Rattle.script_run.specs.Stored.{IsValidation}
+use Rattle.script_run.specs.Manner.{LineReadings, Manner}
+use Rattle.script_run.specs.Names.{HasNamesOf}
 use Rattle.shacl_run.specs.Readings.{Readings, TextReading, States, Faulty, Long, ShapesAreRead, LinesAreRead}
-use Rattle.shacl_run.specs.Readings.{IsReadBehind, stated_graph}
+use Rattle.script_run.specs.LineReadings.{IsReadBehind}
+use Rattle.shacl_run.specs.Readings.{stated_graph}
 use Rattle.shacl_run.specs.Outside.{Outside}
 use Rattle.shacl_run.specs.Run.{IsOpening, Opening, manner_of, opening_fed, opening_output, refused}
 use Rattle.shacl_run.specs.Run.{script_text}
 use Rattle.shacl_run.specs.Run.{texts_opening, validation_output, with_data, with_shapes, with_verdict}
 use Rattle.shacl_run.specs.Run.Opening.{ends, opens}
 use Rattle.shacl_run.specs.RunClauses.{IsOpenedBy, OpensOnly, StopsFed}
-use Rattle.shacl_run.specs.ScriptState.{ScriptState, start_state}
+use Rattle.script_run.specs.ScriptState.{ScriptState, start_state}
 use Rattle.shacl_run.specs.Verdict.{Verdict, plans, stops}
 use Rattle.shacl_run.proofs.EndLemmas.{Ends-told}
 use Rattle.shacl_run.proofs.RunLemmas.{ByVerdict-then}

@@ -27,14 +27,14 @@ use Rattle.shacl_run.specs.declared.refusal.Refusal.TheVariants.{Text, Cut}
 use Rattle.shacl_run.specs.declared.unopened.Unopened.{Unopened}
 use Rattle.shacl_run.specs.declared.unopened.Unopened.TheVariants as unopened
 use Rattle.shacl_run.specs.declared.stop.Stop.{Stop}
-use Rattle.shacl_run.specs.declared.validation.Validation.{Validation}
+use Rattle.script_run.specs.declared.validation.Validation.{Validation}
 use Rattle.shacl_run.specs.inner.Judging.{Accepts, IsShapesRefusal, Opens, RefusesData, RefusesShapes}
 use Rattle.shacl_run.specs.inner.Prepared.{AreRead, HasNamesRead, HostStays, IsPrepared, Prepares}
 use Rattle.shacl_run.specs.inner.Prepared.{PreparesBy}
 use Rattle.shacl_run.specs.inner.Refusal.{IsRefusalOf}
 use Rattle.shacl_run.specs.inner.Unopened.{beside}
-use Rattle.shacl_run.specs.Manner.{LineReadings}
-use Rattle.shacl_run.specs.Names.{HasNamesOf}
+use Rattle.script_run.specs.Manner.{LineReadings}
+use Rattle.script_run.specs.Names.{HasNamesOf}
 use Rattle.shacl_run.specs.Readings.{Readings, TextReading, States, Faulty, Long, IsReadAs, stated_graph}
 use Rattle.shacl_run.specs.Readings.{AreJudged, ComeTo, DataIsRead, HavePlan, IsRefusedIn}
 use Rattle.shacl_run.specs.Readings.{PatternsAreAdmitted, ShapesAreRead}

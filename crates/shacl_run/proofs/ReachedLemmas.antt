@@ -10,24 +10,24 @@ use Rattle.shx_outside.proofs.ToldLemmas.{Grew-then}
 use Rattle.text_input.specs.ScriptReader.{ReaderState, new_reader, left_of}
 use Rattle.text_input.proofs.LineLemmas.{fed_lines-first}
 use Rattle.text_output.specs.Writes.{Put, FellShort}
-use Rattle.shacl_run.specs.declared.reply.Reply.{Reply}
-use Rattle.shacl_run.specs.declared.script_run.ScriptRun.{ScriptRun}
+use Rattle.script_run.specs.declared.reply.Reply.{Reply}
+use Rattle.script_run.specs.declared.script_run.ScriptRun.{ScriptRun}
 use Rattle.shacl_run.specs.declared.status.Status.{Status}
 use Rattle.shacl_run.specs.declared.status.Status.TheVariants.{WriteFault}
 use Rattle.shacl_run.specs.inner.Ends.{Ends}
-use Rattle.shacl_run.specs.inner.Reply.{Replies, reply_text}
+use Rattle.script_run.specs.Replies.{Replies, reply_text}
 use Rattle.shacl_run.specs.inner.Serving.{due_at, LinesAreReadAt, TakesStep}
-use Rattle.shacl_run.specs.inner.Validation.{IsScriptRun}
-use Rattle.shacl_run.specs.Manner.{Manner}
+use Rattle.script_run.specs.Stored.{IsScriptRun}
+use Rattle.script_run.specs.Manner.{Manner}
 use Rattle.shacl_run.specs.Outside.{Outside, counts}
 use Rattle.shacl_run.specs.Run.{Output, fed_text}
 use Rattle.shacl_run.specs.RunClauses.{StopsFed}
-use Rattle.shacl_run.specs.Script.{Step, step_text, serve_lines}
-use Rattle.shacl_run.specs.ScriptState.{ScriptState}
-use Rattle.shacl_run.specs.Work.{and_then, no_work}
+use Rattle.script_run.specs.Script.{Step, step_text, serve_lines}
+use Rattle.script_run.specs.ScriptState.{ScriptState}
+use Rattle.script_run.specs.Work.{and_then, no_work}
 use Rattle.shacl_run.proofs.EndLemmas.{Ends-after, Ends-short, PutsFirst}
 use Rattle.shacl_run.proofs.ServingLemmas.{left_of-start, not_both}
-use Rattle.shacl_run.proofs.WorkLemmas.{NoneFell-by}
+use Rattle.script_run.proofs.WorkLemmas.{NoneFell-by}
 
 -- ---- what was put, whatever is due
 

@@ -20,7 +20,7 @@ use Rattle.shacl_run.specs.RunClauses.{HasCauses, IsRead, OpensInTurn, StaysWith
 use Rattle.shacl_run.specs.RunClauses.{ShapesAreReadBy}
 use Rattle.shacl_run.specs.Status.{IsAnswered, IsReported, IsCutShort}
 use Rattle.shacl_run.specs.Verdict.{Verdict}
-use Rattle.shacl_run.specs.Work.{Work, evaluating, no_work}
+use Rattle.script_run.specs.Work.{Work, evaluating, no_work}
 use Rattle.command_words.specs.Words.{command_words}
 use Rattle.shacl_run.proofs.EndLemmas.{cut_or_answered}
 

@@ -19,9 +19,9 @@ use Rattle.shacl_run.specs.declared.status.Status.TheVariants.{Memory as no_memo
 use Rattle.shacl_run.specs.declared.stop.Stop.{Stop}
 use Rattle.shacl_run.specs.declared.stop.Stop.TheVariants.{Input, Write, Memory}
 use Rattle.shacl_run.specs.inner.Ends.{Ends}
-use Rattle.shacl_run.specs.inner.Reply.{open_notice}
-use Rattle.shacl_run.specs.inner.Validation.{IsScriptRun}
-use Rattle.shacl_run.specs.declared.script_run.ScriptRun.{ScriptRun}
+use Rattle.shacl_run.specs.inner.Serving.{open_notice}
+use Rattle.script_run.specs.Stored.{IsScriptRun}
+use Rattle.script_run.specs.declared.script_run.ScriptRun.{ScriptRun}
 use Rattle.shx_term.specs.declared.edit.Edit.{Edit}
 use Rattle.shx_term.specs.declared.limits.Limits.{Limits}
 use Rattle.std.specs.declared.alloc.Global.{Global}
@@ -29,12 +29,12 @@ use Rattle.std.specs.Option.{option_map}
 use Rattle.shacl_run.specs.inner.Stops.{StopCause, end_status, stop_status}
 use Rattle.shacl_run.specs.Outside.{Outside, counts}
 use Rattle.shacl_run.specs.Run.{Output, dropped_text, ending, status_of_rows, status_of_state}
-use Rattle.shacl_run.specs.ScriptState.{ScriptState}
+use Rattle.script_run.specs.ScriptState.{ScriptState}
 use Rattle.shacl_run.specs.Status.{IsAnswered, IsReported}
-use Rattle.shacl_run.specs.Work.{NoneFell}
+use Rattle.script_run.specs.Work.{NoneFell}
 use Rattle.shacl_run.proofs.EndLemmas.{answered_apart, cut_or_answered, Ends-input, Ends-memory, Ends-short}
 use Rattle.shacl_run.proofs.EndLemmas.{Ends-whole}
-use Rattle.shacl_run.proofs.WorkLemmas.{still_work}
+use Rattle.script_run.proofs.WorkLemmas.{still_work}
 
 pub rows_answered : (rows : List ResultRow) → IsAnswered (status_of_rows rows)
 rows_answered [] = tt

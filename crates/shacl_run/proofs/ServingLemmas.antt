@@ -17,30 +17,33 @@ use Rattle.text_output.specs.declared.format.Format.{Format}
 use Rattle.ttl_meaning.specs.State.{State}
 use Rattle.script_lines.specs.declared.command.Command.{Command}
 use Rattle.script_lines.specs.declared.command.Command.TheVariants.{Edit as edits, Report, Count, Begin}
-use Rattle.script_lines.specs.declared.command.Command.TheVariants.{Commit, Abandon, Undo, Redo, Nothing}
+use Rattle.script_lines.specs.declared.command.Command.TheVariants.{Commit, Abandon, Undo, Redo, Slice}
+use Rattle.script_lines.specs.declared.command.Command.TheVariants.{Nothing}
 use Rattle.script_lines.specs.declared.fault.LineFault.{LineFault}
 use Rattle.script_lines.specs.declared.fault.LineFault.TheVariants as fault
 use Rattle.shx_term.specs.declared.edit.Edit.{Edit}
 use Rattle.edit_history.specs.declared.net.Net.{Net}
 use Rattle.edit_history.specs.History.{redo_change, undo_change}
+use Rattle.comp_core.specs.declared.pair.Pair.{Pair}
 use Rattle.edit_engine.specs.Edits.{net_of}
+use Rattle.edit_engine.specs.NamedPairs.{pair_in}
 use Rattle.edit_engine.specs.Nets.{Outcome, NoEffect, PastTriples, PastTerms, Effect, outcome}
 use Rattle.report_write.specs.declared.answer.Answer.TheVariants.{Queued}
 use Rattle.shacl_run.specs.Run.{Output, behind, ending, output_from, fed_text}
 use Rattle.shacl_run.specs.RunClauses.{StopsFed}
-use Rattle.shacl_run.specs.Manner.{Manner}
-use Rattle.shacl_run.specs.Readings.{IsReadBehind, LinesAreReadOnce}
-use Rattle.shacl_run.specs.Script.{Served, Step, abandon_step, begin_step, change_step, commit_step}
-use Rattle.shacl_run.specs.Script.{edit_step, edits_step, make_again, past_of, reading_step, redo_step}
-use Rattle.shacl_run.specs.Script.{refusal}
-use Rattle.shacl_run.specs.Script.{script_step, serve_lines, stays, step_text, take_back, undo_step}
-use Rattle.shacl_run.specs.Script.Said.{answers}
-use Rattle.shacl_run.specs.ScriptState.{ScriptState}
+use Rattle.script_run.specs.Manner.{Manner}
+use Rattle.script_run.specs.LineReadings.{IsReadBehind, LinesAreReadOnce}
+use Rattle.script_run.specs.Script.{Served, Step, abandon_step, begin_step, change_step, commit_step}
+use Rattle.script_run.specs.Script.{edit_step, edits_step, make_again, past_of, reading_step, redo_step}
+use Rattle.script_run.specs.Script.{refusal, script_step, serve_lines, slice_step, stays, step_text}
+use Rattle.script_run.specs.Script.{take_back, undo_step}
+use Rattle.script_run.specs.Script.Said.{answers}
+use Rattle.script_run.specs.ScriptState.{ScriptState}
 use Rattle.shacl_run.specs.inner.Serving.{due_at, Prefixed, Feeds, LinesAreReadAt, ReadsOn, TakesStep}
-use Rattle.shacl_run.specs.Work.{Work, and_then}
+use Rattle.script_run.specs.Work.{Work, and_then}
 use Rattle.shacl_run.proofs.EndLemmas.{append_none}
 use Rattle.shacl_run.proofs.LineReadingLemmas.{read_too_long}
-use Rattle.shacl_run.proofs.WorkLemmas.{and_then_assoc}
+use Rattle.script_run.proofs.WorkLemmas.{and_then_assoc}
 
 behind_both : (front more : List ℕ) (first later : Work) (o : Output)
     → behind (front ++ more) (and_then first later) o ≡ behind front first (behind more later o)
@@ -116,6 +119,10 @@ redo_end : (limits : Limits) (s : ScriptState) (group : Option (List Edit))
 redo_end limits s None = again_end s (redo_change (past_of limits s))
 redo_end limits s (Some waiting) = refl
 
+slice_end : (s : ScriptState) (found : Option Pair) → EndsAlike s (slice_step s found)
+slice_end s None = refl
+slice_end s (Some p) = refl
+
 -- no line changes what the names of later lines mean
 step_end : (limits : Limits) (s : ScriptState) (reading : Result Command LineFault)
     → EndsAlike s (reading_step limits s reading)
@@ -127,6 +134,7 @@ step_end limits s (Ok Undo) = undo_end limits s s.group
 step_end limits s (Ok Redo) = redo_end limits s s.group
 step_end limits s (Ok Report) = refl
 step_end limits s (Ok Count) = refl
+step_end limits s (Ok (Slice shape node)) = slice_end s (pair_in s.plan s.graph shape node)
 step_end limits s (Ok Nothing) = refl
 step_end limits s (Err (fault.Line code at)) = refl
 step_end limits s (Err fault.Memory) = refl

@@ -16,7 +16,7 @@ use Rattle.text_output.specs.declared.format.Format.{Format}
 use Rattle.text_output.specs.Writes.{Put, FellShort}
 use Rattle.ttl_meaning.specs.State.{State}
 use Rattle.script_lines.specs.declared.fault.LineFault.TheVariants as line_fault
-use Rattle.shacl_run.specs.declared.validation.Validation.{Validation}
+use Rattle.script_run.specs.declared.validation.Validation.{Validation}
 use Rattle.shacl_run.specs.declared.status.Status.{Status}
 use Rattle.shacl_run.specs.declared.status.Status.TheVariants.{WriteFault}
 use Rattle.shacl_run.specs.declared.stop.Stop.{Stop}
@@ -25,21 +25,22 @@ use Rattle.shacl_run.specs.inner.Ends.{Ends}
 use Rattle.shape_eval.specs.Report.{report}
 use Rattle.shacl_run.specs.Run.{Output, Opening, behind, ending, output_from, validation_output, script_text}
 use Rattle.shacl_run.specs.Outside.{Outside, counts}
-use Rattle.shacl_run.specs.Run.{dropped_text, fed_text, first_text, first_work}
+use Rattle.script_run.specs.Script.{first_work}
+use Rattle.shacl_run.specs.Run.{dropped_text, fed_text, first_text}
 use Rattle.shacl_run.specs.Run.{opening_output, opening_fed, status_of_rows}
-use Rattle.shacl_run.specs.Manner.{Manner}
-use Rattle.shacl_run.specs.Readings.{IsReadBehind}
+use Rattle.script_run.specs.Manner.{Manner}
+use Rattle.script_run.specs.LineReadings.{IsReadBehind}
 use Rattle.shacl_run.specs.Run.Opening.{ends, opens}
 use Rattle.shacl_run.specs.RunClauses.{StopsFed}
-use Rattle.shacl_run.specs.Script.{Served, serve_lines}
-use Rattle.shacl_run.specs.ScriptState.{ScriptState}
+use Rattle.script_run.specs.Script.{Served, serve_lines}
+use Rattle.script_run.specs.ScriptState.{ScriptState}
 use Rattle.shacl_run.specs.inner.Serving.{due_at, HaveReadings, Prefixed, PutsReport}
 use Rattle.shacl_run.specs.inner.Stops.{end_status}
-use Rattle.shacl_run.specs.inner.Validation.{IsValidation}
-use Rattle.shacl_run.specs.Work.{Work, and_then}
+use Rattle.script_run.specs.Stored.{IsValidation}
+use Rattle.script_run.specs.Work.{Work, and_then}
 use Rattle.shacl_run.proofs.EndLemmas.{Ends-after, Ends-memory, Ends-short, Ends-whole}
 use Rattle.shacl_run.proofs.ServedLemmas.{rows_answered}
-use Rattle.shacl_run.proofs.WorkLemmas.{NoneFell-by, and_then-no_work}
+use Rattle.script_run.proofs.WorkLemmas.{NoneFell-by, and_then-no_work}
 
 -- what is put in the format of a validation is put in that of the run
 pub puts_in : (manner : Manner) (s : ScriptState) (validation : Validation) (before after : SinkState)

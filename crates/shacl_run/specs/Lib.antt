@@ -1,15 +1,9 @@
 pub mod Admits
 pub mod Complete
-pub mod Manner
-pub mod Names
 pub mod Outside
 pub mod Readings
 pub mod Run
 pub mod RunClauses
-pub mod Script
-pub mod ScriptState
 pub mod Status
-pub mod Undone
 pub mod Verdict
-pub mod Work
 pub mod inner

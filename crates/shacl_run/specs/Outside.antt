@@ -2,7 +2,7 @@
 -- and where the two counters of evaluations stand.
 use Rattle.std.specs.Prelude.{ℕ}
 use Rattle.shx_outside.specs.Outside.{InputState, SinkState, PatternState}
-use Rattle.shacl_run.specs.Work.{Work, evaluating}
+use Rattle.script_run.specs.Work.{Work, evaluating}
 
 pub record Outside : Type 0 where
   pub inputs : InputState

@@ -1,6 +1,6 @@
 -- What the texts are read as: what the shapes and the data state over the numbers of their terms, or their
 -- fault; and what each line of the script asks for, or its fault.
-use Rattle.std.specs.Prelude.{◌≡◌, ℕ, ◌<◌, ◌≤◌, false, All, List, length, Option, None, Some, IfSome, Result}
+use Rattle.std.specs.Prelude.{◌≡◌, ℕ, ◌<◌, ◌≤◌, false, All, List, length, Option, None, Some, IfSome}
 use Rattle.shx_outside.specs.declared.flags.Flags.{Flags}
 use Rattle.shx_outside.specs.Outside.{FlaggedText}
 use Rattle.shx_term.specs.declared.limits.Limits.{Limits}
@@ -13,17 +13,13 @@ use Rattle.shx_term.specs.TripleTerms.{terms_of, numbered_all}
 use Rattle.shx_term.specs.Vocabulary.{vocabulary}
 use Rattle.graph_view.specs.Graph.{Graph, AllKnown, graph_of}
 use Rattle.text_input.specs.Lines.{script_lines}
-use Rattle.ttl_meaning.specs.declared.document.Document.{Document}
 use Rattle.ttl_meaning.specs.State.{State}
 use Rattle.ttl_read.specs.Documents.{Setting, setting}
 use Rattle.ttl_read.specs.Unique.{IsOneDocument, IsOneFault}
 use Rattle.shape_decl.specs.Declarations.{declarations}
 use Rattle.shape_compile.specs.Patterns.{AreAdmitted}
-use Rattle.script_lines.specs.declared.command.Command.{Command}
-use Rattle.script_lines.specs.declared.fault.LineFault.{LineFault}
-use Rattle.script_lines.specs.Lines.{IsLineRead}
-use Rattle.shacl_run.specs.Manner.{LineReadings}
-use Rattle.shacl_run.specs.Names.{HasNamesOf}
+use Rattle.script_run.specs.LineReadings.{IsReadBehind}
+use Rattle.script_run.specs.Manner.{LineReadings}
 use Rattle.shacl_run.specs.Verdict.{Verdict, IsRefusedAt, IsVerdict, plans, refuses_pattern, stops}
 
 -- a document: its graph, and the state at its end, with the base, the prefixes and the blank nodes that hold
@@ -111,24 +107,6 @@ DataIsRead limits base readings verdict text =
     → verdict ≡ plans plan → IsReadAs limits base Data document.terms bytes readings.data_text)
 
 -- ---- the script
-
--- a line is read so behind a data text that ends like this
-pub record IsReadBehind (limits : Limits) (end : State) (line : List ℕ) (reading : Result Command LineFault)
-    : Type 0 where
-  pub document : Document
-  pub names : HasNamesOf end document
-  pub read : IsLineRead limits document line reading
-
--- it has no other
-abbrev pub LinesAreReadOnce : Type 0
-LinesAreReadOnce =
-    (limits : Limits) (end : State) (line : List ℕ) (a b : Result Command LineFault)
-    → IsReadBehind limits end line a → IsReadBehind limits end line b → a ≡ b
-
--- it has such a reading
-abbrev pub HasReading : Limits → State → List ℕ → Type 0
-HasReading limits end line =
-    (reading : Result Command LineFault) × IsReadBehind limits end line reading
 
 -- each line of the script is read so, where it is told, the shapes have a plan and the data text is a
 -- document

@@ -11,8 +11,7 @@ use Rattle.graph_view.specs.Graph.{Graph}
 use Rattle.graph_view.specs.Key.{look}
 use Rattle.comp_core.specs.declared.row.ResultRow.{ResultRow}
 use Rattle.shape_eval.specs.Plan.{Planned}
-use Rattle.shape_eval.specs.Report.{pairs, report}
-use Rattle.edit_engine.specs.Remembered.{nested_count}
+use Rattle.shape_eval.specs.Report.{report}
 use Rattle.shx_term.specs.declared.vocabulary.TheConstants.{SH_SPARQL}
 use Rattle.shx_term.specs.declared.term.Term.{Term}
 use Rattle.text_input.specs.Lines.{script_lines, fed_lines}
@@ -27,13 +26,13 @@ use Rattle.shacl_run.specs.declared.status.Status.TheVariants.{Conforms, Violate
 use Rattle.shacl_run.specs.declared.status.Status.TheVariants.{LinesRefused}
 use Rattle.command_words.specs.Asked.{Asked}
 use Rattle.command_words.specs.Words.{command_words}
-use Rattle.shacl_run.specs.Manner.{Manner}
+use Rattle.script_run.specs.Manner.{Manner}
 use Rattle.shacl_run.specs.Readings.{Readings, TextReading, States, Faulty, Long, stated_graph}
 use Rattle.shacl_run.specs.Verdict.{Verdict, obstacle_answer, plans, stops}
-use Rattle.shacl_run.specs.Script.{said_text, serve_lines}
-use Rattle.shacl_run.specs.Script.Said.{reports}
-use Rattle.shacl_run.specs.ScriptState.{ScriptState, start_state}
-use Rattle.shacl_run.specs.Work.{Work, and_then, evaluating, no_work}
+use Rattle.script_run.specs.Script.{first_work, said_text, serve_lines}
+use Rattle.script_run.specs.Script.Said.{reports}
+use Rattle.script_run.specs.ScriptState.{ScriptState, start_state}
+use Rattle.script_run.specs.Work.{Work, and_then, no_work}
 
 -- what is written, how the run ends, and the work that it takes
 pub record Output : Type 0 where
@@ -96,10 +95,6 @@ notice_text format count = if count == 0 then [] else answer_text format [] (Not
 -- a notice, and the report of a state
 abbrev pub first_text : Format → ℕ → ScriptState → List ℕ
 first_text format notices s = notice_text format notices ++ said_text format s reports
-
--- for it each pair is evaluated, and each nested one
-abbrev pub first_work : ScriptState → Work
-first_work s = evaluating (length (pairs s.plan s.graph)) (nested_count s.plan s.graph)
 
 -- the same, and then the answers to a script
 abbrev pub validation_output : Manner → ℕ → ScriptState → List ℕ → Output

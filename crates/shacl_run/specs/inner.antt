@@ -1,12 +1,10 @@
 -- Words by which only the inside of this crate is proved: nothing that a caller relies on cites them.
-pub mod Changing
 pub mod Ends
 pub mod Files
 pub mod Judging
 pub mod Obstacles
 pub mod Prepared
 pub mod Refusal
-pub mod Reply
 pub mod Serving
 pub mod Stops
 pub mod Turtle

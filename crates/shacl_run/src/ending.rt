@@ -2,14 +2,19 @@
 ghost use Rattle.std.specs.Prelude.{◌≡◌, ◌≢◌, Some};
 ghost use Rattle.shacl_run.specs.inner.Ends.{Ends};
 ghost use Rattle.shacl_run.specs.Outside.{Outside};
-ghost use Rattle.shacl_run.specs.Run.{refused, status_of_rows};
+ghost use Rattle.shacl_run.specs.Run.{refused, status_of_rows, status_of_state};
 ghost use Rattle.shacl_run.specs.Status.{IsReported};
+ghost use Rattle.script_run.specs.Manner.{Manner};
+ghost use Rattle.script_run.specs.ScriptState.{ScriptState};
+ghost use Rattle.script_run.specs.Stored.{IsScriptRun};
 ghost use Rattle.shacl_run.specs.inner.Stops.{end_status};
 
 use crate::status::Status;
 use crate::stop::Stop;
 use comp_core::ResultRow;
+use edit_engine::same_graphs_answer_alike;
 use report_write::{Answer, Format, write_answer};
+use script_run::ScriptRun;
 use shx_outside::Sink;
 use shx_term::Pool;
 
@@ -35,6 +40,23 @@ pub fn status_of_rows(rows: &[ResultRow]) -> Status
     ensures { result ≡ status_of_rows rows.now }
 {
     if rows.is_empty() {
+        Status::Conforms
+    } else {
+        Status::Violates
+    }
+}
+
+/// How a run ends of whose script this was the last line.
+pub fn status_of_script(script: &ScriptRun) -> Status
+    ensures is { (manner : Manner) (s : ScriptState)
+        → IsScriptRun manner.limits manner.format s script.now → result ≡ status_of_state s }
+    ensures reported { IsReported result }
+{
+    same_graphs_answer_alike();
+    let _ = script.engine.view();
+    if script.refused {
+        Status::LinesRefused
+    } else if script.engine.conforms() {
         Status::Conforms
     } else {
         Status::Violates

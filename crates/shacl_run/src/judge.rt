@@ -15,10 +15,10 @@ ghost use Rattle.shacl_run.specs.inner.Validation.{HasNoWide};
 
 use crate::obstacle::{check_refusal, compile_refusal};
 use crate::refusal::Refusal;
-use crate::stored_graph::StoredGraph;
 use crate::turtle::read_turtle;
 use crate::unopened::Unopened;
 use graph_view::GraphView;
+use script_run::StoredGraph;
 use shape_check::check_shapes;
 use shape_compile::compile;
 use shape_decl::sparql_count;

@@ -11,24 +11,23 @@ ghost use Rattle.report_write.specs.declared.answer.Answer.TheVariants.{TooLong}
 ghost use Rattle.shacl_run.specs.Outside.{Outside, outside};
 ghost use Rattle.shacl_run.specs.Run.{fed_text, refused};
 ghost use Rattle.shacl_run.specs.RunClauses.{StopsFed};
-ghost use Rattle.shacl_run.specs.ScriptState.{ScriptState};
-ghost use Rattle.shacl_run.specs.Manner.{Manner};
-ghost use Rattle.shacl_run.specs.Names.{HasNamesOf};
+ghost use Rattle.script_run.specs.ScriptState.{ScriptState};
+ghost use Rattle.script_run.specs.Manner.{Manner};
+ghost use Rattle.script_run.specs.Names.{HasNamesOf};
 ghost use Rattle.ttl_meaning.specs.State.{State};
-ghost use Rattle.shacl_run.specs.inner.Reply.{open_notice};
+ghost use Rattle.shacl_run.specs.inner.Serving.{open_notice};
 ghost use Rattle.shacl_run.specs.inner.Serving.{due_at, HaveReadings, LinesAreReadAt};
-ghost use Rattle.shacl_run.specs.inner.Validation.{IsScriptRun, MayGoOn};
+ghost use Rattle.script_run.specs.Stored.{IsScriptRun, MayGoOn};
 ghost use Rattle.shacl_run.specs.Status.{IsAnswered, IsReported};
 ghost use Rattle.shacl_run.specs.inner.Stops.{end_status};
 
-use crate::ending::refuse;
-use crate::reply::write_reply;
-use crate::script_run::ScriptRun;
+use crate::ending::{refuse, status_of_script};
 use crate::status::Status;
 use crate::stop::Stop;
 use crate::take_line::{Taken, take_line};
 use graph_view::GraphView;
 use report_write::{Answer, write_answer};
+use script_run::{ScriptRun, write_reply};
 use shx_outside::{Inputs, Role, Sink};
 use shx_term::{Limits, Steps};
 use std::alloc::Global;
@@ -81,7 +80,7 @@ pub fn serve<I: Inputs, O: Sink, K: Ledger, L: Ledger>(
             Taken::Replied(reply) => write_reply(reply, script, out)?,
             Taken::End => {
                 write_dropped(script, out)?;
-                return Ok(script.status());
+                return Ok(status_of_script(script));
             }
             Taken::PastLimit => return refuse_script(script, out),
         }

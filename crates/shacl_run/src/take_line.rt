@@ -4,17 +4,15 @@ ghost use Rattle.shx_outside.specs.Told.{IsAtEnd};
 ghost use Rattle.ttl_meaning.specs.State.{State};
 ghost use Rattle.text_input.specs.ScriptReader.{left_of, GoesOn, MetEnd, ReadsLine, StopsInLine};
 ghost use Rattle.shacl_run.specs.inner.Stops.{StopCause};
-ghost use Rattle.shacl_run.specs.ScriptState.{ScriptState};
-ghost use Rattle.shacl_run.specs.Work.{NoneFell, evaluating};
-ghost use Rattle.shacl_run.specs.Manner.{Manner};
-ghost use Rattle.shacl_run.specs.Names.{HasNamesOf};
+ghost use Rattle.script_run.specs.ScriptState.{ScriptState};
+ghost use Rattle.script_run.specs.Work.{NoneFell, evaluating};
+ghost use Rattle.script_run.specs.Manner.{Manner};
+ghost use Rattle.script_run.specs.Names.{HasNamesOf};
 ghost use Rattle.shacl_run.specs.inner.Serving.{GivesReadings, LinesAreReadAt, TakesLine, TakesBytes};
-ghost use Rattle.shacl_run.specs.inner.Validation.{IsScriptRun, MayGoOn};
+ghost use Rattle.script_run.specs.Stored.{IsScriptRun, MayGoOn};
 
-use crate::read_once::lines_are_read_once;
-use crate::reply::{Reply, refuse_line, reply_to};
-use crate::script_run::ScriptRun;
 use crate::stop::Stop;
+use script_run::{Reply, ScriptRun, lines_are_read_once, refuse_line, reply_to};
 use shx_outside::Inputs;
 use shx_term::fault_codes::LINE_TOO_LONG;
 use shx_term::{Limits, Steps};
@@ -23,12 +21,20 @@ use std::sync::ledger::Ledger;
 use text_input::{Line, ReadFault, ScriptReader};
 
 /// What came of a line.
-#[derive(Clone, Copy, Debug)]
 pub enum Taken {
     Replied(Reply),
     End,
     /// The script goes on past its limit.
     PastLimit,
+}
+
+impl Drop for Taken {
+    fn drop(self) {
+        match self {
+            Taken::Replied(_reply) => {}
+            Taken::End | Taken::PastLimit => {}
+        }
+    }
 }
 
 /// Takes the next line of the script and does what it asks for.

@@ -13,7 +13,7 @@ use Rattle.shacl_run.specs.declared.status.Status.TheVariants.{InputFault, Write
 use Rattle.shacl_run.specs.Outside.{Outside, counts}
 use Rattle.shacl_run.specs.Run.{Output, refused}
 use Rattle.shacl_run.specs.Status.{IsAnswered, IsCutShort, IsReported}
-use Rattle.shacl_run.specs.Work.{NoneFell, and_then}
+use Rattle.script_run.specs.Work.{NoneFell, and_then}
 
 -- the bytes put, the status and the work are those that are due, where these are told; no counter falls
 pub record PutsWhole (due : Option Output) (status : Status) (before after : Outside) : Type 0 where

@@ -17,7 +17,7 @@ use Rattle.shacl_run.specs.declared.refusal.Refusal.{Refusal}
 use Rattle.shacl_run.specs.declared.refusal.Refusal.TheVariants.{Text, Cut}
 use Rattle.shacl_run.specs.declared.unopened.Unopened.{Unopened}
 use Rattle.shacl_run.specs.declared.unopened.Unopened.TheVariants as unopened
-use Rattle.shacl_run.specs.declared.validation.Validation.{Validation}
+use Rattle.script_run.specs.declared.validation.Validation.{Validation}
 use Rattle.shacl_run.specs.Readings.{TextReading, States, Faulty, Long, IsReadAs, stated_graph}
 use Rattle.shacl_run.specs.Run.{passed_over}
 use Rattle.shacl_run.specs.RunClauses.{RoseWhere}

@@ -1,29 +1,37 @@
 -- A run within a script: what is due from a state on, and what taking a line gives.
-use Rattle.std.specs.Prelude.{◌≡◌, ℕ, ◌+◌, ◌<◌, true, false, All, List, ◌∷◌, ◌++◌, Option, Some, IfSome}
-use Rattle.std.specs.Prelude.{Result, Ok, Err}
+use Rattle.std.specs.Prelude.{◌≡◌, ℕ, ◌+◌, ◌<◌, true, false, All, List, [], ◌∷◌, ◌++◌, Option, None, Some}
+use Rattle.std.specs.Prelude.{IfSome, Result, Ok, Err}
 use Rattle.std.specs.Option.{option_map}
 use Rattle.shx_outside.specs.Outside.{SinkState}
 use Rattle.text_output.specs.declared.format.Format.{Format}
 use Rattle.shx_term.specs.declared.limits.Limits.{Limits}
+use Rattle.shx_term.specs.declared.term.Term.{Term}
 use Rattle.ttl_meaning.specs.State.{State}
-use Rattle.shacl_run.specs.Manner.{LineReadings, Manner}
-use Rattle.shacl_run.specs.Readings.{IsReadBehind}
+use Rattle.script_run.specs.Manner.{LineReadings, Manner}
+use Rattle.script_run.specs.LineReadings.{IsReadBehind}
 use Rattle.text_input.specs.Lines.{HasNoFeed, script_lines}
 use Rattle.text_input.specs.ScriptReader.{ReaderState, left_of}
 use Rattle.text_output.specs.Writes.{Put, FellShort}
-use Rattle.shacl_run.specs.declared.script_run.ScriptRun.{ScriptRun}
+use Rattle.script_run.specs.declared.script_run.ScriptRun.{ScriptRun}
 use Rattle.shacl_run.specs.declared.status.Status.{Status}
 use Rattle.shacl_run.specs.declared.stop.Stop.{Stop}
 use Rattle.shacl_run.specs.declared.stop.Stop.TheVariants.{Input, Write, Memory}
 use Rattle.shacl_run.specs.declared.take_line.Taken.{Taken}
 use Rattle.shacl_run.specs.declared.take_line.Taken.TheVariants.{Replied, End, PastLimit}
 use Rattle.shape_eval.specs.Report.{report}
-use Rattle.shacl_run.specs.inner.Reply.{Replies}
-use Rattle.shacl_run.specs.Run.{Output, behind, ending, first_text, first_work, output_from, status_of_rows}
-use Rattle.shacl_run.specs.Script.{Step, step_text, script_step}
-use Rattle.shacl_run.specs.ScriptState.{ScriptState}
-use Rattle.shacl_run.specs.inner.Validation.{IsScriptRun}
-use Rattle.shacl_run.specs.Work.{Work, and_then}
+use Rattle.report_write.specs.declared.answer.Answer.TheVariants.{GroupDropped}
+use Rattle.report_write.specs.Answers.{answer_text}
+use Rattle.script_run.specs.Replies.{Replies}
+use Rattle.shacl_run.specs.Run.{Output, behind, ending, first_text, output_from, status_of_rows}
+use Rattle.script_run.specs.Script.{Step, first_work, step_text, script_step}
+use Rattle.script_run.specs.ScriptState.{ScriptState}
+use Rattle.script_run.specs.Stored.{IsScriptRun}
+use Rattle.script_run.specs.Work.{Work, and_then}
+
+-- the notice that a group was open at the end
+abbrev pub open_notice : {X : Type 0} → Format → List Term → Option X → List ℕ
+open_notice format terms None = []
+open_notice format terms (Some waiting) = answer_text format terms GroupDropped
 
 -- the output that is due from a state on, where the rest of the script is told
 abbrev pub due_at : Manner → ScriptState → ℕ → Option (List ℕ) → Option Output

@@ -9,7 +9,7 @@ use Rattle.shx_term.specs.declared.term.Term.{Term}
 use Rattle.ttl_meaning.specs.declared.document.Document.{Document}
 use Rattle.ttl_meaning.specs.State.{State}
 use Rattle.shacl_run.specs.Readings.{States, IsReadAs}
-use Rattle.shacl_run.specs.Names.{HasNamesOf}
+use Rattle.script_run.specs.Names.{HasNamesOf}
 
 -- what a text is read for whose blank nodes have this scope
 abbrev pub role_of : Scope → Role

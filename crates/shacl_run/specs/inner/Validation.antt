@@ -1,68 +1,27 @@
--- A validation, and a run of its script: shapes and the data graph as they are stored, and how far the script
--- has come.
-use Rattle.std.specs.Prelude.{◌≡◌, ◌<◌, nat_eq, false, List, [], All, length, IfSome, None}
+-- What a validation is opened of: terms without wide literals, a plan that targets its own shapes, and a text
+-- that is read.
+use Rattle.std.specs.Prelude.{◌≡◌, ◌<◌, nat_eq, List, All, length}
 use Rattle.std.specs.List.{IsDistinct}
-use Rattle.std.specs.Option.{option_map}
-use Rattle.shx_term.specs.Edit.{IsValidEdit}
 use Rattle.shx_term.specs.declared.limits.Limits.{Limits}
 use Rattle.shx_term.specs.declared.term.Term.{Term}
 use Rattle.shx_term.specs.ValidTriples.{IsNotWide}
 use Rattle.graph_view.specs.Graph.{Graph}
-use Rattle.graph_view.specs.ListGraph.{plain_graph}
-use Rattle.graph_view.specs.SameGraph.{SameGraph}
 use Rattle.ttl_meaning.specs.State.{State}
-use Rattle.shape_eval.specs.Nested.{nested_pairs}
 use Rattle.shape_eval.specs.Plan.{Planned}
-use Rattle.shape_eval.specs.Planned.{plan_of}
-use Rattle.edit_engine.specs.Course.{IsCourse}
-use Rattle.edit_engine.specs.MayBeAsked.{MayBeAsked}
-use Rattle.edit_engine.specs.Remembered.{AreAllRecalled, answer_of}
-use Rattle.shacl_run.specs.declared.script_run.ScriptRun.{ScriptRun}
-use Rattle.shacl_run.specs.declared.validation.Validation.{Validation}
+use Rattle.script_run.specs.declared.validation.Validation.{Validation}
 use Rattle.text_output.specs.declared.format.Format.{Format}
-use Rattle.shacl_run.specs.Names.{HasNamesOf}
 use Rattle.shacl_run.specs.Readings.{TextReading, States, stated_graph}
-use Rattle.shacl_run.specs.Script.{past_of}
-use Rattle.shacl_run.specs.ScriptState.{ScriptState, start_state}
+use Rattle.script_run.specs.ScriptState.{start_state}
+use Rattle.script_run.specs.Stored.{IsValidation}
 
 -- no literal is wide
 abbrev pub HasNoWide : List Term → Type 0
 HasNoWide terms = All IsNotWide terms
 
--- ---- before the script
-
--- the limits of the graph are those of the run
-pub record HasLimits (limits : Limits) (validation : Validation) : Type 0 where
-  pub triples : validation.graph.limit ≡ limits.triples
-  pub terms : validation.graph.pool.limit ≡ limits.terms
-
--- no line was answered and no change made, and the nested pairs of the graph are to be remembered
-pub record IsStart (s : ScriptState) : Type 0 where
-  pub kept : s.kept ≡ nested_pairs s.plan s.graph
-  pub group : s.group ≡ None
-  pub changes : s.changes ≡ []
-  pub made : s.made ≡ 0
-  pub line : s.line ≡ 0
-  pub refused : s.refused ≡ false
-
--- the validation stores the state before the first line, with the limits and the format of the run
-pub record IsValidation (limits : Limits) (format : Format) (s : ScriptState) (validation : Validation)
-    : Type 0 where
-  pub stores : SameGraph s.graph (plain_graph validation.graph)
-  pub names_are : HasNamesOf s.data_end validation.document
-  pub plan_is : plan_of validation.plan ≡ s.plan
-  pub start : IsStart s
-  pub limits_are : HasLimits limits validation
-  pub format_is : validation.format ≡ format
-
 -- a plan targets shapes of its own, each once
 pub record TargetsItsOwn (plan : Planned) : Type 0 where
   pub within : All (λ n. n < length plan.shapes) plan.targeted
   pub once : IsDistinct nat_eq plan.targeted
-
--- its plan may be asked of its graph
-abbrev pub Stands : Validation → Type 0
-Stands validation = MayBeAsked (plan_of validation.plan) (plain_graph validation.graph)
 
 -- the text is read as a document, and the validation stores its graph
 pub record OpensFor (limits : Limits) (format : Format) (plan : Planned) (reading : TextReading)
@@ -71,28 +30,3 @@ pub record OpensFor (limits : Limits) (format : Format) (plan : Planned) (readin
   pub end : State
   pub is : reading ≡ States document end
   pub stored : IsValidation limits format (start_state (stated_graph document) end plan) validation
-
--- ---- within the script
-
--- the run of the script keeps the state, with the limits and the format of the run
-pub record IsScriptRun (limits : Limits) (format : Format) (s : ScriptState) (script : ScriptRun) : Type 0
-  where
-    pub stores : SameGraph s.graph script.engine.graph
-    pub names_are : HasNamesOf s.data_end script.document
-    pub plan_is : script.engine.plan ≡ s.plan
-    pub kept_is : AreAllRecalled (answer_of script.engine.remembered) s.kept
-    pub group_is : option_map (λ waiting. waiting.items) script.group ≡ s.group
-    pub history_is : script.history ≡ past_of limits s
-    pub line_is : script.line ≡ s.line
-    pub refused_is : script.refused ≡ s.refused
-    pub triples : script.engine.triple_limit ≡ limits.triples
-    pub terms : script.engine.term_limit ≡ limits.terms
-    pub format_is : script.format ≡ format
-
--- what is true of each run of a script: the edits that wait are valid, and the changes that are made can be
--- taken back and those that were taken back made again
-pub record MayGoOn (script : ScriptRun) : Type 0 where
-  pub group : IfSome script.group (λ waiting. All IsValidEdit waiting.items)
-  pub course : IsCourse script.engine.triple_limit script.engine.graph script.history.changes
-      script.history.cursor
-  pub staged : script.history.staged ≡ None

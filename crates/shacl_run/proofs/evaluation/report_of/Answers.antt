@@ -2,8 +2,9 @@ use Rattle.std.specs.Prelude.{Err, Ok, OnOk, Result}
 use Rattle.std.proofs.lemmas.Result.{IfOk-weaker}
 use Rattle.graph_view.specs.ListGraph.{plain_graph}
 use Rattle.shape_eval.specs.Planned.{plan_of}
-use Rattle.shacl_run.specs.Work.{evaluating}
-use Rattle.shacl_run.proofs.ValidationLemmas.{rows-validation, work-validation}
+use Rattle.script_run.specs.Work.{evaluating}
+use Rattle.script_run.proofs.ValidationLemmas.{work-validation}
+use Rattle.shacl_run.proofs.ValidationLemmas.{rows-validation}
 use Rattle.shacl_run.proofs.evaluation.report_of.Goals as goal
 
 -- of two facts that hold where a call answers

@@ -10,7 +10,7 @@ use Rattle.shacl_run.specs.declared.status.Status.TheVariants.{InputFault}
 use Rattle.shacl_run.specs.declared.stop.Stop.TheVariants.{Input, Memory, Write}
 use Rattle.shacl_run.specs.inner.Serving.{due_at}
 use Rattle.shacl_run.specs.inner.Stops.{end_status}
-use Rattle.shacl_run.specs.Names.{HasNamesOf}
+use Rattle.script_run.specs.Names.{HasNamesOf}
 use Rattle.shacl_run.specs.Outside.{outside}
 use Rattle.shacl_run.specs.Run.{validation_output}
 use Rattle.shacl_run.proofs.EndLemmas.{Ends-input, Ends-memory, passed_on}
@@ -289,3 +289,6 @@ returns-clause-once g c =
 
 pub returns-clause-others : goal.returns-clause-others
 returns-clause-others g c = OthersStay-then c.open-2.ensures.others c.serve.ensures.others
+
+pub returns-clause-read_to_end : goal.returns-clause-read_to_end
+returns-clause-read_to_end g c = λ reported opened. c.serve.ensures.read_to_end reported

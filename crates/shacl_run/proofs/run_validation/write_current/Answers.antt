@@ -5,8 +5,8 @@ use Rattle.shape_eval.specs.Report.{report}
 use Rattle.report_write.specs.ReportTexts.{report_text}
 use Rattle.text_output.specs.Writes.{Writes}
 use Rattle.shacl_run.specs.Run.{first_text, notice_text}
-use Rattle.shacl_run.proofs.RowsLemmas.{count_to_come, items_to_come}
-use Rattle.shacl_run.proofs.ScriptRunLemmas.{report_said}
+use Rattle.script_run.proofs.RowsLemmas.{count_to_come, items_to_come}
+use Rattle.script_run.proofs.ScriptRunLemmas.{report_said}
 use Rattle.shacl_run.proofs.run_validation.write_current.Goals as goal
 
 pub write_first-requires : goal.write_first-requires

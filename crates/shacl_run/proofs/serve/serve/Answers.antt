@@ -11,10 +11,9 @@ use Rattle.shacl_run.specs.declared.status.Status.TheVariants.{BadWords, InputFa
 use Rattle.shacl_run.specs.declared.stop.Stop.TheVariants.{Write}
 use Rattle.shacl_run.specs.declared.take_line.Taken.{Taken}
 use Rattle.shacl_run.specs.inner.Ends.{Ends}
-use Rattle.shacl_run.specs.inner.Reply.{open_notice}
-use Rattle.shacl_run.specs.inner.Serving.{due_at}
+use Rattle.shacl_run.specs.inner.Serving.{due_at, open_notice}
 use Rattle.shacl_run.specs.inner.Stops.{end_status, stop_status}
-use Rattle.shacl_run.specs.Names.{HasNamesOf}
+use Rattle.script_run.specs.Names.{HasNamesOf}
 use Rattle.shacl_run.specs.Outside.{outside}
 use Rattle.shacl_run.specs.Run.{refused}
 use Rattle.shacl_run.proofs.EndLemmas.{Ends-from_still, Ends-told, IsStill, passed_on, input_stop}
@@ -176,12 +175,12 @@ returns-in-End-clause-ends g c = λ manner s patterns same is lines.
     let put = c.in_ok-write_dropped-in-End.ensures.ok in
     let script = c.take_line.new.script in
     let text = open_notice script.format script.engine.graph.terms script.group in
-    let status = c.status.result in
+    let status = c.status_of_script.result in
     by_told (before.rest Script)
     (λ script. Ends (due_at manner s c.args.limits.now.script script) status start after)
     ((l.invariant.puts patterns).onward status after
-    (Ends-answered status text at after (reported_answered status c.status.ensures.reported) quiet put
-    c.in_ok-taken.ensures.risen))
+    (Ends-answered status text at after (reported_answered status c.status_of_script.ensures.reported) quiet
+    put c.in_ok-taken.ensures.risen))
     (λ bytes told.
     let reached = l.invariant.reached manner s patterns bytes same is told lines in
     let due = due_at manner reached.state l.reader.budget (left_of l.reader (inputs.rest Script)) in
@@ -189,7 +188,7 @@ returns-in-End-clause-ends g c = λ manner s patterns same is lines.
     reached.lines in
     let told_put = subst (Put at.sink after.sink)
     (notice_is manner.limits manner.format reached.state script taken.0) put in
-    rw (c.status.ensures.is manner reached.state taken.0)
+    rw (c.status_of_script.ensures.is manner reached.state taken.0)
     (reached.onward _ after
     (Ends-last due manner.format reached.state at after taken.1.due quiet taken.2 told_put)))
 
@@ -201,18 +200,19 @@ returns-in-End-clause-causes g c = λ patterns.
     patterns c.take_line.new.nested c.take_line.new.steps in
     let script = c.take_line.new.script in
     let text = open_notice script.format script.engine.graph.terms script.group in
-    let status = c.status.result in
+    let status = c.status_of_script.result in
     (l.invariant.puts patterns).onward status after
-    (Ends-answered status text at after (reported_answered status c.status.ensures.reported)
+    (Ends-answered status text at after (reported_answered status c.status_of_script.ensures.reported)
     c.in_ok-taken.ensures.cause c.in_ok-write_dropped-in-End.ensures.ok c.in_ok-taken.ensures.risen)
 
 pub returns-in-End-clause-fed : goal.returns-in-End-clause-fed
 returns-in-End-clause-fed g c = λ manner s same is lines failed.
-    absurd (reported_apart c.status.result InputFault c.status.ensures.reported (λ no. no) failed)
+    absurd (reported_apart c.status_of_script.result InputFault c.status_of_script.ensures.reported
+    (λ no. no) failed)
 
 pub returns-in-End-clause-words : goal.returns-in-End-clause-words
 returns-in-End-clause-words g c =
-    reported_apart c.status.result BadWords c.status.ensures.reported (λ no. no)
+    reported_apart c.status_of_script.result BadWords c.status_of_script.ensures.reported (λ no. no)
 
 pub returns-in-End-clause-read : goal.returns-in-End-clause-read
 returns-in-End-clause-read g c = λ answered end names.

@@ -3,12 +3,12 @@ use Rattle.shx_outside.specs.declared.role.Role.TheVariants.{Script}
 use Rattle.shx_outside.specs.Outside.{PatternState}
 use Rattle.text_input.specs.ScriptReader.{new_reader, left_of, GoesOn}
 use Rattle.ttl_meaning.specs.State.{State}
-use Rattle.shacl_run.specs.Manner.{Manner}
-use Rattle.shacl_run.specs.Names.{HasNamesOf}
+use Rattle.script_run.specs.Manner.{Manner}
+use Rattle.script_run.specs.Names.{HasNamesOf}
 use Rattle.shacl_run.specs.Outside.{outside}
-use Rattle.shacl_run.specs.ScriptState.{ScriptState}
+use Rattle.script_run.specs.ScriptState.{ScriptState}
 use Rattle.shacl_run.specs.inner.Serving.{HaveReadings, LinesAreReadAt}
-use Rattle.shacl_run.specs.inner.Validation.{IsScriptRun, MayGoOn}
+use Rattle.script_run.specs.Stored.{IsScriptRun, MayGoOn}
 use Rattle.shacl_run.proofs.ReachedLemmas.{PutsOn, Reached}
 use Rattle.shacl_run.proofs.serve.serve.Given as goal
 

@@ -2,10 +2,10 @@ use Rattle.std.proofs.Common.{◌≡◌, ◌<◌, None, length, sym, subst, arit
 use Rattle.shx_outside.specs.declared.role.Role.TheVariants.{Script}
 use Rattle.shx_term.specs.declared.fault_codes.TheConstants.{LINE_TOO_LONG}
 use Rattle.text_input.specs.ScriptReader.{left_of}
-use Rattle.shacl_run.specs.Manner.{Manner}
-use Rattle.shacl_run.specs.Readings.{HasReading}
-use Rattle.shacl_run.specs.Script.{reading_step, refusal}
-use Rattle.shacl_run.specs.Work.{evaluating}
+use Rattle.script_run.specs.Manner.{Manner}
+use Rattle.script_run.specs.LineReadings.{HasReading}
+use Rattle.script_run.specs.Script.{reading_step, refusal}
+use Rattle.script_run.specs.Work.{evaluating}
 use Rattle.shacl_run.proofs.LineReadingLemmas.{reads_too_long, readings_none, readings_with}
 use Rattle.shacl_run.proofs.ServingLemmas.{TakesStep-line, end_met, step_once, step_too_long}
 use Rattle.shacl_run.proofs.take_line.take_line.Goals as goal
@@ -65,6 +65,15 @@ returns-in-TooLong-clause-taken g c = λ manner s same is lines.
           (λ first. limits.line < length first) (refusal s LINE_TOO_LONG None)
           (step_too_long manner s limits same) lines read.0 c.next_line.ensures.goes_on.stays_ended,
     )
+
+pub returns-in-TooLong-clause-goes_on_still : goal.returns-in-TooLong-clause-goes_on_still
+returns-in-TooLong-clause-goes_on_still g c =
+    (c.refuse_line.ensures.moves c.requires.goes_on (evaluating 0 0)).goes_on
+
+pub returns-in-TooLong-clause-bytes : goal.returns-in-TooLong-clause-bytes
+returns-in-TooLong-clause-bytes g c =
+    let read = rw c.in-TooLong.is at c.in_ok-line.ensures.line in
+    (read.1, (c.refuse_line.ensures.moves c.requires.goes_on (evaluating 0 0)).line)
 
 pub returns-in-TooLong-clause-read : goal.returns-in-TooLong-clause-read
 returns-in-TooLong-clause-read g c = λ end names.

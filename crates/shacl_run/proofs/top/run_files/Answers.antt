@@ -3,14 +3,14 @@ use Rattle.std.specs.Option.{option_map}
 use Rattle.shx_outside.specs.declared.role.Role.TheVariants.{Data, Script}
 use Rattle.command_words.specs.Asked.{asked_of}
 use Rattle.text_output.specs.declared.format.Format.{Format}
-use Rattle.shacl_run.specs.declared.validation.Validation.{Validation}
+use Rattle.script_run.specs.declared.validation.Validation.{Validation}
 use Rattle.shacl_run.specs.inner.Serving.{HaveReadings}
 use Rattle.shacl_run.specs.inner.Stops.{end_status}
-use Rattle.shacl_run.specs.inner.Validation.{IsValidation}
+use Rattle.script_run.specs.Stored.{IsValidation}
 use Rattle.shacl_run.specs.Outside.{outside}
 use Rattle.shacl_run.specs.Run.{manner_of, refused, script_text, validation_output}
 use Rattle.shacl_run.specs.RunClauses.{IsOpenedBy}
-use Rattle.shacl_run.specs.ScriptState.{ScriptState}
+use Rattle.script_run.specs.ScriptState.{ScriptState}
 use Rattle.shacl_run.proofs.EndLemmas.{Ends-beside, Ends-told}
 use Rattle.shacl_run.proofs.FilesLemmas.{by_pattern, files_opened, files_refused, opened_read}
 use Rattle.shacl_run.proofs.FilesLemmas.{refused_read}

@@ -1,0 +1,10 @@
+pub mod ChangingLemmas
+pub mod HistoryLemmas
+pub mod NamesLemmas
+pub mod RowsLemmas
+pub mod ScriptRunLemmas
+pub mod SliceLemmas
+pub mod StandsWellLemmas
+pub mod UndoneLemmas
+pub mod ValidationLemmas
+pub mod WorkLemmas

@@ -1,0 +1,10 @@
+pub mod LineReadings
+pub mod Manner
+pub mod Names
+pub mod Replies
+pub mod Script
+pub mod ScriptState
+pub mod Stored
+pub mod Undone
+pub mod Work
+pub mod inner

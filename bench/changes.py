@@ -1,13 +1,14 @@
 #!/usr/bin/env python3
 """Groups of edits, undo and redo. Run it at the top of the repository.
 
-    bench/changes.py [check [SCRIPTS [LINES]]]    generated scripts (200 of 120 lines) beside another reading: a
-                                 list of graphs as sets of triples. Each answer is compared; each report is that
-                                 of a run over the graph, written out, without a script. Ends with 1 at the first
-                                 script that is answered otherwise, and prints it.
-    bench/changes.py groups [COUNT ..]    a group of 1000 and of 10000 edits over so many triples (1000000), beside
-                                 the same edits one by one, and taken back and made again
-    bench/changes.py readers [COUNT ..]   a group that touches one key that so many pairs read (100000), and undo
+    bench/changes.py [check [SCRIPTS [LINES]]]    generated scripts (200 of 120 lines) beside another reading:
+                                 a list of graphs as sets of triples. Each answer is compared; each report is
+                                 that of a run over the graph, written out, without a script. Ends with 1 at
+                                 the first script that is answered otherwise, and prints it.
+    bench/changes.py groups [COUNT ..]    a group of 1000 and of 10000 edits over so many triples (1000000),
+                                 beside the same edits one by one, and taken back and made again
+    bench/changes.py readers [COUNT ..]   a group that touches one key that so many pairs read (100000), and
+                                 undo
 """
 import os
 import random
@@ -103,7 +104,8 @@ class Reading:
 
 def lines_of(dice, count):
     """Lines of a script: mostly edits, and groups of a few or of many."""
-    words = ["insert"] * 5 + ["remove"] * 4 + ["begin", "commit", "commit", "abandon"] + ["undo"] * 3 + ["redo"] * 2
+    edits = ["insert"] * 5 + ["remove"] * 4
+    words = [*edits, "begin", "commit", "commit", "abandon", *["undo"] * 3, *["redo"] * 2]
     for _ in range(count):
         word = dice.choice(words)
         yield f"{word} {triple(dice)} ." if word in ("insert", "remove") else word
@@ -115,7 +117,8 @@ def lines_of(dice, count):
 
 def output(folder, graph, script=None):
     """What the program writes over a graph, by lines."""
-    texts = [os.path.join(folder, "shapes"), write(folder, "data", [PREFIXES, *(f"{t} .\n" for t in sorted(graph))])]
+    data = [PREFIXES, *(f"{t} .\n" for t in sorted(graph))]
+    texts = [os.path.join(folder, "shapes"), write(folder, "data", data)]
     if script is not None:
         texts.append(write(folder, "script", [f"{line}\n" for line in script]))
     return subprocess.run([PROGRAM, *texts], stdout=subprocess.PIPE, check=False).stdout.decode().splitlines()
@@ -166,7 +169,8 @@ def groups(folder, count):
         group = ["begin\n", *edits, "commit\n"]
         back = ["undo\n", "redo\n"] * 5
         took = [seconds(folder, ORDERS, data, lines)[0] - opened for lines in (edits, group, [*group, *back])]
-        print(f"| {size} edits over {count} triples | {took[0]:.2f} | {took[1]:.2f} | {(took[2] - took[1]) / 10:.3f} |")
+        turned = (took[2] - took[1]) / 10
+        print(f"| {size} edits over {count} triples | {took[0]:.2f} | {took[1]:.2f} | {turned:.3f} |")
 
 
 def readers(folder, count):

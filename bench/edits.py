@@ -147,7 +147,8 @@ def main():
                 beside_jena(folder, count)
             return
         texts, counts, name = KINDS[kind]
-        print("| data | no script, processor s | empty one | edits | peak MB | with edits | changed | pairs |")
+        print("| data | no script, processor s | empty one | edits | peak MB ", end="")
+        print("| with edits | changed | pairs |")
         print("|---" * 8 + "|")
         for count in [int(word) for word in words] or counts:
             measure(folder, f"{count} {name}", *texts_of(folder, *texts(count)))

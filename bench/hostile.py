@@ -95,7 +95,8 @@ def chain_of_nodes(n):
 def failing_diamonds(n):
     """n nodes at a shape that asks the next one twice, by two paths, 30 deep, and fails"""
     shapes = [
-        f"e:s{at} sh:property [ sh:path e:p ; sh:node e:s{at + 1} ] , [ sh:path e:q ; sh:node e:s{at + 1} ] .\n"
+        f"e:s{at} sh:property [ sh:path e:p ; sh:node e:s{at + 1} ] ,\n"
+        f"    [ sh:path e:q ; sh:node e:s{at + 1} ] .\n"
         for at in range(30)
     ]
     shapes.append("e:s0 sh:targetSubjectsOf e:start . e:s30 sh:nodeKind sh:Literal .\n")
@@ -159,7 +160,8 @@ def diamonds(n):
     """n shapes, each of which asks the next one twice"""
     n = min(n, 120)
     shapes = [f"e:s{at} sh:and ( e:s{at + 1} [ sh:node e:s{at + 1} ] ) .\n" for at in range(n // 2)]
-    return "e:s0 sh:targetNode e:a .\n" + "".join(shapes) + f"e:s{n // 2} sh:nodeKind sh:IRI .\n", "e:a e:p e:b .\n"
+    last = f"e:s{n // 2} sh:nodeKind sh:IRI .\n"
+    return "e:s0 sh:targetNode e:a .\n" + "".join(shapes) + last, "e:a e:p e:b .\n"
 
 
 def overlapping_targets(n):

@@ -1,6 +1,6 @@
 #!/usr/bin/env python3
-"""Writes data for the shapes of people.ttl: typed persons, companies and addresses of four to eight properties
-each, under classes of two levels.
+"""Writes data for the shapes of people.ttl: typed persons, companies and addresses of four to eight
+properties each, under classes of two levels.
 
     people.py COUNT     about so many triples, of which some violate a shape
 """
@@ -11,7 +11,8 @@ PREFIXES = """@prefix e: <http://people.example/> .
 @prefix x: <http://www.w3.org/2001/XMLSchema#> .
 """
 CLASSES = """e:Person rdfs:subClassOf e:Agent . e:Company rdfs:subClassOf e:Agent .
-e:Employee rdfs:subClassOf e:Person . e:Manager rdfs:subClassOf e:Person . e:Startup rdfs:subClassOf e:Company .
+e:Employee rdfs:subClassOf e:Person . e:Manager rdfs:subClassOf e:Person .
+e:Startup rdfs:subClassOf e:Company .
 """
 KINDS = ("Person", "Employee", "Employee", "Manager")
 # Triples of ten persons, their addresses, and a company, on average.
@@ -28,13 +29,15 @@ def person(i, count):
     yield f'  e:mail "person{i}{" at " if fault == 3 else "@"}people.example" ;\n'
     if i % 3 == 0:
         yield f'  e:motto "ever on {i}"@en , "immer {i}"@{"en" if fault == 9 else "de"} ;\n'
-    yield f'  e:born "{1950 + i % 50}-0{i % 9 + 1}-1{i % 10}"^^x:date ; e:joined "20{i % 10 + 10}-05-01"^^x:date ;\n'
+    yield f'  e:born "{1950 + i % 50}-0{i % 9 + 1}-1{i % 10}"^^x:date ;'
+    yield f' e:joined "20{i % 10 + 10}-05-01"^^x:date ;\n'
     if i % 4:
         yield f"  e:worksFor e:{'person' if fault == 5 else 'company'}{i // 10} ;\n"
     yield f"  e:knows e:person{(i * 13 + 5) % count} ;\n"
     yield f"  e:address e:address{i} .\n"
     yield f'e:address{i} a e:Address ; e:street "Street {i % 997}" ; e:city e:city{i % 211} ;\n'
-    yield f'  e:code "{"" if fault == 7 else 10000 + i % 80000}" ; e:country "{"ZZ" if fault == 8 else "DE"}" .\n'
+    yield f'  e:code "{"" if fault == 7 else 10000 + i % 80000}" ;'
+    yield f' e:country "{"ZZ" if fault == 8 else "DE"}" .\n'
 
 
 def company(i, count):

@@ -1,0 +1,120 @@
+#!/usr/bin/env python3
+"""Runs what docs/USE.md and docs/DIFFERENCES.md show, and compares what comes with what stands there. Run it
+at the top of the repository, where the program was built.
+
+    bench/page_runs.py                  prints what differs, and ends with 1 where something does
+    bench/page_runs.py --program PATH   the same with another program
+
+Of USE.md, each block of `sh` is run in a folder with the files that the page shows before; what stands right
+behind it is its output. A block with a program that is not installed (serdi, rapper, roqet, RDFLib) is left
+out. Of DIFFERENCES.md, each block has shapes, and data below `# data`.
+"""
+import os
+import re
+import shutil
+import subprocess
+import sys
+import tempfile
+
+HERE = os.path.dirname(os.path.abspath(__file__))
+TOP = os.path.dirname(HERE)
+PROGRAM = os.path.join(TOP, "crates", "shacl_keep", "out", "shacl_keep")
+BLOCK = re.compile(r"^```(\w*)\n(.*?)^```\n", re.S | re.M)
+# A text that ends with the name of a file says what the block behind it is.
+NAMED = re.compile(r"(?:file|files|and)\s\*\*([\w.]+)\*\*:?\s*$")
+OTHERS = ("serdi", "rapper", "roqet")
+RDFLIB = "/usr/bin/python3 -m rdflib"
+# Files that USE.md speaks of and does not show.
+GIVEN = {
+    "data.rdf": """<rdf:RDF xmlns:rdf="http://www.w3.org/1999/02/22-rdf-syntax-ns#" xmlns:ex="ex:">
+  <ex:Course rdf:about="ex:tea"><ex:title xml:lang="en">Tea</ex:title></ex:Course>
+</rdf:RDF>
+""",
+    "data.jsonld": '{ "@context": { "ex": "ex:" }, "@id": "ex:oil", "ex:title": "Oil" }\n',
+}
+
+
+def page(name):
+    with open(os.path.join(TOP, "docs", name), encoding="utf-8") as text:
+        return text.read()
+
+
+def blocks(text):
+    """The blocks of a page: the text before each, its word, and what it holds."""
+    end = 0
+    for found in BLOCK.finditer(text):
+        yield text[end : found.start()], found[1], found[2]
+        end = found.end()
+
+
+def write(folder, name, text):
+    with open(os.path.join(folder, name), "w", encoding="utf-8", newline="") as out:
+        out.write(text)
+
+
+def is_installed(commands):
+    if any(re.search(rf"\b{other} -", commands) and not shutil.which(other) for other in OTHERS):
+        return False
+    return RDFLIB not in commands or subprocess.run(
+        ["/usr/bin/python3", "-c", "import rdflib"], stderr=subprocess.DEVNULL, check=False
+    ).returncode == 0
+
+
+def said(words, folder):
+    """What a command writes, its errors too."""
+    found = dict(os.environ, PATH=os.path.join(folder, "bin") + ":" + os.environ["PATH"])
+    into = {"stdout": subprocess.PIPE, "stderr": subprocess.STDOUT}
+    return subprocess.run(words, cwd=folder, env=found, check=False, timeout=60, **into).stdout.decode()
+
+
+def difference(shown, due, came):
+    return f"{shown}what stands there:\n{due}what came:\n{came}"
+
+
+def use_differs(folder):
+    """Runs the commands of USE.md one after the other."""
+    found = list(blocks(page("USE.md"))) + [("end", "", "")]
+    for (before, word, text), (between, next_word, due) in zip(found, found[1:]):
+        named = NAMED.search(before)
+        if word == "sh" and is_installed(text):
+            came = said(["bash", "-c", text], folder)
+            due = due if not between.strip() and not next_word else ""
+            if came != due:
+                yield difference(text, due, came)
+        elif word == "sh":
+            print(f"left out, since a program is not installed:\n{text}")
+        elif named:
+            write(folder, named[1], text)
+
+
+def differences_differ(folder):
+    """Runs the examples of DIFFERENCES.md."""
+    (_, _, prefixes), *found = blocks(page("DIFFERENCES.md"))
+    for (_, word, text), (_, _, due) in zip(found, found[1:]):
+        if word == "turtle":
+            shapes, data = text.split("# data\n")
+            write(folder, "shapes", prefixes + shapes)
+            write(folder, "data", prefixes + data)
+            came = said(["shacl_keep", "shapes", "data"], folder)
+            if came != due:
+                yield difference(text, due, came)
+
+
+def main():
+    program = os.path.abspath(sys.argv[2] if sys.argv[1:2] == ["--program"] else PROGRAM)
+    bad = 0
+    for differs in (use_differs, differences_differ):
+        with tempfile.TemporaryDirectory() as folder:
+            os.mkdir(os.path.join(folder, "bin"))
+            os.symlink(program, os.path.join(folder, "bin", "shacl_keep"))
+            for name, text in GIVEN.items():
+                write(folder, name, text)
+            for why in differs(folder):
+                bad += 1
+                print(why)
+    print(f"{bad} differ")
+    sys.exit(1 if bad else 0)
+
+
+if __name__ == "__main__":
+    main()

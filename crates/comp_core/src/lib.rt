@@ -11,7 +11,7 @@
 //! | `detail.rt` | `Details`: the results on which a result rests |
 //! | `results.rt` | results as most components give them |
 //! | `asking.rt` | asking about a node at some shapes |
-//! | `lookup.rt` | `Lookup`: numbers that are looked up again and again |
+//! | `lookup.rt`, `held.rt` | `Lookup`: numbers that are looked up again and again, and how they are held |
 //! | `kinds.rt` | `Kind`: the number of a component, and a constant for each |
 //! | `table.rt` | `AnswerTable`: answers that are given beforehand, for tests of components |
 //!

@@ -3,7 +3,10 @@
 //!
 //! | file | what it holds |
 //! |---|---|
-//! | `tests/rows.rt` | the tables of blocks: nesting, value nodes, all components in one shape, targets |
+//! | `tests/rows.rt` | the tables of blocks, and how a block is written |
+//! | `tests/rows/nesting.rt`, `tests/rows/values.rt` | how results nest; value nodes |
+//! | `tests/rows/together.rt`, `tests/rows/targets.rt` | all components in one shape; target nodes |
+//! | `tests/rows/worked.rt`, `tests/rows/wrong.rt` | runs worked out elsewhere; blocks that are not so |
 //! | `tests/rows/components.rt` | the tables of components, one file a section of SHACL |
 //! | `tests/terms.rt` | the terms of the tables, and their numbers |
 //! | `tests/cells.rt`, `tests/row.rt` | the cells of a block, and of a row |

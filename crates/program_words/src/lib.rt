@@ -1,5 +1,9 @@
 //! The words of a program's command line, as the system gives them.
 //!
+//! | file | what it holds |
+//! |---|---|
+//! | `no_words.rt` | `NoWords`: why a program has none |
+//!
 //! It stands on `shx_term` for texts and want of memory. Start with `words_of`.
 #![tactic(auto)]
 

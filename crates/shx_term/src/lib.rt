@@ -17,6 +17,7 @@
 //! | `limits.rt` | `Limits` |
 //! | `fault_codes.rt` | the codes of faults, with their names: one table |
 //! | `steps.rt` | `Steps`: a counter that takes no memory and no time |
+//! | `memory.rt` | `Memory`: want of memory |
 //!
 //! It stands on `indexmap` and `itoa`. Start with `term.rt` and `pool.rt`; `specs/TermOrder.antt` has the
 //! order and `specs/Pool.antt` the words of a pool's contracts.

@@ -36,13 +36,13 @@ class Browser:
                                         stdout=subprocess.DEVNULL, stderr=subprocess.DEVNULL)
         os.close(to_read)
         os.close(to_write)
-        self.left, self.number, self.session = b"", 0, None
+        self.left, self.number, self.tab = b"", 0, None
 
     def begin(self):
         """A new tab, which is asked from now on."""
-        self.session = None
+        self.tab = None
         target = self.ask("Target.createTarget", url="about:blank")["targetId"]
-        self.session = self.ask("Target.attachToTarget", targetId=target, flatten=True)["sessionId"]
+        self.tab = self.ask("Target.attachToTarget", targetId=target, flatten=True)["sessionId"]
         self.ask("Page.enable")
         self.ask("Performance.enable", timeDomain="threadTicks")
 
@@ -64,8 +64,8 @@ class Browser:
         """The answer to a command."""
         self.number += 1
         said = {"id": self.number, "method": method, "params": params}
-        if self.session:
-            said["sessionId"] = self.session
+        if self.tab:
+            said["sessionId"] = self.tab
         os.write(self.to, json.dumps(said).encode() + b"\0")
         while True:
             came = self.message()

@@ -6,6 +6,7 @@ from pathlib import Path
 from typing import NamedTuple
 
 TOP = Path(__file__).resolve().parent.parent.parent
+BUILT = {".git", "out", "__pycache__"}
 
 # A name of Rattle: in definitions it may have hyphens and primes within it.
 NAME = re.compile(r"[^\W\d][\w'-]*")
@@ -28,11 +29,15 @@ class Finding(NamedTuple):
 @cache
 def files():
     """The files of the repository, by their paths from the top, but for those that git leaves aside."""
-    listed = subprocess.run(
-        ["git", "ls-files", "-z", "--cached", "--others", "--exclude-standard"],
-        cwd=TOP, stdout=subprocess.PIPE, check=True,
-    )
-    return sorted(it for it in listed.stdout.decode().split("\0") if it and (TOP / it).is_file())
+    try:
+        listed = subprocess.run(
+            ["git", "ls-files", "-z", "--cached", "--others", "--exclude-standard"],
+            cwd=TOP, stdout=subprocess.PIPE, stderr=subprocess.DEVNULL, check=True,
+        ).stdout.decode().split("\0")
+    except (OSError, subprocess.CalledProcessError):
+        # No git, or a copy that it does not know: what is built stands in folders of these names.
+        listed = [str(it.relative_to(TOP)) for it in TOP.rglob("*") if not BUILT & set(it.parts)]
+    return sorted(it for it in listed if it and (TOP / it).is_file())
 
 
 @cache

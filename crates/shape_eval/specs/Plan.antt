@@ -31,6 +31,14 @@ references shapes i = names_of (slice_get shapes i)
 pub record RefersLower (shapes : List PlanShape) : Type 0 where
   pub lower : (i j : ℕ) → Refers (references shapes) i j → j < i
 
+abbrev pub nodes_of : List PlanShape → List ℕ
+nodes_of shapes = map (λ sh. sh.node) shapes
+
+-- shapes of distinct nodes, each of which names lower ones alone
+pub record IsNumbered (shapes : List PlanShape) : Type 0 where
+  pub refers : RefersLower shapes
+  pub distinct : IsDistinct nat_eq (nodes_of shapes)
+
 -- ---- the numbers in a plan
 
 abbrev pub target_number : Target → ℕ
@@ -79,9 +87,6 @@ pub record IsOrderly (terms : List Term) (sh : PlanShape) : Type 0 where
   pub path : path_nesting sh.path ≤ 64
 
 -- ---- a plan
-
-abbrev pub nodes_of : List PlanShape → List ℕ
-nodes_of shapes = map (λ sh. sh.node) shapes
 
 -- shapes of distinct nodes, none of which stands more than 64 levels high
 pub record IsPlan (terms : List Term) (shapes : List PlanShape) : Type 0 where

@@ -2,8 +2,8 @@
 ghost use Rattle.std.specs.Prelude.{◌≡◌, ◌++◌, ◌<◌, ◌^◌, nat_eq, filter, flat_map, length, position, Some};
 ghost use Rattle.std.specs.Prelude.{slice_get, All, IfOk, OnOk};
 ghost use Rattle.std.specs.List.{IsDistinct};
-ghost use Rattle.shape_eval.specs.Plan.{IsPlan, RefersLower, if_any, is_targeted, nodes_of, number_of};
-ghost use Rattle.shape_eval.specs.Plan.{planned};
+ghost use Rattle.shape_eval.specs.Plan.{IsNumbered, IsPlan, RefersLower, if_any, is_targeted, nodes_of};
+ghost use Rattle.shape_eval.specs.Plan.{number_of, planned};
 ghost use Rattle.shape_eval.specs.Planned.{plan_of};
 
 use crate::{Plan, PlanShape};
@@ -58,6 +58,14 @@ impl Plan {
         ensures within { All (λ n. n < length (plan_of self.now).shapes) result.now }
     {
         &self.targeted
+    }
+
+    /// A law: its shapes are of distinct nodes, and each names lower ones alone. It does nothing.
+    pub fn shapes_are_numbered(&self)
+        ensures { IsNumbered (plan_of self.now).shapes }
+    {
+        // The places are distinct.
+        let _ = self.places.len();
     }
 
     // All shapes. Each names lower ones alone.

@@ -1,6 +1,7 @@
 pub mod FiledLemmas
 pub mod GatheredLemmas
 pub mod MaskLemmas
+pub mod PairLemmas
 pub mod PostingLemmas
 pub mod RangeLemmas
 pub mod ReachedLemmas

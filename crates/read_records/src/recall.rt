@@ -1,12 +1,14 @@
-ghost use Rattle.std.specs.Prelude.{◌≡◌, ◌++◌, [], ◌∷◌, IfOk, OnOk, OnErr};
+ghost use Rattle.std.specs.Prelude.{◌≡◌, ◌++◌, [], ◌∷◌, IsSome, IfOk, OnOk, OnErr};
 ghost use Rattle.std.specs.List.{IsDistinct};
 ghost use Rattle.std.specs.Map.{keys_of, lookup};
 ghost use Rattle.std.specs.Option.{option_map};
+ghost use Rattle.shx_term.specs.InOrder.{Lists};
 ghost use Rattle.comp_core.specs.declared.pair.Pair.{Pair};
 ghost use Rattle.comp_core.specs.Memo.{lent, remembered_of};
 ghost use Rattle.comp_core.specs.Pairs.{same_pair};
 ghost use Rattle.read_records.specs.Recall.{KeepsRecalled, KeepsSame, MasksAtMost, MasksReached};
-ghost use Rattle.read_records.specs.Recall.{StagesAnswer, StagesSame, kept_count, kept_of, recalled};
+ghost use Rattle.read_records.specs.Recall.{StagesAnswer, StagesSame, kept_count, kept_of, pair_cmp};
+ghost use Rattle.read_records.specs.Recall.{recalled};
 ghost use Rattle.read_records.specs.inner.Remembered.{as_remembered};
 
 use crate::Reader;
@@ -81,6 +83,14 @@ impl Recall {
         ensures { result ≡ kept_count self.now }
     {
         self.store.count()
+    }
+
+    /// The pairs whose answers are kept, masked or not, by the numbers of shape and node. It takes linear
+    /// time.
+    pub fn pairs(&self, alloc: Global) -> Result<Vec<Pair>, Memory>
+        ensures { IfOk result (λ pairs. Lists pair_cmp (λ p. IsSome (kept_of self.now p)) pairs.items) }
+    {
+        self.store.pairs(alloc)
     }
 
     /// Masks what is kept of each pair that was read from a key which the triple touches, beside what is

@@ -1,13 +1,15 @@
 //! What is kept for readers, found by reader and by key.
 ghost use Rattle.std.specs.Prelude.{◌≡◌, ◌↔◌, ◌⊎◌, ◌+◌, ◌++◌, [], ◌∷◌, length, filter, is_some};
-ghost use Rattle.std.specs.Prelude.{Contains, IfOk, OnOk, OnErr};
+ghost use Rattle.std.specs.Prelude.{Contains, IsSome, IfOk, OnOk, OnErr};
 ghost use Rattle.std.specs.Bool.{OnTrue, OnFalse};
 ghost use Rattle.std.specs.Map.{values_of};
 ghost use Rattle.std.specs.Option.{option_copied};
 ghost use Rattle.shx_term.specs.InOrder.{Lists};
 ghost use Rattle.graph_view.specs.declared.key.Key.{Key};
 ghost use Rattle.read_records.specs.declared.reader.Reader.{Reader};
+ghost use Rattle.read_records.specs.declared.reader.Reader.TheVariants.{OfPair};
 ghost use Rattle.read_records.specs.Reader.{reader_cmp};
+ghost use Rattle.read_records.specs.Recall.{pair_cmp};
 ghost use Rattle.read_records.specs.Records.{IsTouchedByAny};
 ghost use Rattle.read_records.specs.Store.{MakesStaged, SameNotes, SameStaged, StagesFor};
 ghost use Rattle.read_records.specs.Store.{coming_for, kept_for};
@@ -21,6 +23,7 @@ use crate::notes::{
 };
 use crate::readings::Readings;
 use crate::touched::touched_keys;
+use comp_core::Pair;
 use graph_view::Key;
 use shx_term::{Memory, Triple};
 use std::alloc::{AllocError, AllocFailed, Global};
@@ -102,6 +105,22 @@ impl<T: Drop> Store<T> {
         ensures { result ≡ length (filter (λ noted. is_some noted) (values_of self.now.kept)) }
     {
         self.kept.values().filter(|noted| noted.is_some()).count()
+    }
+
+    /// The pairs for which something is kept, by the numbers of shape and node. It takes linear time.
+    pub(crate) fn pairs(&self, alloc: Global) -> Result<Vec<Pair>, Memory>
+        ensures { IfOk result (λ pairs.
+            Lists pair_cmp (λ p. IsSome (kept_for self.now (OfPair p))) pairs.items) }
+    {
+        let mut pairs = Vec::new(alloc);
+        for (reader, noted) in &self.kept {
+            if let Reader::OfPair(pair) = reader
+                && noted.is_some()
+            {
+                pairs.push(*pair)?;
+            }
+        }
+        Ok(pairs)
     }
 
     /// The readers for which something is kept that was found by a key that one of the triples touches, each

@@ -22,9 +22,10 @@ pub(super) enum Verb {
     Rows,
     All,
     Len,
+    Pairs,
 }
 
-const VERBS: [(&str, Verb); 13] = [
+const VERBS: [(&str, Verb); 14] = [
     ("stage", Verb::Stage),
     ("load", Verb::Load),
     ("remove", Verb::Remove),
@@ -38,6 +39,7 @@ const VERBS: [(&str, Verb); 13] = [
     ("rows", Verb::Rows),
     ("all", Verb::All),
     ("len", Verb::Len),
+    ("pairs", Verb::Pairs),
 ];
 
 /// The first word of a step or a question, and what stands behind it.
@@ -75,6 +77,19 @@ pub(super) fn are_readers(found: &[Reader], words: &str) -> Result<bool, RowFaul
     for at in found {
         let (word, behind) = rest.split_once(' ').unwrap_or((rest, ""));
         if word.is_empty() || reader(word)? != *at {
+            return Ok(false);
+        }
+        rest = behind;
+    }
+    Ok(rest.is_empty())
+}
+
+/// Whether these are the pairs that the words say, in this order.
+pub(super) fn are_pairs(found: &[Pair], words: &str) -> Result<bool, RowFault> {
+    let mut rest = words;
+    for at in found {
+        let (word, behind) = rest.split_once(' ').unwrap_or((rest, ""));
+        if word.is_empty() || pair(word)? != *at {
             return Ok(false);
         }
         rest = behind;

@@ -6,7 +6,7 @@ ghost use Rattle.std.specs.List.{IsDistinct, list_any};
 ghost use Rattle.std.specs.Map.{keys_of};
 ghost use Rattle.comp_core.specs.Pairs.{same_pair};
 
-use super::cells::{Change, Verb, are_said, pair, reads, triple, verb_of};
+use super::cells::{Change, Verb, are_pairs, are_said, pair, reads, triple, verb_of};
 use super::results::{Due, rows_of};
 use comp_core::{Pair, PairAnswer, Recalled, ResultRow};
 use graph_view::Reads;
@@ -90,6 +90,17 @@ stage 1/7 5 | 1.2._; stage 1/8 6 | _.2.4; commit; mask 1.2.3; commit; find 1/8 �
 stage 1/7 5 | 1.2._; stage 1/8 6 | _.2.4; commit; mask 1.2.3; commit; len → 1
 stage 1/7 5 | 1.2._; commit; mask 1.2.3; commit; stage 1/7 6 | 1.2._; commit; find 1/7 → 6 | 1.2._
 
+== the pairs of which something is kept, masked or not, in order
+pairs →
+stage 1/7 5 | 1.2._; pairs →
+stage 1/7 5 | 1.2._; commit; pairs → 1/7
+stage 1/7 5 | 1.2._; commit; stage 1/8 6 | 1.2._; pairs → 1/7
+stage 2/1 5 | 1.2._; stage 1/10 |; stage 1/9 6 | _.2.3; commit; pairs → 1/9 1/10 2/1
+stage 1/7 5 | 1.2._; commit; stage 1/7 6 | 5._._; commit; pairs → 1/7
+stage 1/7 5 | 1.2._; stage 1/8 6 | _.2.4; commit; mask 1.2.3; pairs → 1/7 1/8
+stage 1/7 5 | 1.2._; stage 1/8 6 | _.2.4; commit; mask 1.2.3; commit; pairs → 1/8
+stage 1/7 5 | 1.2._; drop; pairs →
+
 == loaded at once
 load 1/7 5 6 | 1.2._; find 1/7 → 5 6 | 1.2._
 load 1/7 5 6 | 1.2._; find 1/8 → nothing
@@ -99,6 +110,7 @@ load 2/1 5 | 1.2._, 1/9 |, 1/7 6 8 | _.2.3 5._._; find 1/9 → |
 load 2/1 5 | 1.2._, 1/9 |, 1/7 6 8 | _.2.3 5._._; find 1/7 → 6 8 | 5._._ _.2.3
 load 2/1 5 | 1.2._, 1/9 |, 1/7 6 8 | _.2.3 5._._; find 2/7 → nothing
 load 2/1 5 | 1.2._, 1/9 |, 1/7 6 8 | _.2.3 5._._; len → 3
+load 2/1 5 | 1.2._, 1/9 |, 1/7 6 8 | _.2.3 5._._; pairs → 1/7 1/9 2/1
 load 2/1 5 | 1.2._, 1/9 |, 1/7 6 8 | _.2.3 5._._; mask 1.2.3; find 2/1 → nothing
 load 2/1 5 | 1.2._, 1/9 |, 1/7 6 8 | _.2.3 5._._; mask 1.2.4; find 1/7 → 6 8 | _.2.3 5._._
 load 2/1 5 | 1.2._, 1/9 |, 1/7 6 8 | _.2.3 5._._; mask 1.2.3; commit; len → 1
@@ -124,7 +136,7 @@ fn is_answered(alloc: Global, row: &str) -> Result<bool, RowFault> {
             make(alloc, &mut recall, step)?;
         }
     }
-    answers(&recall, question, answer.trim_start())
+    answers(alloc, &recall, question, answer.trim_start())
 }
 
 fn make(alloc: Global, recall: &mut Recall, step: &str) -> Result<(), RowFault> {
@@ -202,11 +214,12 @@ fn mask_change(alloc: Global, recall: &mut Recall, of: &str) -> Result<(), RowFa
     Ok(recall.mask_change(alloc, &change.added, &change.removed)?)
 }
 
-fn answers(recall: &Recall, question: &str, answer: &str) -> Result<bool, RowFault> {
+fn answers(alloc: Global, recall: &Recall, question: &str, answer: &str) -> Result<bool, RowFault> {
     let (verb, of) = verb_of(question)?;
     match verb {
         Verb::Find => is_found(recall.find(&pair(of)?), answer),
         Verb::Len => Ok(recall.len() as u64 == u64::from(number(answer)?)),
+        Verb::Pairs => are_pairs(&recall.pairs(alloc)?, answer),
         _ => Err(RowFault::Unread),
     }
 }

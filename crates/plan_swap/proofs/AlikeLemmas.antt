@@ -8,9 +8,8 @@ use Rattle.std.proofs.lemmas.Option.{slice_get-get_or, slice_get_within}
 use Rattle.shx_term.proofs.MemberLemmas.{each_passes, list_all_of}
 use Rattle.shape_eval.specs.declared.shape.PlanShape.{PlanShape}
 use Rattle.shape_eval.specs.Constraint.{shapes_named}
-use Rattle.shape_eval.specs.Plan.{names_of, nodes_of, number_of, references}
+use Rattle.shape_eval.specs.Plan.{IsNumbered, names_of, nodes_of, number_of, references}
 use Rattle.plan_swap.specs.Alike.{AreAlike, AreAlikeWithin, IsSameShape}
-use Rattle.plan_swap.specs.Renumbered.{IsNumbered}
 use Rattle.plan_swap.specs.inner.Stated.{AreFoundBelow, are_known, is_found}
 use Rattle.plan_swap.proofs.LevelLemmas.{alike_of_node, one_node}
 use Rattle.plan_swap.proofs.PlaceLemmas.{first_place, node_at, node_of_found}

@@ -1,4 +1,4 @@
--- What a constraint finds and reads is a function of its demand and of the shapes that it names.
+-- What a constraint asks, finds and reads is a function of its demand and of the shapes that it names.
 use Rattle.std.specs.Prelude.{◌≡◌, ◌==◌, ◌++◌, ◌&&◌, ℕ, nat_le, Bool, not, List, [], ◌∷◌, true, false}
 use Rattle.std.specs.Prelude.{flat_map, map, length, replicate, None, Option, if◌then◌else◌, slice_get}
 use Rattle.std.specs.List.{list_all, list_any}
@@ -20,7 +20,7 @@ use Rattle.comp_core.specs.declared.kinds.TheConstants.{QUALIFIED_MAX_COUNT, CLO
 use Rattle.comp_core.specs.declared.pair.At.{At}
 use Rattle.comp_core.specs.declared.pair.Pair.{Pair}
 use Rattle.comp_core.specs.declared.row.ResultRow.{ResultRow}
-use Rattle.comp_core.specs.Asking.{asked_keys, conforming_of, conforms, pair_of}
+use Rattle.comp_core.specs.Asking.{asked_keys, conforming_of, conforms, pair_of, pairs_asked}
 use Rattle.comp_core.specs.Results.{each_unless, once_if, resting_on}
 use Rattle.comp_core.specs.Rows.{plain_row}
 use Rattle.comp_core.specs.TermTests.{are_so_at, is_among, is_so_at}
@@ -39,7 +39,7 @@ use Rattle.qualified_shapes.specs.Closed.{closed_at, closed_reads}
 use Rattle.qualified_shapes.specs.Qualified.{qualified_count}
 use Rattle.shape_eval.specs.declared.constraint.Constraint.{Constraint}
 use Rattle.shape_eval.specs.declared.constraint.Constraint.TheVariants as any
-use Rattle.shape_eval.specs.Constraint.{constraint_hits, constraint_reads, shapes_named}
+use Rattle.shape_eval.specs.Constraint.{constraint_asks, constraint_hits, constraint_reads, shapes_named}
 use Rattle.shape_eval.specs.Content.{Content, Demand, Matches, Members, Names, Permits}
 use Rattle.shape_eval.specs.Content.{content_of, demand_of}
 
@@ -261,3 +261,40 @@ module _ (nodes : List ℕ) where
   named_by (any.Closed c) = refl
   named_by (any.HasValue c) = refl
   named_by (any.In c) = refl
+
+-- ---- what it asks
+
+none_asked : (vs : List ℕ) → [] ≡ pairs_asked [] vs
+none_asked [] = refl
+none_asked (v ∷ vs) = none_asked vs
+
+pub asked_by : (c : Constraint) (vs : List ℕ) → constraint_asks c vs ≡ pairs_asked (shapes_named c) vs
+asked_by (any.Class c) vs = none_asked vs
+asked_by (any.Datatype c) vs = none_asked vs
+asked_by (any.NodeKind c) vs = none_asked vs
+asked_by (any.MinCount c) vs = none_asked vs
+asked_by (any.MaxCount c) vs = none_asked vs
+asked_by (any.MinExclusive c) vs = none_asked vs
+asked_by (any.MinInclusive c) vs = none_asked vs
+asked_by (any.MaxExclusive c) vs = none_asked vs
+asked_by (any.MaxInclusive c) vs = none_asked vs
+asked_by (any.MinLength c) vs = none_asked vs
+asked_by (any.MaxLength c) vs = none_asked vs
+asked_by (any.Pattern c) vs = none_asked vs
+asked_by (any.LanguageIn c) vs = none_asked vs
+asked_by (any.UniqueLang c) vs = none_asked vs
+asked_by (any.Equals c) vs = none_asked vs
+asked_by (any.Disjoint c) vs = none_asked vs
+asked_by (any.LessThan c) vs = none_asked vs
+asked_by (any.LessThanOrEquals c) vs = none_asked vs
+asked_by (any.Not c) vs = refl
+asked_by (any.And c) vs = refl
+asked_by (any.Or c) vs = refl
+asked_by (any.Xone c) vs = refl
+asked_by (any.Node c) vs = refl
+asked_by (any.Property c) vs = refl
+asked_by (any.QualifiedMinCount c) vs = refl
+asked_by (any.QualifiedMaxCount c) vs = refl
+asked_by (any.Closed c) vs = none_asked vs
+asked_by (any.HasValue c) vs = none_asked vs
+asked_by (any.In c) vs = none_asked vs

@@ -11,11 +11,10 @@ use Rattle.shape_eval.specs.declared.constraint.Constraint.{Constraint}
 use Rattle.shape_eval.specs.declared.shape.PlanShape.{PlanShape}
 use Rattle.shape_eval.specs.Constraint.{shapes_named}
 use Rattle.shape_eval.specs.Content.{Demand, demand_of}
-use Rattle.shape_eval.specs.Plan.{names_of, nodes_of, number_of, references}
+use Rattle.shape_eval.specs.Plan.{IsNumbered, names_of, nodes_of, number_of, references}
 use Rattle.shape_eval.specs.Results.{reads_within, results_within, shape_reads, shape_results}
 use Rattle.plan_swap.specs.Alike.{AreAlikeWithin, IsAlike}
-use Rattle.plan_swap.specs.Renumbered.{AlikeShapesFindAlike, IsNumbered, new_number}
-use Rattle.plan_swap.specs.Renumbered.{rows_renumbered}
+use Rattle.plan_swap.specs.Renumbered.{AlikeShapesFindAlike, new_number, rows_renumbered}
 use Rattle.plan_swap.proofs.AskedLemmas.{AnswersAlike}
 use Rattle.plan_swap.proofs.DemandLemmas.{named_by, nodes_in}
 use Rattle.plan_swap.proofs.PlaceLemmas.{found_at, node_at, one_place}
@@ -45,7 +44,7 @@ module _ (old new : List PlanShape) where
         one_place (nodes_of old) numbered.distinct i m at.0 (same ∙ at.1) (one_node k m n alike ∙ at.1)
 
     -- the old shape has the number of the new one
-    number_is : (k m n : ℕ) → AreAlikeWithin k old new m n → new_number old new m ≡ n
+    pub number_is : (k m n : ℕ) → AreAlikeWithin k old new m n → new_number old new m ≡ n
     number_is k m n alike =
         let at = node_of_new k m n alike in
         ap (λ node. unwrap_or (option_and_then (number_of new) node) 0) (one_node k m n alike ∙ at.1)
@@ -57,6 +56,25 @@ module _ (old new : List PlanShape) where
     named_of shapes i sh e c held j named =
         subst (λ o. Contains (names_of o) j) (sym e)
         (Contains-flat_map shapes_named sh.constraints.items c j held named)
+
+    -- the shapes that constraints of one demand name are alike in turn
+    pub named_in_turn : (k m n : ℕ) (alike : IsAlike (AreAlikeWithin k old new) old new m n)
+        (c d : Constraint) → Contains alike.before.constraints.items c
+        → Contains alike.after.constraints.items d
+        → demand_of (nodes_of old) c ≡ demand_of (nodes_of new) d
+        → (P : ℕ → ℕ → Type 0) → ((a b : ℕ) → a < m → b < n → AreAlikeWithin k old new a b → P a b)
+        → InTurn P (shapes_named c) (shapes_named d)
+    named_in_turn k m n alike c d held there same P each =
+        in_turn (slice_get (nodes_of old)) (slice_get (nodes_of new)) P (shapes_named c) (shapes_named d)
+        (sym (named_by (nodes_of old) c) ∙ ap (λ (e : Demand). nodes_in e.content) same
+        ∙ named_by (nodes_of new) d)
+        (λ a b stated told one.
+        let named = named_of new n alike.after alike.new_is d there b told in
+        let found = alike.named b named in
+        let here : a ≡ found.0 = alike_of_node k a found.0 b found.1 one in
+        let stood = named_of old m alike.before alike.old_is c held a stated in
+        each a b (numbered.refers.lower m a stood) (renumbered.refers.lower n b named)
+        (subst (λ i. AreAlikeWithin k old new i b) (sym here) found.1))
 
     module _ (g : Graph) where
       abbrev AlikeAt : ℕ → ℕ → ℕ → ℕ → Type 0
@@ -74,18 +92,7 @@ module _ (old new : List PlanShape) where
           in_turn (demand_of (nodes_of old)) (demand_of (nodes_of new)) _ alike.before.constraints.items
           alike.after.constraints.items alike.same.demands (λ c d held there same. record {
             same = same;
-            named =
-                in_turn (slice_get (nodes_of old)) (slice_get (nodes_of new)) _ (shapes_named c)
-                (shapes_named d)
-                (sym (named_by (nodes_of old) c) ∙ ap (λ (e : Demand). nodes_in e.content) same
-                ∙ named_by (nodes_of new) d)
-                (λ a b stated told one.
-                let named = named_of new n alike.after alike.new_is d there b told in
-                let found = alike.named b named in
-                let here : a ≡ found.0 = alike_of_node k a found.0 b found.1 one in
-                let stood = named_of old m alike.before alike.old_is c held a stated in
-                below a b (numbered.refers.lower m a stood) (renumbered.refers.lower n b named)
-                (subst (λ i. AreAlikeWithin k old new i b) (sym here) found.1));
+            named = named_in_turn k m n alike c d held there same (AlikeAt l j) below;
           })
 
       pub finds_alike : (k l j m n : ℕ) → m < l → n < j → AreAlikeWithin k old new m n → AlikeAt l j m n
@@ -114,7 +121,7 @@ module _ (old new : List PlanShape) where
                 ∙ ap (λ o. shape_reads g was o (pair_of node m)) (sym alike.old_is);
           }
 
-within_both : (old new : List PlanShape) (k m n : ℕ) → AreAlikeWithin k old new m n
+pub within_both : (old new : List PlanShape) (k m n : ℕ) → AreAlikeWithin k old new m n
     → (m < length old) × (n < length new)
 within_both old new zero m n alike = absurd alike
 within_both old new (suc k) m n alike =

@@ -3,8 +3,10 @@ pub mod AskedLemmas
 pub mod DemandLemmas
 pub mod FindingLemmas
 pub mod LevelLemmas
+pub mod NestLemmas
 pub mod PlaceLemmas
 pub mod RenumberLemmas
 pub mod SameLemmas
 pub mod ShapeLemmas
+pub mod SwapLemmas
 pub mod TurnLemmas

@@ -1,24 +1,25 @@
 -- The places of nodes where each stands once.
-use Rattle.std.specs.Prelude.{◌≡◌, ◌<◌, ℕ, nat_eq, List, Contains, Some, get_or, length, position}
+use Rattle.std.specs.Prelude.{◌≡◌, ◌<◌, ℕ, nat_eq, Bool, true, List, Some, get_or, length, position}
 use Rattle.std.specs.Prelude.{slice_get}
 use Rattle.std.specs.Cmp.{nat_eq_equiv}
 use Rattle.std.specs.List.{IsDistinct, position_or_len}
 use Rattle.std.specs.Option.{option_map}
-use Rattle.std.proofs.Common.{refl, sym, ap, ◌∙◌, arith, inl, inr, lt-ltb, subst}
+use Rattle.std.proofs.Common.{refl, sym, ap, ◌∙◌, arith, inl, inr, lt-ltb}
 use Rattle.std.proofs.lemmas.Bool.{cases_lt, eqb-true}
 use Rattle.std.proofs.lemmas.Bool.Decides.{Decides-eqb}
 use Rattle.std.proofs.lemmas.List.Quantifiers.{position-Some}
+use Rattle.std.proofs.lemmas.Map.Keys.{any_passes_from_place}
 use Rattle.std.proofs.lemmas.Map.Made.{AllPairs-from_IsDistinct}
-use Rattle.std.proofs.lemmas.Map.Views.{list_any-from_Contains}
 use Rattle.std.proofs.lemmas.Option.{get_or_from_slice_get, slice_get-get_or, slice_get-map, slice_get_within}
 use Rattle.shx_term.proofs.HeldLemmas.{place_of_any}
-use Rattle.shx_term.proofs.MemberLemmas.{Contains-at}
 use Rattle.shape_eval.specs.declared.shape.PlanShape.{PlanShape}
 use Rattle.shape_eval.specs.Plan.{nodes_of}
 
-pub member_at : {X : Type 0} (xs : List X) (i : ℕ) (x : X) → slice_get xs i ≡ Some x → Contains xs x
-member_at xs i x e =
-    subst (Contains xs) (get_or_from_slice_get xs i x x e) (Contains-at xs i x (slice_get_within xs i x e))
+-- where what stands at a place passes a test, a place is found
+pub found_somewhere : {X : Type 0} (p : X → Bool) (xs : List X) (i : ℕ) (x : X) → slice_get xs i ≡ Some x
+    → p x ≡ true → position p xs ≡ Some (position_or_len p xs)
+found_somewhere p xs i x at passes =
+    rw (lt-ltb _ (length xs) (place_of_any p xs (any_passes_from_place p xs i x at passes))) refl
 
 pub node_at : (shapes : List PlanShape) (i : ℕ) (sh : PlanShape) → slice_get shapes i ≡ Some sh
     → slice_get (nodes_of shapes) i ≡ Some sh.node
@@ -33,9 +34,7 @@ module _ (nodes : List ℕ) where
 
   pub first_place : (node i : ℕ) → slice_get nodes i ≡ Some node
       → position (nat_eq node) nodes ≡ Some (position_or_len (nat_eq node) nodes)
-  first_place node i at =
-      let held = list_any-from_Contains nat_eq_equiv node nodes (member_at nodes i node at) in
-      rw (lt-ltb _ (length nodes) (place_of_any (nat_eq node) nodes held)) refl
+  first_place node i at = found_somewhere (nat_eq node) nodes i node at (nat_eq_equiv.refl node)
 
   module _ (once : IsDistinct nat_eq nodes) where
     apart : (i j node : ℕ) → i < j → slice_get nodes i ≡ Some node → slice_get nodes j ≡ Some node → ⊥

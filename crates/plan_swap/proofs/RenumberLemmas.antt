@@ -10,6 +10,7 @@ use Rattle.comp_core.specs.declared.row.ResultRow.{ResultRow}
 use Rattle.comp_core.specs.Results.{each_unless, once_if, resting_on, unless}
 use Rattle.comp_core.specs.Rows.{detail_of, is_empty, row_over}
 use Rattle.plan_swap.specs.Renumbered.{detail_renumbered, row_renumbered, rows_renumbered}
+use Rattle.plan_swap.proofs.TurnLemmas.{beside_itself, parts_in_turn}
 
 module _ (f : ℕ → ℕ) where
   abbrev pub at_renumbered : At → At
@@ -19,11 +20,9 @@ module _ (f : ℕ → ℕ) where
   pub parts_renumber : {A : Type 0} (old new : A → List ResultRow) (xs : List A)
       → ((x : A) → new x ≡ rows_renumbered f (old x))
       → flat_map new xs ≡ rows_renumbered f (flat_map old xs)
-  parts_renumber old new [] each = refl
-  parts_renumber old new (x ∷ xs) each =
-      ap (λ rows. rows ++ flat_map new xs) (each x)
-      ∙ ap (λ rows. rows_renumbered f (old x) ++ rows) (parts_renumber old new xs each)
-      ∙ sym (map-append (row_renumbered f) (old x) (flat_map old xs))
+  parts_renumber old new xs each =
+      parts_in_turn (row_renumbered f) old new xs xs
+      (beside_itself (λ x y. new y ≡ rows_renumbered f (old x)) xs (λ x c. each x))
 
   pub both_renumber : (xs ys cs ds : List ResultRow) → xs ≡ rows_renumbered f cs
       → ys ≡ rows_renumbered f ds → xs ++ ys ≡ rows_renumbered f (cs ++ ds)

@@ -28,7 +28,7 @@ use Rattle.plan_swap.proofs.TurnLemmas.{InTurn}
 -- ---- paths of one route
 
 module _ (g : Graph) where
-  values_same : (p q : Option Path) → option_map route_of p ≡ option_map route_of q → (node : ℕ)
+  pub values_same : (p q : Option Path) → option_map route_of p ≡ option_map route_of q → (node : ℕ)
       → value_nodes g q node ≡ value_nodes g p node
   values_same None None same node = refl
   values_same None (Some path) same node = absurd (cc)

@@ -1,3 +1,4 @@
 pub mod Alike
 pub mod Renumbered
+pub mod Swap
 pub mod inner

@@ -1,13 +1,13 @@
 -- What a shape finds where its number is another one: alike shapes find the same but for that.
-use Rattle.std.specs.Prelude.{◌≡◌, ℕ, List, map, slice_get}
-use Rattle.std.specs.List.{IsDistinct}
-use Rattle.std.specs.Prelude.{nat_eq}
+use Rattle.std.specs.Prelude.{◌≡◌, ℕ, List, Contains, map, slice_get}
 use Rattle.std.specs.Option.{option_and_then, unwrap_or}
 use Rattle.graph_view.specs.Graph.{Graph}
 use Rattle.comp_core.specs.declared.detail.DetailRow.{DetailRow}
+use Rattle.comp_core.specs.declared.pair.Pair.{Pair}
 use Rattle.comp_core.specs.declared.row.ResultRow.{ResultRow}
 use Rattle.shape_eval.specs.declared.shape.PlanShape.{PlanShape}
-use Rattle.shape_eval.specs.Plan.{RefersLower, nodes_of, number_of}
+use Rattle.shape_eval.specs.Nested.{nested_in}
+use Rattle.shape_eval.specs.Plan.{IsNumbered, nodes_of, number_of}
 use Rattle.shape_eval.specs.Report.{at_shape}
 use Rattle.shape_eval.specs.Results.{pair_reads, results}
 use Rattle.plan_swap.specs.Alike.{AreAlike}
@@ -34,12 +34,26 @@ pub record FindsAlike (old new : List PlanShape) (g : Graph) (m n node : ℕ) : 
       ≡ rows_renumbered (new_number old new) (results old g (at_shape m node))
   pub reads : pair_reads new g (at_shape n node) ≡ pair_reads old g (at_shape m node)
 
--- shapes of distinct nodes, each of which names lower ones alone
-pub record IsNumbered (shapes : List PlanShape) : Type 0 where
-  pub refers : RefersLower shapes
-  pub distinct : IsDistinct nat_eq (nodes_of shapes)
-
 abbrev pub AlikeShapesFindAlike : Type 0
 AlikeShapesFindAlike =
     (old new : List PlanShape) → IsNumbered old → IsNumbered new
     → (g : Graph) (m n : ℕ) → AreAlike old new m n → (node : ℕ) → FindsAlike old new g m n node
+
+-- ---- nested pairs
+
+-- the pair of another shape at the same node
+abbrev pub pair_renumbered : (ℕ → ℕ) → Pair → Pair
+pair_renumbered f p = at_shape (f p.shape) p.node
+
+-- nested in the pair of the new shape are those that are nested in that of the old one, under new numbers;
+-- and the shapes of these are alike
+pub record NestsAlike (old new : List PlanShape) (g : Graph) (m n node : ℕ) : Type 0 where
+  pub pairs : nested_in new g (at_shape n node)
+      ≡ map (pair_renumbered (new_number old new)) (nested_in old g (at_shape m node))
+  pub alike : (d : Pair) → Contains (nested_in old g (at_shape m node)) d
+      → AreAlike old new d.shape (new_number old new d.shape)
+
+abbrev pub AlikeShapesNestAlike : Type 0
+AlikeShapesNestAlike =
+    (old new : List PlanShape) → IsNumbered old → IsNumbered new
+    → (g : Graph) (m n : ℕ) → AreAlike old new m n → (node : ℕ) → NestsAlike old new g m n node

@@ -1,9 +1,9 @@
 ghost use Rattle.std.specs.Prelude.{◌≡◌, ◌<◌, ℕ, length, IfOk, MatchOption};
 ghost use Rattle.std.specs.List.{list_all};
 ghost use Rattle.shape_eval.specs.Constraint.{shapes_named};
+ghost use Rattle.shape_eval.specs.Plan.{IsNumbered};
 ghost use Rattle.shape_eval.specs.Planned.{plan_of};
 ghost use Rattle.plan_swap.specs.Alike.{AreAlike, AreAlikes};
-ghost use Rattle.plan_swap.specs.Renumbered.{IsNumbered};
 ghost use Rattle.plan_swap.specs.inner.Stated.{AreFoundBelow, are_known, is_found};
 
 use crate::Alikes;
@@ -17,10 +17,10 @@ use std::alloc::Global;
 /// For each shape of the new plan the shape of the old one that is declared alike, where the numbers of terms
 /// in both are of one pool. It takes time linear in both plans.
 pub fn alike(alloc: Global, old: &Plan, new: &Plan) -> Result<Alikes, Memory>
-    requires old { IsNumbered (plan_of old.now).shapes }
-    requires new { IsNumbered (plan_of new.now).shapes }
     ensures { IfOk result (AreAlikes (plan_of old.now).shapes (plan_of new.now).shapes) }
 {
+    old.shapes_are_numbered();
+    new.shapes_are_numbered();
     let mut found = Vec::new(alloc);
     for n in 0..new.len() {
         found.push(counterpart(old, new, n, &found))?;

@@ -38,6 +38,14 @@ module _ {shapes : List PlanShape} {g : Graph} where
         brings = subst (λ ds. Brings old new ds m n) (sym only) brings;
       }
 
+  -- a pair in which all that is nested is remembered brings nothing
+  pub BringsNested-still : {state : Pair → Option Answer} (p : Pair) (n : ℕ)
+      → IsRecallOf SameMembers shapes g state → AreRecalled state (nested_in shapes g p)
+      → BringsNested shapes g state state (p ∷ []) n n
+  BringsNested-still {state} p n is nested =
+      BringsNested-one p is nested
+      (Brings-more (nested_in shapes g p) (λ d c. absurd (none_in_empty d c)) (Brings-none state n))
+
   -- some pairs behind others
   pub BringsNested-then : {old mid new : Pair → Option Answer} {ps qs all : List Pair} {m n k : ℕ}
       → all ≡ ps ++ qs → BringsNested shapes g old mid ps m n → BringsNested shapes g mid new qs n k

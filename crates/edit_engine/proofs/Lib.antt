@@ -4,6 +4,8 @@ pub mod AppliedLemmas
 pub mod BringsLemmas
 pub mod ChangeLemmas
 pub mod ChangedLemmas
+pub mod CopiedLemmas
+pub mod CopyingLemmas
 pub mod CourseLemmas
 pub mod EffectLemmas
 pub mod EnterLemmas
@@ -41,7 +43,10 @@ pub mod ShorterLemmas
 pub mod SoundLemmas
 pub mod StagedLemmas
 pub mod StatedLemmas
+pub mod SwapLemmas
+pub mod SwappedLemmas
 pub mod TakenBackLemmas
+pub mod TakenOverLemmas
 pub mod TargetChangeLemmas
 pub mod TargetReadLemmas
 pub mod TellLemmas

@@ -1,12 +1,13 @@
 -- What an engine tells of what is remembered: a finite map of what is kept.
 use Rattle.std.specs.Prelude.{◌≡◌, ℕ, ◌<◌, List, [], ◌++◌, Option, IsSome, length}
-use Rattle.std.proofs.Common.{sym, ap, ◌∙◌, subst}
+use Rattle.std.proofs.Common.{refl, sym, ap, ◌∙◌, subst}
 use Rattle.shx_term.specs.Members.{SameMembers}
 use Rattle.shx_term.specs.declared.triple.Triple.{Triple}
 use Rattle.graph_view.specs.Graph.{Graph}
 use Rattle.graph_view.specs.Patched.{patched}
 use Rattle.comp_core.specs.declared.pair.Pair.{Pair}
 use Rattle.shape_eval.specs.declared.shape.PlanShape.{PlanShape}
+use Rattle.shape_eval.specs.Plan.{Planned}
 use Rattle.shape_eval.specs.Recalled.{IsRecallOf, IsRecalled}
 use Rattle.shape_eval.specs.Report.{pairs}
 use Rattle.read_records.specs.declared.reader.Reader.TheVariants.{OfPair}
@@ -16,6 +17,7 @@ use Rattle.read_records.specs.Store.{changed_to, note_at}
 use Rattle.read_records.proofs.RecallLemmas.{all_kept_gives, all_kept_same}
 use Rattle.edit_engine.specs.EngineState.{EngineState}
 use Rattle.edit_engine.specs.Remembered.{BringsFresh, answer_of}
+use Rattle.edit_engine.specs.Swapped.{Adopts, SwapsFresh, swapped_pairs}
 use Rattle.edit_engine.specs.inner.Recall.{RemembersNested}
 use Rattle.edit_engine.proofs.KeptPairLemmas.{some_answer}
 
@@ -70,3 +72,27 @@ brings_told old now same added removed first mid last m n held settled keeps bri
     subst (λ state. at state (answer_of state.remembered) (answer_of (all_kept last))) same
     (subst (λ a. at old a (answer_of (all_kept last))) before
     (subst (at old (recalled first)) after brings))
+
+-- what another plan makes of an engine, once it is kept
+pub adopts_told : (old now : EngineState) → old ≡ now → (first last : RecallState)
+    → old.remembered ≡ all_kept first → (plan : Planned) (alikes : List (Option ℕ))
+    (evaluated settled m n : ℕ) → evaluated ≡ length (swapped_pairs old.plan plan alikes old.graph)
+    → SwapsFresh plan alikes old.graph (kept_of first) (kept_of last) m n
+    → settled ≡ length old.graph.terms
+    → Adopts now plan alikes evaluated
+    (record old { plan = plan; remembered = all_kept last; settled = settled }) m n
+adopts_told old now same first last held plan alikes evaluated settled m n count fresh all =
+    let after : EngineState = record old { plan = plan; remembered = all_kept last; settled = settled } in
+    subst (λ state. Adopts state plan alikes evaluated after m n) same (record {
+      plan_is = refl;
+      graph = refl;
+      term_limit = refl;
+      triple_limit = refl;
+      settled = all;
+      evaluated_are = count;
+      nested =
+          subst (λ a. SwapsFresh plan alikes old.graph a (answer_of (all_kept last)) m n)
+          (sym (ap answer_of held ∙ answers_kept first))
+          (subst (λ b. SwapsFresh plan alikes old.graph (kept_of first) b m n)
+          (sym (answers_kept last)) fresh);
+    })

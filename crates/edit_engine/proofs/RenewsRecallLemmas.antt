@@ -78,7 +78,7 @@ module _ (plan : Planned) (h : Graph) (old new : Pair → Option Answer) (m n : 
           ],
     )
 
-    fresh_counted : n ≡ m + distinct_count same_pair (fresh plan h stay)
+    pub fresh_counted : n ≡ m + distinct_count same_pair (fresh plan h stay)
     fresh_counted =
         let left = fresh plan h stay in
         brings.counted
@@ -88,7 +88,7 @@ module _ (plan : Planned) (h : Graph) (old new : Pair → Option Answer) (m n : 
         (λ e. (among_pairs left q).1 ((is_fresh q).0 ((among_pairs brings.brought q).0 e)))
         (λ e. (among_pairs brings.brought q).1 ((is_fresh q).1 ((among_pairs left q).0 e)))))
 
-    fresh_recalled : AreAllRecalled new (stay ++ fresh plan h stay)
+    pub fresh_recalled : AreAllRecalled new (stay ++ fresh plan h stay)
     fresh_recalled = record {
       each = λ q. (
         λ c. elim (Contains-append_cases stay (fresh plan h stay) q c) [

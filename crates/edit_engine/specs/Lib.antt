@@ -10,5 +10,6 @@ pub mod Pairs
 pub mod Recorded
 pub mod Remembered
 pub mod Renewal
+pub mod Swapped
 pub mod Touched
 pub mod inner

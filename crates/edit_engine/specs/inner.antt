@@ -6,5 +6,6 @@ pub mod Recall
 pub mod Settled
 pub mod Staged
 pub mod Stated
+pub mod Swapping
 pub mod Told
 pub mod Turned

@@ -8,11 +8,13 @@
 //! | `opening.rt` | `Engine::open`: everything is evaluated once |
 //! | `netting.rt` | `Engine::net_of`: what edits come to together |
 //! | `applying.rt` | `Engine::apply`, `apply_all`, `apply_net`: a change, tested, evaluated and made |
+//! | `adopting.rt` | `Engine::adopt`: another plan, under which what is kept of alike shapes stays |
 //! | `entering.rt` | `Engine::enter`, `cut`: terms that are entered beside the graph, and given back |
 //! | `edit.rt` | `Change`, `EditFault`: what came of an edit, and why nothing did |
 //! | `stated.rt` | the terms of triples, found and entered |
 //! | `renewing.rt` | what a change of the graph makes of what is kept, beside the graph; the opening |
 //! | `renewal.rt`, `parts.rt` | `Renewal`: what is to be kept from then on, and how it is gathered |
+//! | `swapping.rt` | what is taken over from under an old plan |
 //! | `target_change.rt` | which nodes enter a target by a change, and which leave |
 //! | `target_reads.rt` | what is read for a target, without going over its nodes |
 //! | `kept.rt` | `Kept`: what is kept of targets and pairs, and how it is renewed at once |
@@ -20,12 +22,14 @@
 //! | `laws.rt`, `net_laws.rt` | what is true of plans, and of changes |
 //! | `same_graphs.rt` | what is true of graphs that hold the same triples |
 //!
-//! It stands on `shape_eval` for what a pair comes to, and on `read_records` and `pair_results` for what is
-//! kept. Start with `engine.rt` and `applying.rt`; `specs/Edits.antt` says what edits come to,
-//! `specs/Nets.antt` what becomes of the graph, `specs/Touched.antt` which pairs are evaluated, and
-//! `specs/Applied.antt` what a change makes of an engine.
+//! It stands on `shape_eval` for what a pair comes to, on `plan_swap` for alike shapes, and on
+//! `read_records` and `pair_results` for what is kept. Start with `engine.rt` and `applying.rt`;
+//! `specs/Edits.antt` says what edits come to, `specs/Nets.antt` what becomes of the graph,
+//! `specs/Touched.antt` which pairs are evaluated, `specs/Applied.antt` what a change makes of an engine, and
+//! `specs/Swapped.antt` what another plan does.
 #![tactic(auto)]
 
+mod adopting;
 mod applying;
 mod edit;
 mod engine;
@@ -41,6 +45,7 @@ mod renewing;
 mod same_graphs;
 mod staging;
 mod stated;
+mod swapping;
 mod target_change;
 mod target_reads;
 mod telling;

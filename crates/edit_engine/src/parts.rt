@@ -230,8 +230,8 @@ impl Renewal {
     }
 }
 
-// Evaluates a pair, which counts a step.
-fn evaluate<'p, V: GraphView, M: Memo<Noted = Reads>, K: Ledger, L: Ledger>(
+/// Evaluates a pair, which counts a step.
+pub(crate) fn evaluate<'p, V: GraphView, M: Memo<Noted = Reads>, K: Ledger, L: Ledger>(
     alloc: Global,
     view: &V,
     plan: &'p Plan,

@@ -8,6 +8,7 @@ ghost use Rattle.read_records.specs.Recall.{KeepsSame, recalled};
 ghost use Rattle.edit_engine.specs.MayBeAsked.{MayBeAsked};
 ghost use Rattle.edit_engine.specs.Recorded.{AreRecorded};
 ghost use Rattle.edit_engine.specs.Renewal.{IsOpening, IsRenewal};
+ghost use Rattle.edit_engine.specs.inner.Parts.{OpensTargets};
 ghost use Rattle.edit_engine.specs.inner.Recall.{BringsNested, RemembersNested, RenewsRecall};
 ghost use Rattle.shape_eval.specs.Answered.{answered};
 ghost use Rattle.indexmap.specs.IndexMap.{IsEmpty};
@@ -138,10 +139,24 @@ pub(crate) fn opening_of<V: GraphView, K: Ledger, L: Ledger>(
         nested.old nested.new) }
 {
     look_ups_give_what_is_held();
+    let mut renewal = targets_of(alloc, view, plan)?;
+    renewal.evaluate_entering(alloc, view, plan, answers, nested, steps)?;
+    Ok(renewal)
+}
+
+/// The targets of a plan, all of whose nodes are new.
+pub(crate) fn targets_of<V: GraphView>(
+    alloc: Global,
+    view: &V,
+    plan: &Plan,
+) -> Result<Renewal, Memory>
+    requires { MayBeAsked (plan_of plan.now) (V.graph view.now) }
+    ensures { IfOk result
+        (OpensTargets (plan_of plan.now).shapes (V.graph view.now) (plan_of plan.now).targeted) }
+{
     let mut renewal = Renewal::new(alloc);
     for shape in plan.targeted() {
         renewal.open_target(alloc, view, plan, *shape)?;
     }
-    renewal.evaluate_entering(alloc, view, plan, answers, nested, steps)?;
     Ok(renewal)
 }

@@ -8,6 +8,7 @@
 //! | `tests/watched.rt` | edits over a graph in which a look-up is seen |
 //! | `tests/refused.rt` | edits for which one look-up after the other is refused |
 //! | `tests/entered.rt` | terms that are entered before an edit, and given back |
+//! | `tests/adopted.rt` | another plan takes the place of the one at hand |
 //! | `tests/opened.rt` | plans and graphs of texts |
 #![tactic(auto)]
 

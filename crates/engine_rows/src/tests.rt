@@ -1,3 +1,4 @@
+mod adopted;
 mod beside;
 mod edits;
 mod entered;

@@ -61,7 +61,7 @@ fn edits_of(alloc: Global, document: &Document, lines: &str) -> Result<Vec<Edit>
 
 // Whether a step ends as it says: `EDITS → TOLD, PAIRS RESULTS`, or `EDITS → TOLD`. Before it may stand terms
 // that are entered beforehand, `TERMS | `.
-fn is_met<V: GraphEdit, L: Ledger, M: Ledger>(
+pub(super) fn is_met<V: GraphEdit, L: Ledger, M: Ledger>(
     alloc: Global,
     engine: &mut Engine<V>,
     document: &Document,

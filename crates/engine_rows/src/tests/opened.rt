@@ -90,18 +90,18 @@ struct Shapes {
     pool: Pool,
 }
 
-fn shapes_of(alloc: Global, text: &str) -> Result<Shapes, RowFault>
+// The terms of the pool stay.
+fn shapes_of(alloc: Global, text: &str, pool: Pool) -> Result<Shapes, RowFault>
     ensures fits { IfOk result (λ shapes. IsPlan shapes.pool.terms (plan_of shapes.plan).shapes) }
     ensures plan { IfOk result
         (λ shapes. plan_of shapes.plan ≡ planned shapes.pool.terms (plan_of shapes.plan).shapes) }
+    ensures terms { IfOk result (λ shapes. length pool.terms ≤ length shapes.pool.terms) }
 {
-    let Stated { graph, document: _ } = state_text(
-        alloc,
-        text,
-        Scope::Shapes,
-        vocabulary_pool(alloc, 1_000)?,
-        1_000,
-    )?;
+    let known = pool.len();
+    let Stated { graph, document: _ } = state_text(alloc, text, Scope::Shapes, pool, 1_000)?;
+    if graph.pool().len() < known {
+        return Err(RowFault::Unread);
+    }
     let plan = compiled(alloc, &graph)?;
     Ok(Shapes {
         plan,
@@ -111,9 +111,9 @@ fn shapes_of(alloc: Global, text: &str) -> Result<Shapes, RowFault>
 
 /// The graph of a text, and the text, behind which lines are read.
 #[derive(Drop)]
-struct Stated {
-    graph: ListGraph,
-    document: Document,
+pub(super) struct Stated {
+    pub(super) graph: ListGraph,
+    pub(super) document: Document,
 }
 
 // The graph may hold so many triples.
@@ -162,11 +162,41 @@ pub(super) fn open_texts(
 {
     plans_target_shapes_once();
     plans_stay_known();
-    let Shapes { plan, pool } = shapes_of(alloc, shapes)?;
+    let Shapes { plan, pool } = shapes_of(alloc, shapes, vocabulary_pool(alloc, 1_000)?)?;
     let Stated { graph, document } = data_of(alloc, data, pool, triples)?;
     Ok(Opened {
         plan,
         graph,
         document,
     })
+}
+
+/// The plan of a shapes text, and that of another one that may take its place.
+#[derive(Drop)]
+pub(super) struct Plans {
+    pub(super) old: Plan,
+    pub(super) new: Plan,
+}
+
+/// What two shapes texts and a data text state, over one pool. The graph may hold so many triples.
+pub(super) fn open_both(
+    alloc: Global,
+    old: &str,
+    new: &str,
+    data: &str,
+    triples: u64,
+) -> Result<(Plans, Stated), RowFault>
+    ensures { IfOk result (λ opened. MayBeAsked (plan_of opened.0.old) (plain_graph opened.1.graph)
+        × MayBeAsked (plan_of opened.0.new) (plain_graph opened.1.graph)) }
+{
+    plans_target_shapes_once();
+    plans_stay_known();
+    let old = shapes_of(alloc, old, vocabulary_pool(alloc, 1_000)?)?;
+    let new = shapes_of(alloc, new, old.pool)?;
+    let read = data_of(alloc, data, new.pool, triples)?;
+    let plans = Plans {
+        old: old.plan,
+        new: new.plan,
+    };
+    Ok((plans, read))
 }

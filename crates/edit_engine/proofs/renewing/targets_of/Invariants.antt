@@ -1,7 +1,7 @@
 use Rattle.std.specs.Prelude.{take}
 use Rattle.shape_eval.specs.Planned.{plan_of}
 use Rattle.edit_engine.specs.inner.Parts.{OpensTargets}
-use Rattle.edit_engine.proofs.renewing.opening_of.Given as goal
+use Rattle.edit_engine.proofs.renewing.targets_of.Given as goal
 
 abbrev pub invariant-loop-shape : goal.invariant-loop-shape
 invariant-loop-shape g l =

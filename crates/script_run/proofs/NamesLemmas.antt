@@ -16,7 +16,7 @@ use Rattle.ttl_meaning.specs.InForce.{binding}
 use Rattle.ttl_meaning.specs.State.{Binding, State, first_state}
 use Rattle.ttl_meaning.specs.Terms.{namespace_of}
 use Rattle.script_lines.specs.SameNames.{HaveSameNames}
-use Rattle.script_run.specs.Names.{HasNamesOf}
+use Rattle.shape_text.specs.Names.{HasNamesOf}
 
 text_order : IsExactOrder (slice_cmp nat_cmp)
 text_order = record { total = nat_list_cmp_total; exact = exact_bytes }

@@ -19,7 +19,7 @@ use Rattle.text_output.specs.declared.format.Format.{Format}
 use Rattle.script_run.specs.declared.script_run.ScriptRun.{ScriptRun}
 use Rattle.script_run.specs.declared.validation.Validation.{Validation}
 use Rattle.script_run.specs.Stored.{IsScriptRun, IsValidation}
-use Rattle.script_run.specs.Names.{HasNamesOf}
+use Rattle.shape_text.specs.Names.{HasNamesOf}
 use Rattle.script_run.specs.Script.{first_work}
 use Rattle.script_run.specs.ScriptState.{ScriptState}
 use Rattle.script_run.specs.Work.{Work, and_then}

@@ -1,6 +1,5 @@
 pub mod LineReadings
 pub mod Manner
-pub mod Names
 pub mod Replies
 pub mod Script
 pub mod ScriptState

@@ -6,7 +6,7 @@ use Rattle.ttl_meaning.specs.State.{State}
 use Rattle.script_lines.specs.declared.command.Command.{Command}
 use Rattle.script_lines.specs.declared.fault.LineFault.{LineFault}
 use Rattle.script_lines.specs.Lines.{IsLineRead}
-use Rattle.script_run.specs.Names.{HasNamesOf}
+use Rattle.shape_text.specs.Names.{HasNamesOf}
 
 -- a line is read so behind a data text that ends like this
 pub record IsReadBehind (limits : Limits) (end : State) (line : List ℕ) (reading : Result Command LineFault)

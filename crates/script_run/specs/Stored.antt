@@ -14,7 +14,7 @@ use Rattle.edit_engine.specs.Remembered.{AreAllRecalled, answer_of}
 use Rattle.script_run.specs.declared.script_run.ScriptRun.{ScriptRun}
 use Rattle.script_run.specs.declared.validation.Validation.{Validation}
 use Rattle.text_output.specs.declared.format.Format.{Format}
-use Rattle.script_run.specs.Names.{HasNamesOf}
+use Rattle.shape_text.specs.Names.{HasNamesOf}
 use Rattle.script_run.specs.Script.{past_of}
 use Rattle.script_run.specs.ScriptState.{ScriptState}
 

@@ -5,7 +5,7 @@ ghost use Rattle.text_output.specs.Writes.{Writes};
 ghost use Rattle.script_lines.specs.Lines.{IsValidCommand};
 ghost use Rattle.script_run.specs.Replies.{MovesOn, Replies, reply_text};
 ghost use Rattle.ttl_meaning.specs.State.{State};
-ghost use Rattle.script_run.specs.Names.{HasNamesOf};
+ghost use Rattle.shape_text.specs.Names.{HasNamesOf};
 ghost use Rattle.script_run.specs.LineReadings.{HasReading, IsReadBehind};
 ghost use Rattle.script_run.specs.Script.{command_step, refusal, script_step};
 ghost use Rattle.script_run.specs.ScriptState.{ScriptState};

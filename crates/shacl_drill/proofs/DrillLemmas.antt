@@ -18,14 +18,15 @@ use Rattle.shacl_run.specs.declared.status.Status.TheVariants.{Conforms, Violate
 use Rattle.shacl_run.specs.declared.status.Status.TheVariants.{InputFault, WriteFault, Memory, LinesRefused}
 use Rattle.script_run.specs.Manner.{Manner}
 use Rattle.shacl_run.specs.Outside.{Outside}
-use Rattle.shacl_run.specs.Readings.{Readings, TextReading, States, Faulty, Long, stated_graph}
+use Rattle.shacl_run.specs.Readings.{Readings}
+use Rattle.shape_text.specs.TextReadings.{TextReading, States, Faulty, Long, stated_graph}
 use Rattle.shacl_run.specs.Run.{Opening, Output, ends, opens, files_opening, opening_output}
-use Rattle.shacl_run.specs.Run.{passed_over, run_output, script_text, with_data, with_shapes}
+use Rattle.shape_text.specs.Verdict.{passed_over, Verdict, plans, stops}
+use Rattle.shacl_run.specs.Run.{run_output, script_text, with_data, with_shapes}
 use Rattle.shacl_run.specs.Run.{with_verdict, words_manner, words_script}
 use Rattle.script_run.specs.ScriptState.{ScriptState}
 use Rattle.shacl_run.specs.RunClauses.{DataIsReadBy, IsRun, LinesAreReadBy, WritesDue, WritesWhole}
 use Rattle.shacl_run.specs.Status.{IsAnswered, IsReported, status_number}
-use Rattle.shacl_run.specs.Verdict.{Verdict, plans, stops}
 use Rattle.shacl_run.proofs.EndLemmas.{cut_or_answered}
 use Rattle.shacl_run.proofs.RunLemmas.{ByVerdict-then}
 use Rattle.shacl_drill.specs.Clauses.{EndsSilent, Surroundings, Tells, TellsDue, TellsOf}

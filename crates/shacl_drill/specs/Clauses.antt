@@ -12,7 +12,7 @@ use Rattle.shacl_run.specs.Run.{Output, run_output}
 use Rattle.shacl_run.specs.RunClauses.{ByVerdict, DataIsReadBy, IsRead, LinesAreReadBy, ShapesAreReadBy}
 use Rattle.shacl_run.specs.RunClauses.{words_shapes}
 use Rattle.shacl_run.specs.Status.{status_number}
-use Rattle.shacl_run.specs.Verdict.{Verdict}
+use Rattle.shape_text.specs.Verdict.{Verdict}
 use Rattle.shacl_drill.specs.Size.{AskFor, AskForNone}
 use Rattle.shacl_drill.specs.Summary.{summary, usage_text}
 use Rattle.shacl_drill.specs.Texts.{run_words, texts}

@@ -2,7 +2,7 @@
 use Rattle.std.specs.Prelude.{ℕ, List, Option, Some, None}
 use Rattle.shx_outside.specs.declared.flags.Flags.{Flags}
 use Rattle.shx_term.specs.declared.limits.Limits.{Limits}
-use Rattle.shacl_run.specs.Readings.{PatternsAreAdmitted}
+use Rattle.shape_text.specs.ShapesReadings.{PatternsAreAdmitted}
 use Rattle.shacl_run.specs.RunClauses.{PatternsAreAdmittedBy}
 use Rattle.command_words.specs.Asked.{Asked}
 

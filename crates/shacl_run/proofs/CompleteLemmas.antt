@@ -17,15 +17,16 @@ use Rattle.shacl_run.specs.declared.status.Status.TheVariants.{InputFault, Write
 use Rattle.shacl_run.specs.Complete.{HasNoPattern, HasRoom, HasRoomByAny, IsCalm, IsComplete, IsDue}
 use Rattle.shacl_run.specs.Complete.{IsUndisturbed, NothingFailed, WritesDefined}
 use Rattle.shacl_run.specs.Outside.{Outside}
-use Rattle.shacl_run.specs.Readings.{AreJudged, ComeTo, Readings, TextReading, States, Faulty, Long}
-use Rattle.shacl_run.specs.Readings.{stated_graph}
+use Rattle.shape_text.specs.ShapesReadings.{AreJudged, ComeTo}
+use Rattle.shacl_run.specs.Readings.{Readings}
+use Rattle.shape_text.specs.TextReadings.{TextReading, States, Faulty, Long, stated_graph}
 use Rattle.shacl_run.specs.Run.{Output, run_output}
-use Rattle.shacl_run.specs.RunClauses.{ByVerdict, DataIsReadBy, HasCauses, IsRun, LinesAreReadBy, RoseWhere}
+use Rattle.shacl_run.specs.RunClauses.{ByVerdict, DataIsReadBy, HasCauses, IsRun, LinesAreReadBy}
+use Rattle.shape_text.specs.Verdict.{RoseWhere, Verdict, IsVerdict, plans, stops, refuses_pattern}
 use Rattle.shacl_run.specs.RunClauses.{ShapesAreReadBy, WritesDue, WritesFront}
 use Rattle.shacl_run.specs.RunClauses.{WritesWhole, words_shapes}
 use Rattle.shacl_run.specs.Status.{IsAnswered, IsCutShort}
-use Rattle.shacl_run.specs.Verdict.{Verdict, IsVerdict, plans, stops, refuses_pattern}
-use Rattle.shacl_run.specs.Verdict.Obstacle.{breaks, recurs, reaches_far, misspells, is_refused}
+use Rattle.shape_text.specs.Verdict.Obstacle.{breaks, recurs, reaches_far, misspells, is_refused}
 
 -- a count that stayed, and could have risen, did not rise
 calm_is_not_risen : (before now : ℕ) → IsCalm before now → Rose before now → ⊥

@@ -11,8 +11,8 @@ use Rattle.text_output.specs.Writes.{Put, FellShort}
 use Rattle.text_output.specs.inner.AddedLaws.{Put-then}
 use Rattle.shacl_run.specs.declared.status.Status.{Status}
 use Rattle.shacl_run.specs.declared.status.Status.TheVariants.{InputFault, WriteFault, Memory as no_memory}
-use Rattle.shacl_run.specs.declared.stop.Stop.{Stop}
-use Rattle.shacl_run.specs.declared.stop.Stop.TheVariants.{Input, Write, Memory}
+use Rattle.shape_text.specs.declared.stop.Stop.{Stop}
+use Rattle.shape_text.specs.declared.stop.Stop.TheVariants.{Input, Write, Memory}
 use Rattle.shacl_run.specs.inner.Ends.{PutsFront, Ends}
 use Rattle.shacl_run.specs.Outside.{Outside, counts}
 use Rattle.shacl_run.specs.Run.{Output}

@@ -20,8 +20,8 @@ use Rattle.command_words.specs.Asked.{Asked}
 use Rattle.command_words.specs.Words.{command_words}
 use Rattle.shacl_run.specs.declared.status.Status.{Status}
 use Rattle.shacl_run.specs.declared.status.Status.TheVariants.{InputFault}
-use Rattle.shacl_run.specs.declared.unopened.Unopened.{Unopened}
-use Rattle.shacl_run.specs.declared.unopened.Unopened.TheVariants.{Told}
+use Rattle.shape_text.specs.declared.unopened.Unopened.{Unopened}
+use Rattle.shape_text.specs.declared.unopened.Unopened.TheVariants.{Told}
 use Rattle.script_run.specs.declared.validation.Validation.{Validation}
 use Rattle.shacl_run.specs.inner.Ends.{Ends, EndsByPattern}
 use Rattle.shacl_run.specs.inner.Files.{FilesAreRead, FilesOpenOnly, RunsFiles, RunsWords, files_output}
@@ -29,10 +29,11 @@ use Rattle.shacl_run.specs.inner.Prepared.{AreRead, IsPrepared}
 use Rattle.shacl_run.specs.inner.Serving.{HaveReadings, LinesAreReadAt}
 use Rattle.script_run.specs.Stored.{IsValidation}
 use Rattle.script_run.specs.Manner.{LineReadings, Manner}
-use Rattle.script_run.specs.Names.{HasNamesOf}
-use Rattle.shacl_run.specs.Readings.{Readings, TextReading, States, Faulty, Long, ShapesAreRead, LinesAreRead}
+use Rattle.shape_text.specs.Names.{HasNamesOf}
+use Rattle.shacl_run.specs.Readings.{Readings, LinesAreRead}
+use Rattle.shape_text.specs.TextReadings.{TextReading, States, Faulty, Long, stated_graph}
+use Rattle.shape_text.specs.ShapesReadings.{ShapesAreRead}
 use Rattle.script_run.specs.LineReadings.{IsReadBehind}
-use Rattle.shacl_run.specs.Readings.{stated_graph}
 use Rattle.shacl_run.specs.Outside.{Outside}
 use Rattle.shacl_run.specs.Run.{IsOpening, Opening, manner_of, opening_fed, opening_output, refused}
 use Rattle.shacl_run.specs.Run.{script_text}
@@ -40,7 +41,7 @@ use Rattle.shacl_run.specs.Run.{texts_opening, validation_output, with_data, wit
 use Rattle.shacl_run.specs.Run.Opening.{ends, opens}
 use Rattle.shacl_run.specs.RunClauses.{IsOpenedBy, OpensOnly, StopsFed}
 use Rattle.script_run.specs.ScriptState.{ScriptState, start_state}
-use Rattle.shacl_run.specs.Verdict.{Verdict, plans, stops}
+use Rattle.shape_text.specs.Verdict.{Verdict, plans, stops}
 use Rattle.shacl_run.proofs.EndLemmas.{Ends-told}
 use Rattle.shacl_run.proofs.RunLemmas.{ByVerdict-then}
 use Rattle.shacl_run.proofs.ValidationRunLemmas.{ended_told, opened_told, opening_told}

@@ -17,7 +17,7 @@ use Rattle.script_lines.specs.declared.fault.LineFault.{LineFault}
 use Rattle.script_lines.specs.declared.fault.LineFault.TheVariants.{Line, Memory}
 use Rattle.script_lines.specs.Lines.{IsLineRead, TooLong, NotUtf8, NoForm, AForm}
 use Rattle.script_run.specs.Manner.{LineReadings}
-use Rattle.script_run.specs.Names.{HasNamesOf}
+use Rattle.shape_text.specs.Names.{HasNamesOf}
 use Rattle.script_run.specs.LineReadings.{HasReading, IsReadBehind}
 use Rattle.shacl_run.specs.inner.Serving.{HaveReadings}
 

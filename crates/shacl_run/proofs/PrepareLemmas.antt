@@ -21,30 +21,34 @@ use Rattle.ttl_meaning.specs.State.{State}
 use Rattle.script_lines.specs.declared.fault.LineFault.TheVariants.{Memory as no_memory}
 use Rattle.report_write.specs.declared.answer.Answer.{Answer}
 use Rattle.report_write.specs.declared.answer.Answer.TheVariants.{OfShape, TooLong}
-use Rattle.shacl_run.specs.declared.judge.Accepted.{Accepted}
-use Rattle.shacl_run.specs.declared.refusal.Refusal.{Refusal}
-use Rattle.shacl_run.specs.declared.refusal.Refusal.TheVariants.{Text, Cut}
-use Rattle.shacl_run.specs.declared.unopened.Unopened.{Unopened}
-use Rattle.shacl_run.specs.declared.unopened.Unopened.TheVariants as unopened
-use Rattle.shacl_run.specs.declared.stop.Stop.{Stop}
+use Rattle.shape_text.specs.declared.judging.Accepted.{Accepted}
+use Rattle.shape_text.specs.declared.refusal.Refusal.{Refusal}
+use Rattle.shape_text.specs.declared.refusal.Refusal.TheVariants.{Text, Cut}
+use Rattle.shape_text.specs.declared.unopened.Unopened.{Unopened}
+use Rattle.shape_text.specs.declared.unopened.Unopened.TheVariants as unopened
+use Rattle.shape_text.specs.declared.stop.Stop.{Stop}
 use Rattle.script_run.specs.declared.validation.Validation.{Validation}
-use Rattle.shacl_run.specs.inner.Judging.{Accepts, IsShapesRefusal, Opens, RefusesData, RefusesShapes}
+use Rattle.shape_text.specs.Judging.{Accepts, IsShapesRefusal, RefusesShapes}
+use Rattle.shacl_run.specs.inner.Validation.{Opens, RefusesData}
 use Rattle.shacl_run.specs.inner.Prepared.{AreRead, HasNamesRead, HostStays, IsPrepared, Prepares}
 use Rattle.shacl_run.specs.inner.Prepared.{PreparesBy}
-use Rattle.shacl_run.specs.inner.Refusal.{IsRefusalOf}
-use Rattle.shacl_run.specs.inner.Unopened.{beside}
+use Rattle.shape_text.specs.Refusal.{IsRefusalOf}
+use Rattle.shape_text.specs.Unopened.{beside}
 use Rattle.script_run.specs.Manner.{LineReadings}
-use Rattle.script_run.specs.Names.{HasNamesOf}
-use Rattle.shacl_run.specs.Readings.{Readings, TextReading, States, Faulty, Long, IsReadAs, stated_graph}
-use Rattle.shacl_run.specs.Readings.{AreJudged, ComeTo, DataIsRead, HavePlan, IsRefusedIn}
-use Rattle.shacl_run.specs.Readings.{PatternsAreAdmitted, ShapesAreRead}
-use Rattle.shacl_run.specs.Run.{Opening, texts_opening, with_data, with_shapes, with_verdict, passed_over}
+use Rattle.shape_text.specs.Names.{HasNamesOf}
+use Rattle.shacl_run.specs.Readings.{Readings}
+use Rattle.shape_text.specs.TextReadings.{TextReading, States, Faulty, Long, IsReadAs, stated_graph}
+use Rattle.shape_text.specs.ShapesReadings.{AreJudged, ComeTo, HavePlan, IsRefusedIn, PatternsAreAdmitted}
+use Rattle.shape_text.specs.ShapesReadings.{ShapesAreRead}
+use Rattle.shacl_run.specs.Readings.{DataIsRead}
+use Rattle.shacl_run.specs.Run.{Opening, texts_opening, with_data, with_shapes, with_verdict}
+use Rattle.shape_text.specs.Verdict.{passed_over, RoseWhere, Obstacle, Verdict, obstacle_answer, plans}
+use Rattle.shape_text.specs.Verdict.{refuses_pattern, stops}
 use Rattle.shacl_run.specs.Run.{refused}
 use Rattle.shacl_run.specs.Run.Opening.{ends, opens}
-use Rattle.shacl_run.specs.RunClauses.{ByVerdict, RoseWhere}
-use Rattle.shacl_run.specs.Verdict.{Obstacle, Verdict, obstacle_answer, plans, refuses_pattern, stops}
-use Rattle.shacl_run.specs.Verdict.Obstacle.{breaks, recurs, reaches_far, misspells, is_refused}
-use Rattle.shacl_run.proofs.ReadingLemmas.{read_once}
+use Rattle.shacl_run.specs.RunClauses.{ByVerdict}
+use Rattle.shape_text.specs.Verdict.Obstacle.{breaks, recurs, reaches_far, misspells, is_refused}
+use Rattle.shape_text.proofs.ReadingLemmas.{read_once}
 
 -- ---- the texts that are told
 

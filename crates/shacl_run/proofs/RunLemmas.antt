@@ -13,13 +13,14 @@ use Rattle.shacl_run.specs.declared.status.Status.TheVariants.{InputFault, Write
 use Rattle.shacl_run.specs.inner.Ends.{PutsWhole, PutsFront, Ends, EndsByPattern}
 use Rattle.shacl_run.specs.inner.Files.{RunsWords}
 use Rattle.shacl_run.specs.Outside.{Outside}
-use Rattle.shacl_run.specs.Readings.{Readings, TextReading}
+use Rattle.shacl_run.specs.Readings.{Readings}
+use Rattle.shape_text.specs.TextReadings.{TextReading}
 use Rattle.shacl_run.specs.Run.{Output, run_output, words_format}
 use Rattle.shacl_run.specs.RunClauses.{ByVerdict, WritesWhole, WritesFront, Writes, ReadsAll}
 use Rattle.shacl_run.specs.RunClauses.{HasCauses, IsRead, OpensInTurn, StaysWithin, TellsRefusal, IsRun}
 use Rattle.shacl_run.specs.RunClauses.{ShapesAreReadBy}
 use Rattle.shacl_run.specs.Status.{IsAnswered, IsReported, IsCutShort}
-use Rattle.shacl_run.specs.Verdict.{Verdict}
+use Rattle.shape_text.specs.Verdict.{Verdict}
 use Rattle.script_run.specs.Work.{Work, evaluating, no_work}
 use Rattle.command_words.specs.Words.{command_words}
 use Rattle.shacl_run.proofs.EndLemmas.{cut_or_answered}

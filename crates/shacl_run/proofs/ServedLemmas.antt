@@ -16,8 +16,8 @@ use Rattle.shacl_run.specs.declared.status.Status.{Status}
 use Rattle.shacl_run.specs.declared.status.Status.TheVariants.{Conforms, Violates, BadWords, Refused}
 use Rattle.shacl_run.specs.declared.status.Status.TheVariants.{InputFault, WriteFault, LinesRefused}
 use Rattle.shacl_run.specs.declared.status.Status.TheVariants.{Memory as no_memory}
-use Rattle.shacl_run.specs.declared.stop.Stop.{Stop}
-use Rattle.shacl_run.specs.declared.stop.Stop.TheVariants.{Input, Write, Memory}
+use Rattle.shape_text.specs.declared.stop.Stop.{Stop}
+use Rattle.shape_text.specs.declared.stop.Stop.TheVariants.{Input, Write, Memory}
 use Rattle.shacl_run.specs.inner.Ends.{Ends}
 use Rattle.shacl_run.specs.inner.Serving.{open_notice}
 use Rattle.script_run.specs.Stored.{IsScriptRun}
@@ -26,7 +26,8 @@ use Rattle.shx_term.specs.declared.edit.Edit.{Edit}
 use Rattle.shx_term.specs.declared.limits.Limits.{Limits}
 use Rattle.std.specs.declared.alloc.Global.{Global}
 use Rattle.std.specs.Option.{option_map}
-use Rattle.shacl_run.specs.inner.Stops.{StopCause, end_status, stop_status}
+use Rattle.shape_text.specs.Stops.{StopCause}
+use Rattle.shacl_run.specs.inner.Stops.{end_status, stop_status}
 use Rattle.shacl_run.specs.Outside.{Outside, counts}
 use Rattle.shacl_run.specs.Run.{Output, dropped_text, ending, status_of_rows, status_of_state}
 use Rattle.script_run.specs.ScriptState.{ScriptState}

@@ -19,8 +19,8 @@ use Rattle.script_lines.specs.declared.fault.LineFault.TheVariants as line_fault
 use Rattle.script_run.specs.declared.validation.Validation.{Validation}
 use Rattle.shacl_run.specs.declared.status.Status.{Status}
 use Rattle.shacl_run.specs.declared.status.Status.TheVariants.{WriteFault}
-use Rattle.shacl_run.specs.declared.stop.Stop.{Stop}
-use Rattle.shacl_run.specs.declared.stop.Stop.TheVariants.{Input, Write, Memory}
+use Rattle.shape_text.specs.declared.stop.Stop.{Stop}
+use Rattle.shape_text.specs.declared.stop.Stop.TheVariants.{Input, Write, Memory}
 use Rattle.shacl_run.specs.inner.Ends.{Ends}
 use Rattle.shape_eval.specs.Report.{report}
 use Rattle.shacl_run.specs.Run.{Output, Opening, behind, ending, output_from, validation_output, script_text}

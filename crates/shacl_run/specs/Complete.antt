@@ -11,11 +11,13 @@ use Rattle.command_words.specs.Words.{command_words}
 use Rattle.shacl_run.specs.declared.status.Status.{Status}
 use Rattle.shacl_run.specs.declared.status.Status.TheVariants.{Memory}
 use Rattle.shacl_run.specs.Outside.{Outside}
-use Rattle.shacl_run.specs.Readings.{Readings, States, AreJudged, stated_graph}
+use Rattle.shacl_run.specs.Readings.{Readings}
+use Rattle.shape_text.specs.TextReadings.{States, stated_graph}
+use Rattle.shape_text.specs.ShapesReadings.{AreJudged}
 use Rattle.shacl_run.specs.Run.{Output, run_output}
 use Rattle.shacl_run.specs.RunClauses.{DataIsReadBy, LinesAreReadBy, ShapesAreReadBy, WritesWhole}
 use Rattle.shacl_run.specs.RunClauses.{words_shapes}
-use Rattle.shacl_run.specs.Verdict.{Verdict, refuses_pattern}
+use Rattle.shape_text.specs.Verdict.{Verdict, refuses_pattern}
 
 -- ---- nothing fails
 

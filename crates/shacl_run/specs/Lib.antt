@@ -5,5 +5,4 @@ pub mod Readings
 pub mod Run
 pub mod RunClauses
 pub mod Status
-pub mod Verdict
 pub mod inner

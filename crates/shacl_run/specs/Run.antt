@@ -6,13 +6,10 @@ use Rattle.std.specs.Option.{option_map, option_and_then}
 use Rattle.shx_outside.specs.declared.role.Role.TheVariants.{Shapes, Data, Script}
 use Rattle.shx_term.specs.declared.edit.Edit.{Edit}
 use Rattle.shx_term.specs.declared.limits.Limits.{Limits}
-use Rattle.graph_view.specs.declared.key.Key.TheVariants.{Predicate}
 use Rattle.graph_view.specs.Graph.{Graph}
-use Rattle.graph_view.specs.Key.{look}
 use Rattle.comp_core.specs.declared.row.ResultRow.{ResultRow}
 use Rattle.shape_eval.specs.Plan.{Planned}
 use Rattle.shape_eval.specs.Report.{report}
-use Rattle.shx_term.specs.declared.vocabulary.TheConstants.{SH_SPARQL}
 use Rattle.shx_term.specs.declared.term.Term.{Term}
 use Rattle.text_input.specs.Lines.{script_lines, fed_lines}
 use Rattle.text_output.specs.declared.format.Format.{Format}
@@ -27,8 +24,9 @@ use Rattle.shacl_run.specs.declared.status.Status.TheVariants.{LinesRefused}
 use Rattle.command_words.specs.Asked.{Asked}
 use Rattle.command_words.specs.Words.{command_words}
 use Rattle.script_run.specs.Manner.{Manner}
-use Rattle.shacl_run.specs.Readings.{Readings, TextReading, States, Faulty, Long, stated_graph}
-use Rattle.shacl_run.specs.Verdict.{Verdict, obstacle_answer, plans, stops}
+use Rattle.shacl_run.specs.Readings.{Readings}
+use Rattle.shape_text.specs.TextReadings.{TextReading, States, Faulty, Long, stated_graph}
+use Rattle.shape_text.specs.Verdict.{Verdict, obstacle_answer, passed_over, plans, stops}
 use Rattle.script_run.specs.Script.{first_work, said_text, serve_lines}
 use Rattle.script_run.specs.Script.Said.{reports}
 use Rattle.script_run.specs.ScriptState.{ScriptState, start_state}
@@ -117,10 +115,6 @@ pub data Opening : Type 0 where
 abbrev pub IsOpening : Opening → Type 0
 IsOpening (ends output) = ⊥
 IsOpening (opens notices s) = Unit {0}
-
--- how many triples of a shapes graph are passed over: those with sh:sparql
-abbrev pub passed_over : Graph → ℕ
-passed_over g = length (look g.triples (Predicate SH_SPARQL))
 
 -- the data text states a document, has a fault, or is too long; the terms play no part in these answers
 abbrev pub with_data : Format → ℕ → Planned → TextReading → Opening

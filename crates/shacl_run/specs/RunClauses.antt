@@ -1,5 +1,5 @@
 -- What a run promises, in terms of the output that is due.
-use Rattle.std.specs.Prelude.{◌≡◌, ◌≢◌, ℕ, ◌+◌, ◌<◌, ◌≤◌, Bool, true, false, List, [], ◌++◌, length}
+use Rattle.std.specs.Prelude.{◌≡◌, ◌≢◌, ℕ, ◌+◌, ◌<◌, ◌≤◌, List, [], ◌++◌, length}
 use Rattle.std.specs.Prelude.{Option, Some, None, IfSome, ◌⊎◌}
 use Rattle.shx_outside.specs.declared.flags.Flags.{Flags}
 use Rattle.shx_outside.specs.declared.role.Role.{Role}
@@ -20,9 +20,12 @@ use Rattle.shacl_run.specs.declared.status.Status.TheVariants.{BadWords, InputFa
 use Rattle.shacl_run.specs.Outside.{Outside}
 use Rattle.shacl_run.specs.Run.{Output, IsOpening, run_output, opening, opening_fed, words_format}
 use Rattle.shacl_run.specs.Run.{words_manner, words_script}
-use Rattle.shacl_run.specs.Readings.{Readings, TextReading, AreJudged, DataIsRead, HavePlan, IsRefusedIn}
-use Rattle.shacl_run.specs.Readings.{LinesAreRead, PatternsAreAdmitted, ShapesAreRead}
-use Rattle.shacl_run.specs.Verdict.{Verdict, refuses_pattern}
+use Rattle.shacl_run.specs.Readings.{Readings, DataIsRead}
+use Rattle.shape_text.specs.TextReadings.{TextReading}
+use Rattle.shape_text.specs.ShapesReadings.{AreJudged, HavePlan, IsRefusedIn, PatternsAreAdmitted}
+use Rattle.shape_text.specs.ShapesReadings.{ShapesAreRead}
+use Rattle.shacl_run.specs.Readings.{LinesAreRead}
+use Rattle.shape_text.specs.Verdict.{RoseWhere, Verdict, refuses_pattern}
 use Rattle.shacl_run.specs.Status.{IsAnswered, IsReported, IsCutShort}
 use Rattle.command_words.specs.Asked.{Asked, Files}
 use Rattle.command_words.specs.Words.{command_words}
@@ -110,11 +113,6 @@ pub record WritesFront (output : Output) (before after : SinkState) (status : St
   pub proper : status ≡ WriteFault → rest ≢ []
   pub grew : Grew before.held after.held front
   pub fell : Fell before.room after.room (length front)
-
--- a count rose, or it did not
-abbrev pub RoseWhere : Bool → ℕ → ℕ → Type 0
-RoseWhere true before now = Rose before now
-RoseWhere false before now = now ≡ before
 
 -- what was put is what is written up to and with the answers to the lines whose line feed was taken
 pub record StopsFed (fed : List ℕ → List ℕ) (script left : Option (List ℕ)) (before after : SinkState)

@@ -8,9 +8,10 @@ ghost use Rattle.shacl_run.specs.declared.status.Status.TheVariants.{InputFault,
 ghost use Rattle.shacl_run.specs.Complete.{HasNoPattern, HasRoomByAny, IsComplete, IsUndisturbed};
 ghost use Rattle.shacl_run.specs.Complete.{NothingFailed, WritesDefined};
 ghost use Rattle.shacl_run.specs.Outside.{Outside};
-ghost use Rattle.shacl_run.specs.Readings.{AreJudged, Readings};
+ghost use Rattle.shape_text.specs.ShapesReadings.{AreJudged};
+ghost use Rattle.shacl_run.specs.Readings.{Readings};
 ghost use Rattle.shacl_run.specs.RunClauses.{IsRun, ShapesAreReadBy, words_shapes};
-ghost use Rattle.shacl_run.specs.Verdict.{Verdict, refuses_pattern};
+ghost use Rattle.shape_text.specs.Verdict.{Verdict, refuses_pattern};
 
 /// Where nothing disturbs a run, it wants memory, or the defined output stands written and the run ended with
 /// its status.

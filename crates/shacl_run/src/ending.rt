@@ -7,14 +7,14 @@ ghost use Rattle.shacl_run.specs.Status.{IsReported};
 ghost use Rattle.script_run.specs.Manner.{Manner};
 ghost use Rattle.script_run.specs.ScriptState.{ScriptState};
 ghost use Rattle.script_run.specs.Stored.{IsScriptRun};
-ghost use Rattle.shacl_run.specs.inner.Stops.{end_status};
+ghost use Rattle.shacl_run.specs.inner.Stops.{end_status, stop_status};
 
 use crate::status::Status;
-use crate::stop::Stop;
 use comp_core::ResultRow;
 use edit_engine::same_graphs_answer_alike;
 use report_write::{Answer, Format, write_answer};
 use script_run::ScriptRun;
+use shape_text::Stop;
 use shx_outside::Sink;
 use shx_term::Pool;
 
@@ -33,6 +33,17 @@ pub fn refuse<O: Sink>(
 {
     write_answer(answer, pool, format, out)?;
     Ok(Status::Refused)
+}
+
+/// How a run ends that was cut short.
+pub fn status_of_stop(stop: Stop) -> Status
+    ensures { result ≡ stop_status stop }
+{
+    match stop {
+        Stop::Input => Status::InputFault,
+        Stop::Write => Status::WriteFault,
+        Stop::Memory => Status::Memory,
+    }
 }
 
 /// How a run ends that gave these results.

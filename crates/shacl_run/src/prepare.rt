@@ -1,36 +1,25 @@
 //! Before anything is written: the two texts are read, and a validation is opened.
-ghost use Rattle.std.specs.Prelude.{◌≡◌, ◌+◌, ◌<◌, ◌≤◌, IfOk, IfErr, OnOk};
+ghost use Rattle.std.specs.Prelude.{◌≡◌, ◌<◌, IfOk, OnOk};
 ghost use Rattle.iri_resolve.specs.Resolution.{IsAbsolute};
-ghost use Rattle.report_write.specs.declared.answer.Answer.{Answer as answer_type};
-ghost use Rattle.report_write.specs.declared.answer.Answer.TheVariants.{TooLong};
 ghost use Rattle.shx_outside.specs.declared.role.Role.TheVariants.{Shapes, Data};
-ghost use Rattle.shx_outside.specs.Counted.{Rose};
-ghost use Rattle.shx_outside.specs.Told.{StaysAdmitted, SameTexts, OthersStay};
+ghost use Rattle.shx_outside.specs.Told.{StaysAdmitted, SameTexts};
 ghost use Rattle.shx_term.specs.Limits.{AreUsable};
-ghost use Rattle.text_input.specs.TextRead.{ReadsWhole, IsTooLong, TakesWithin};
-ghost use Rattle.shacl_run.specs.declared.refusal.Refusal.TheVariants.{Text};
 ghost use Rattle.shacl_run.specs.inner.Prepared.{AreReadToEnd, HostStays, IsPrepared, PreparesWithin};
 ghost use Rattle.shacl_run.specs.inner.Prepared.{Stores};
 ghost use Rattle.shacl_run.specs.RunClauses.{IsOpenedBy};
 ghost use Rattle.shx_term.specs.Vocabulary.{vocabulary};
-ghost use Rattle.shacl_run.specs.Readings.{PatternsAreAdmitted};
-ghost use Rattle.shacl_run.specs.inner.Refusal.{RefusalCause};
-ghost use Rattle.shacl_run.specs.inner.Unopened.{UnopenedCause};
+ghost use Rattle.shape_text.specs.ShapesReadings.{PatternsAreAdmitted};
+ghost use Rattle.shape_text.specs.Unopened.{UnopenedCause};
 ghost use Rattle.script_run.specs.Stored.{Stands};
 
-use crate::judge::judge;
 use crate::open_validation::open_validation;
-use crate::refusal::Refusal;
-use crate::stop::Stop;
-use crate::unopened::Unopened;
 use command_words::Asked;
 use edit_engine::plans_target_shapes_once;
-use report_write::Answer;
 use script_run::Validation;
+use shape_text::{Unopened, judge, read_within};
 use shx_outside::{Inputs, PatternHost, Role};
 use shx_term::{IriText, Limits, Pool};
 use std::alloc::Global;
-use text_input::{ReadFault, read_text};
 
 /// Reads the two texts and opens a validation over them, or answers why not. The data text is opened only
 /// where the shapes have a plan. The pool holds no more than the vocabulary.
@@ -74,35 +63,5 @@ pub fn prepare<I: Inputs, P: PatternHost>(
     match read_within(alloc, host, Role::Data, asked.data_file, limits.text) {
         Ok(text) => open_validation(alloc, accepted, text, &base, asked.format, limits),
         Err(refusal) => Err(Unopened::of(refusal, accepted.pool)),
-    }
-}
-
-// A text, or that it is longer than it may be.
-fn read_within<I: Inputs>(
-    alloc: Global,
-    host: &mut I,
-    role: Role,
-    name: &str,
-    most: u64,
-) -> Result<Vec<u8>, Refusal>
-    requires { I.admits host.old role name.now }
-    ensures read { IfOk result (λ bytes.
-        ReadsWhole ((I.state host.old).text name.now) ((I.state host.new).rest role) most bytes.items) }
-    ensures too_long { IfErr result (λ refusal. (answer : answer_type) → refusal ≡ Text answer
-        → (answer ≡ TooLong role) × IsTooLong ((I.state host.old).text name.now) most) }
-    ensures within { (I.state host.old).opens role < (I.state host.new).opens role
-        → TakesWithin ((I.state host.new).whole role) ((I.state host.new).rest role) most }
-    ensures once { (I.state host.new).opens role ≤ (I.state host.old).opens role + 1 }
-    ensures opened { OnOk result (Rose ((I.state host.old).opens role) ((I.state host.new).opens role)) }
-    ensures cause { RefusalCause (I.state host.old).faults (I.state host.new).faults result }
-    ensures others { OthersStay role (I.state host.old) (I.state host.new) }
-    ensures admitted { StaysAdmitted (I.admits host.old) (I.admits host.new) }
-    ensures texts { SameTexts (I.state host.old) (I.state host.new) }
-{
-    match read_text(alloc, host, role, name, most) {
-        Ok(bytes) => Ok(bytes),
-        Err(ReadFault::TooLong) => Err(Refusal::Text(Answer::TooLong { role })),
-        Err(ReadFault::Input) => Err(Refusal::Cut(Stop::Input)),
-        Err(ReadFault::Memory) => Err(Refusal::Cut(Stop::Memory)),
     }
 }

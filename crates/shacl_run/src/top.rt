@@ -18,14 +18,13 @@ ghost use Rattle.shacl_run.specs.inner.Ends.{Ends, EndsByPattern};
 ghost use Rattle.shacl_run.specs.inner.Files.{FilesAreRead, RunsFiles, RunsWords};
 ghost use Rattle.shacl_run.specs.inner.Stops.{end_status};
 
-use crate::ending::refuse;
+use crate::ending::{refuse, status_of_stop};
 use crate::prepare::prepare;
 use crate::run_validation::run_validation;
 use crate::status::Status;
-use crate::stop::Stop;
-use crate::unopened::Unopened;
 use command_words::{Asked, read_words, word_texts};
 use report_write::{Answer, Format, write_answer};
+use shape_text::{Stop, Unopened};
 use shx_outside::{Inputs, PatternHost, Sink};
 use shx_term::{Limits, Pool, Steps, TermKeys, Text};
 use std::alloc::Global;
@@ -64,7 +63,7 @@ pub fn run<H: Inputs, O: Sink, P: PatternHost, K: Ledger, L: Ledger>(
         alloc, words, host, out, patterns, limits, keys, nested, steps,
     ) {
         Ok(status) => status,
-        Err(stop) => stop.status(),
+        Err(stop) => status_of_stop(stop),
     }
 }
 

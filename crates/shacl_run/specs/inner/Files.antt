@@ -9,10 +9,11 @@ use Rattle.shacl_run.specs.declared.status.Status.TheVariants.{InputFault}
 use Rattle.shacl_run.specs.Outside.{Outside}
 use Rattle.shacl_run.specs.Run.{Output, IsOpening, manner_of, opening_fed, opening_output, run_output}
 use Rattle.shacl_run.specs.Run.{script_text, texts_opening}
-use Rattle.shacl_run.specs.Readings.{Readings, AreJudged, DataIsRead, HavePlan, ShapesAreRead}
+use Rattle.shacl_run.specs.Readings.{Readings, DataIsRead}
+use Rattle.shape_text.specs.ShapesReadings.{AreJudged, HavePlan, ShapesAreRead}
 use Rattle.shacl_run.specs.RunClauses.{ByVerdict, DataIsReadBy, IsOpenedBy, LinesAreReadBy, OpensOnly}
 use Rattle.shacl_run.specs.RunClauses.{ScriptStops, StopsEarly, StopsFed, words_shapes}
-use Rattle.shacl_run.specs.Verdict.{Verdict}
+use Rattle.shape_text.specs.Verdict.{Verdict}
 use Rattle.command_words.specs.Asked.{Asked}
 use Rattle.command_words.specs.Words.{command_words}
 use Rattle.shacl_run.specs.inner.Ends.{Ends}

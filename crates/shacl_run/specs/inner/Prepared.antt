@@ -9,20 +9,21 @@ use Rattle.shx_term.specs.declared.limits.Limits.{Limits}
 use Rattle.text_input.specs.TextRead.{TakesWithin}
 use Rattle.report_write.specs.declared.answer.Answer.TheVariants.{OfShape}
 use Rattle.text_output.specs.declared.format.Format.{Format}
-use Rattle.shacl_run.specs.declared.unopened.Unopened.{Unopened}
-use Rattle.shacl_run.specs.declared.unopened.Unopened.TheVariants.{Told, Cut}
+use Rattle.shape_text.specs.declared.unopened.Unopened.{Unopened}
+use Rattle.shape_text.specs.declared.unopened.Unopened.TheVariants.{Told, Cut}
 use Rattle.script_run.specs.declared.validation.Validation.{Validation}
 use Rattle.graph_view.specs.Graph.{Graph}
 use Rattle.ttl_meaning.specs.State.{State}
 use Rattle.shape_eval.specs.Plan.{Planned}
-use Rattle.script_run.specs.Names.{HasNamesOf}
+use Rattle.shape_text.specs.Names.{HasNamesOf}
 use Rattle.shacl_run.specs.Run.{texts_opening, refused}
 use Rattle.shacl_run.specs.Run.Opening.{ends, opens}
-use Rattle.shacl_run.specs.Readings.{Readings, TextReading, States, AreJudged, DataIsRead, HavePlan}
-use Rattle.shacl_run.specs.Readings.{ShapesAreRead}
+use Rattle.shacl_run.specs.Readings.{Readings, DataIsRead}
+use Rattle.shape_text.specs.TextReadings.{TextReading, States}
+use Rattle.shape_text.specs.ShapesReadings.{AreJudged, HavePlan, ShapesAreRead}
 use Rattle.shacl_run.specs.RunClauses.{ByVerdict, IsOpened, IsOpenedBy}
 use Rattle.script_run.specs.ScriptState.{ScriptState}
-use Rattle.shacl_run.specs.Verdict.{Verdict, plans}
+use Rattle.shape_text.specs.Verdict.{Verdict, plans}
 use Rattle.script_run.specs.Stored.{IsValidation}
 
 -- the validation is what the two texts open, behind a notice

@@ -14,8 +14,8 @@ use Rattle.text_input.specs.ScriptReader.{ReaderState, left_of}
 use Rattle.text_output.specs.Writes.{Put, FellShort}
 use Rattle.script_run.specs.declared.script_run.ScriptRun.{ScriptRun}
 use Rattle.shacl_run.specs.declared.status.Status.{Status}
-use Rattle.shacl_run.specs.declared.stop.Stop.{Stop}
-use Rattle.shacl_run.specs.declared.stop.Stop.TheVariants.{Input, Write, Memory}
+use Rattle.shape_text.specs.declared.stop.Stop.{Stop}
+use Rattle.shape_text.specs.declared.stop.Stop.TheVariants.{Input, Write, Memory}
 use Rattle.shacl_run.specs.declared.take_line.Taken.{Taken}
 use Rattle.shacl_run.specs.declared.take_line.Taken.TheVariants.{Replied, End, PastLimit}
 use Rattle.shape_eval.specs.Report.{report}

@@ -1,4 +1,4 @@
-use Rattle.shacl_run.specs.declared.stop.Stop.TheVariants.{Write}
+use Rattle.shape_text.specs.declared.stop.Stop.TheVariants.{Write}
 use Rattle.shacl_run.specs.Run.{refused}
 use Rattle.shacl_run.proofs.EndLemmas.{Ends-answer, Ends-answer_short, passed_on}
 use Rattle.std.proofs.Common.{refl}

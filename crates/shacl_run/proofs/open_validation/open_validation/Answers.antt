@@ -6,8 +6,8 @@ use Rattle.shx_term.proofs.HeldLemmas.{with_terms_grow}
 use Rattle.graph_view.specs.Graph.{Graph}
 use Rattle.shape_eval.specs.Plan.{IsKnownPlan}
 use Rattle.shape_eval.specs.Planned.{plan_of}
-use Rattle.shacl_run.specs.Readings.{States}
-use Rattle.shacl_run.proofs.ReadingLemmas.{graph}
+use Rattle.shape_text.specs.TextReadings.{States}
+use Rattle.shape_text.proofs.ReadingLemmas.{graph}
 use Rattle.shacl_run.proofs.open_validation.open_validation.Goals as goal
 
 pub returns-clause-opened : goal.returns-clause-opened

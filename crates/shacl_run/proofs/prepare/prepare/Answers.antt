@@ -2,7 +2,7 @@ use Rattle.std.proofs.Common.{◌≡◌, refl, sym, ◌∙◌, subst, Some, Err,
 use Rattle.shx_outside.specs.declared.role.Role.TheVariants.{Shapes, Data}
 use Rattle.shape_eval.specs.Planned.{plan_of}
 use Rattle.shacl_run.specs.inner.Validation.{TargetsItsOwn}
-use Rattle.shacl_run.specs.Readings.{PatternsAreAdmitted}
+use Rattle.shape_text.specs.ShapesReadings.{PatternsAreAdmitted}
 use Rattle.shacl_run.specs.RunClauses.{IsOpenedBy}
 use Rattle.shacl_run.proofs.EndLemmas.{passed_on}
 use Rattle.shacl_run.proofs.OpenedLemmas.{PreparesWithin-both, PreparesWithin-shapes}

@@ -1,7 +1,7 @@
 use Rattle.std.proofs.Common.{refl, sym, ap, ◌∙◌, map, subst}
 use Rattle.report_write.proofs.RowLemmas.{count_of_slice, items_of_slice}
 use Rattle.text_output.specs.Writes.{FellShort, Put}
-use Rattle.shacl_run.specs.declared.stop.Stop.TheVariants.{Write}
+use Rattle.shape_text.specs.declared.stop.Stop.TheVariants.{Write}
 use Rattle.shacl_run.specs.Run.{status_of_rows}
 use Rattle.shacl_run.proofs.EndLemmas.{passed_on}
 use Rattle.shacl_run.proofs.ValidationLemmas.{first-validation}

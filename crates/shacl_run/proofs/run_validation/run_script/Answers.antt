@@ -7,14 +7,15 @@ use Rattle.shx_term.specs.declared.limits.Limits.{Limits}
 use Rattle.text_input.specs.TextRead.{TakesWithin}
 use Rattle.ttl_meaning.specs.declared.document.Document.{Document}
 use Rattle.shacl_run.specs.declared.status.Status.TheVariants.{InputFault}
-use Rattle.shacl_run.specs.declared.stop.Stop.TheVariants.{Input, Memory, Write}
+use Rattle.shape_text.specs.declared.stop.Stop.TheVariants.{Input, Memory, Write}
 use Rattle.shacl_run.specs.inner.Serving.{due_at}
 use Rattle.shacl_run.specs.inner.Stops.{end_status}
-use Rattle.script_run.specs.Names.{HasNamesOf}
+use Rattle.shape_text.specs.Names.{HasNamesOf}
 use Rattle.shacl_run.specs.Outside.{outside}
 use Rattle.shacl_run.specs.Run.{validation_output}
 use Rattle.shacl_run.proofs.EndLemmas.{Ends-input, Ends-memory, passed_on}
-use Rattle.shacl_run.proofs.OpenedLemmas.{next_bounded, next_rose, not_opened}
+use Rattle.shape_text.proofs.OpenedLemmas.{next_bounded, next_rose}
+use Rattle.shacl_run.proofs.OpenedLemmas.{not_opened}
 use Rattle.shacl_run.proofs.ServedLemmas.{cut_unanswered, reported_answered, stop_words}
 use Rattle.shacl_run.proofs.ValidationLemmas.{IsValidation-within}
 use Rattle.shacl_run.proofs.ValidationRunLemmas.{Ends-behind_report, Ends-within_report, StopsFed-reported}

@@ -8,12 +8,12 @@ use Rattle.text_output.specs.Writes.{FellShort, Put}
 use Rattle.report_write.specs.declared.answer.Answer.TheVariants.{TooLong}
 use Rattle.text_input.proofs.CountLemmas.{GoesOn-then}
 use Rattle.shacl_run.specs.declared.status.Status.TheVariants.{BadWords, InputFault}
-use Rattle.shacl_run.specs.declared.stop.Stop.TheVariants.{Write}
+use Rattle.shape_text.specs.declared.stop.Stop.TheVariants.{Write}
 use Rattle.shacl_run.specs.declared.take_line.Taken.{Taken}
 use Rattle.shacl_run.specs.inner.Ends.{Ends}
 use Rattle.shacl_run.specs.inner.Serving.{due_at, open_notice}
 use Rattle.shacl_run.specs.inner.Stops.{end_status, stop_status}
-use Rattle.script_run.specs.Names.{HasNamesOf}
+use Rattle.shape_text.specs.Names.{HasNamesOf}
 use Rattle.shacl_run.specs.Outside.{outside}
 use Rattle.shacl_run.specs.Run.{refused}
 use Rattle.shacl_run.proofs.EndLemmas.{Ends-from_still, Ends-told, IsStill, passed_on, input_stop}

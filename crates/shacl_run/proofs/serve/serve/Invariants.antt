@@ -4,7 +4,7 @@ use Rattle.shx_outside.specs.Outside.{PatternState}
 use Rattle.text_input.specs.ScriptReader.{new_reader, left_of, GoesOn}
 use Rattle.ttl_meaning.specs.State.{State}
 use Rattle.script_run.specs.Manner.{Manner}
-use Rattle.script_run.specs.Names.{HasNamesOf}
+use Rattle.shape_text.specs.Names.{HasNamesOf}
 use Rattle.shacl_run.specs.Outside.{outside}
 use Rattle.script_run.specs.ScriptState.{ScriptState}
 use Rattle.shacl_run.specs.inner.Serving.{HaveReadings, LinesAreReadAt}

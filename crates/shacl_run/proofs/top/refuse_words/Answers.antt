@@ -2,7 +2,7 @@ use Rattle.std.proofs.Common.{[], refl}
 use Rattle.report_write.specs.declared.answer.Answer.TheVariants.{Usage}
 use Rattle.text_output.specs.declared.format.Format.TheVariants.{Lines}
 use Rattle.shacl_run.specs.declared.status.Status.TheVariants.{BadWords}
-use Rattle.shacl_run.specs.declared.stop.Stop.TheVariants.{Write}
+use Rattle.shape_text.specs.declared.stop.Stop.TheVariants.{Write}
 use Rattle.shacl_run.specs.Run.{answer_output}
 use Rattle.shacl_run.proofs.EndLemmas.{Ends-answer, Ends-answer_short, passed_on}
 use Rattle.shacl_run.proofs.top.refuse_words.Goals as goal

@@ -20,6 +20,6 @@ returns-in-Err g c =
     (g.P.PatternHost.state c.args.patterns.now) c.args.nested.now c.args.steps.now in
     let after = outside (g.H.Inputs.state c.run_words.new.host) (g.O.Sink.state c.run_words.new.out)
     (g.P.PatternHost.state c.run_words.new.patterns) c.run_words.new.nested c.run_words.new.steps in
-    rw c.status.ensures
+    rw c.status_of_stop.ensures
     (IsRun-ended c.args.limits.now c.args.words.now before after (stop_status c.in-Err.stop)
     run.runs run.causes run.patterns run.read run.read_to_end run.opened run.within)

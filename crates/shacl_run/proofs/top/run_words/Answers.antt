@@ -3,12 +3,12 @@ use Rattle.shx_outside.specs.declared.role.Role.TheVariants.{Data, Script}
 use Rattle.command_words.specs.Asked.{asked_of}
 use Rattle.command_words.specs.Words.{command_words, texts_of}
 use Rattle.script_lines.specs.declared.fault.LineFault.TheVariants.{Memory as no_memory}
-use Rattle.shacl_run.specs.declared.stop.Stop.TheVariants.{Memory}
+use Rattle.shape_text.specs.declared.stop.Stop.TheVariants.{Memory}
 use Rattle.shacl_run.specs.Outside.{outside}
-use Rattle.shacl_run.specs.Readings.{Long}
+use Rattle.shape_text.specs.TextReadings.{Long}
 use Rattle.shacl_run.specs.RunClauses.{ShapesAreReadBy}
-use Rattle.shacl_run.specs.Verdict.{stops}
-use Rattle.shacl_run.specs.Verdict.Obstacle.{recurs}
+use Rattle.shape_text.specs.Verdict.{stops}
+use Rattle.shape_text.specs.Verdict.Obstacle.{recurs}
 use Rattle.shacl_run.proofs.EndLemmas.{Ends-memory, Ends-told, IsStill-itself, passed_on}
 use Rattle.shacl_run.proofs.FilesLemmas.{words_run}
 use Rattle.shacl_run.proofs.OpenedLemmas.{OpensInTurn-still, StaysWithin-still, not_opened}

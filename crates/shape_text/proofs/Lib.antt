@@ -1,0 +1,14 @@
+pub mod DocumentLemmas
+pub mod InTurnLemmas
+pub mod JudgeLemmas
+pub mod OpenedLemmas
+pub mod ReadingLemmas
+pub mod SameDeclarationLemmas
+pub mod SameNestedLemmas
+pub mod SamePairLemmas
+pub mod SamePlaceLemmas
+pub mod SamePlanLemmas
+pub mod SameResultLemmas
+pub mod SameShapeLemmas
+pub mod SameTextLemmas
+pub mod VerdictLemmas

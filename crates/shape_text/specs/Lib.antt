@@ -1,0 +1,11 @@
+pub mod Judging
+pub mod Names
+pub mod Refusal
+pub mod SamePlans
+pub mod ShapesReadings
+pub mod Stops
+pub mod TextReadings
+pub mod Turtle
+pub mod Unopened
+pub mod Verdict
+pub mod inner

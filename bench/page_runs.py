@@ -1,13 +1,14 @@
 #!/usr/bin/env python3
-"""Runs what docs/USE.md and docs/DIFFERENCES.md show, and compares what comes with what stands there. Run it
-at the top of the repository, where the program was built.
+"""Runs what docs/USE.md, docs/SCALE.md and docs/DIFFERENCES.md show, and compares what comes with what stands
+there. Run it at the top of the repository, where the program was built.
 
     bench/page_runs.py                  prints what differs, and ends with 1 where something does
     bench/page_runs.py --program PATH   the same with another program
 
-Of USE.md, each block of `sh` is run in a folder with the files that the page shows before; what stands right
-behind it is its output. A block with a program that is not installed (serdi, rapper, roqet, RDFLib) is left
-out. Of DIFFERENCES.md, each block has shapes, and data below `# data`.
+Of the first two, each block of `sh` is run in a folder with the files that the page shows before, and with
+`examples`; what stands right behind it is its output. A block with a program that is not installed (serdi,
+rapper, roqet, RDFLib, parallel), or one for other machines, is left out. Of DIFFERENCES.md, each block has
+shapes, and data below `# data`.
 """
 import os
 import re
@@ -22,7 +23,8 @@ PROGRAM = os.path.join(TOP, "crates", "shacl_keep", "out", "shacl_keep")
 BLOCK = re.compile(r"^```(\w*)\n(.*?)^```\n", re.S | re.M)
 # A text that ends with the name of a file says what the block behind it is.
 NAMED = re.compile(r"(?:file|files|and)\s\*\*([\w.]+)\*\*:?\s*$")
-OTHERS = ("serdi", "rapper", "roqet")
+OTHERS = ("serdi", "rapper", "roqet", "parallel")
+ELSEWHERE = "ssh "
 RDFLIB = "/usr/bin/python3 -m rdflib"
 # Files that USE.md speaks of and does not show.
 GIVEN = {
@@ -53,7 +55,7 @@ def write(folder, name, text):
 
 
 def is_installed(commands):
-    if any(re.search(rf"\b{other} -", commands) and not shutil.which(other) for other in OTHERS):
+    if any(re.search(rf"\b{other} [-']", commands) and not shutil.which(other) for other in OTHERS):
         return False
     return RDFLIB not in commands or subprocess.run(
         ["/usr/bin/python3", "-c", "import rdflib"], stderr=subprocess.DEVNULL, check=False
@@ -71,11 +73,13 @@ def difference(shown, due, came):
     return f"{shown}what stands there:\n{due}what came:\n{came}"
 
 
-def use_differs(folder):
-    """Runs the commands of USE.md one after the other."""
-    found = list(blocks(page("USE.md"))) + [("end", "", "")]
+def commands_differ(folder, name):
+    """Runs the commands of a page one after the other."""
+    found = list(blocks(page(name))) + [("end", "", "")]
     for (before, word, text), (between, next_word, due) in zip(found, found[1:]):
         named = NAMED.search(before)
+        if ELSEWHERE in text:
+            continue
         if word == "sh" and is_installed(text):
             came = said(["bash", "-c", text], folder)
             due = due if not between.strip() and not next_word else ""
@@ -87,9 +91,9 @@ def use_differs(folder):
             write(folder, named[1], text)
 
 
-def differences_differ(folder):
-    """Runs the examples of DIFFERENCES.md."""
-    (_, _, prefixes), *found = blocks(page("DIFFERENCES.md"))
+def examples_differ(folder, name):
+    """Runs the examples of a page of shapes and data."""
+    (_, _, prefixes), *found = blocks(page(name))
     for (_, word, text), (_, _, due) in zip(found, found[1:]):
         if word == "turtle":
             shapes, data = text.split("# data\n")
@@ -100,16 +104,24 @@ def differences_differ(folder):
                 yield difference(text, due, came)
 
 
+def prepare(folder, program):
+    """Puts into a folder what pages speak of and do not show."""
+    os.mkdir(os.path.join(folder, "bin"))
+    os.symlink(program, os.path.join(folder, "bin", "shacl_keep"))
+    os.symlink(os.path.join(TOP, "bin", "shacl_split"), os.path.join(folder, "bin", "shacl_split"))
+    os.symlink(os.path.join(TOP, "examples"), os.path.join(folder, "examples"))
+    for name, text in GIVEN.items():
+        write(folder, name, text)
+
+
 def main():
     program = os.path.abspath(sys.argv[2] if sys.argv[1:2] == ["--program"] else PROGRAM)
     bad = 0
-    for differs in (use_differs, differences_differ):
+    pages = {"USE.md": commands_differ, "SCALE.md": commands_differ, "DIFFERENCES.md": examples_differ}
+    for name, differs in pages.items():
         with tempfile.TemporaryDirectory() as folder:
-            os.mkdir(os.path.join(folder, "bin"))
-            os.symlink(program, os.path.join(folder, "bin", "shacl_keep"))
-            for name, text in GIVEN.items():
-                write(folder, name, text)
-            for why in differs(folder):
+            prepare(folder, program)
+            for why in differs(folder, name):
                 bad += 1
                 print(why)
     print(f"{bad} differ")

@@ -80,7 +80,8 @@ def places(path, crate=None):
 
 def pages():
     """The pages that speak of the code."""
-    return [it for it in files() if re.match(r"README\.md|(docs|crates/\w+|runs)/[\w-]+\.md$", it)]
+    form = re.compile(r"(?:README|CONTRIBUTING)\.md|(?:docs|crates/\w+|runs)/[\w-]+\.md$")
+    return [it for it in files() if form.match(it)]
 
 
 def prose(page):

@@ -1,16 +1,15 @@
 -- What is remembered under an old plan, and was copied of alike shapes: it is right under the new one, and
 -- closed.
-use Rattle.std.specs.Prelude.{◌≡◌, ◌<◌, ℕ, List, Option, Some, Contains, is_some, length, map}
+use Rattle.std.specs.Prelude.{◌≡◌, ◌<◌, List, Option, Some, Contains, is_some, length}
 use Rattle.std.proofs.Common.{refl, sym, ap, ◌∙◌, subst}
 use Rattle.shx_term.specs.Members.{SameMembers}
-use Rattle.shx_term.proofs.MemberLemmas.{Contains-from_map, Contains-map}
+use Rattle.shx_term.proofs.MemberLemmas.{Contains-from_map}
 use Rattle.shx_term.proofs.SetLemmas.{SameMembers-then}
 use Rattle.graph_view.specs.Graph.{Graph}
 use Rattle.comp_core.specs.declared.pair.Pair.{Pair}
 use Rattle.shape_eval.specs.Nested.{nested_in}
 use Rattle.shape_eval.specs.Plan.{IsNumbered}
 use Rattle.shape_eval.specs.Recalled.{AreRecalled, IsRecallOf, IsRecalled, IsRightOf}
-use Rattle.shape_eval.specs.Report.{at_shape}
 use Rattle.shape_eval.specs.Results.{pair_reads, results}
 use Rattle.plan_swap.specs.declared.swap.Swap.{Swap}
 use Rattle.plan_swap.specs.Renumbered.{AlikeShapesFindAlike, AlikeShapesNestAlike, rows_renumbered}

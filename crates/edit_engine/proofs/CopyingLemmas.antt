@@ -1,10 +1,10 @@
 -- Answers that are copied in turn.
-use Rattle.std.specs.Prelude.{◌≡◌, List, [], ◌∷◌, ◌++◌, Option, Some, None, Contains, IsSome, is_some, ◌⊎◌}
-use Rattle.std.proofs.Common.{refl, sym, ap, ◌∙◌, subst, inl, inr, true≢false}
+use Rattle.std.specs.Prelude.{◌≡◌, List, [], ◌∷◌, ◌++◌, Option, Some, None, Contains, IsSome, ◌⊎◌}
+use Rattle.std.proofs.Common.{refl, sym, ap, ◌∙◌, subst, inl, inr}
 use Rattle.std.proofs.lemmas.List.Elements.{Contains-append_cases, Contains-append_left}
 use Rattle.std.proofs.lemmas.List.Elements.{Contains-append_right}
 use Rattle.shx_term.specs.InOrder.{Lists}
-use Rattle.shx_term.proofs.MemberLemmas.{Contains-head, Contains-one, none_in_empty}
+use Rattle.shx_term.proofs.MemberLemmas.{Contains-head, Contains-one}
 use Rattle.comp_core.specs.Memo.{RemembersAlso}
 use Rattle.comp_core.specs.declared.pair.Pair.{Pair}
 use Rattle.shape_eval.specs.Plan.{IsNumbered}
@@ -54,13 +54,6 @@ module _ {swap : Swap} {was : Pair → Option Answer} where
     was = copied.was;
     is = same ∙ copied.is;
     same = copied.same;
-  }
-
-  pub AreCopiedOf-none : {now : Pair → Option Answer} → ((p : Pair) → now p ≡ None)
-      → AreCopiedOf swap was now []
-  AreCopiedOf-none none = record {
-    each = λ q p c. absurd (none_in_empty q c);
-    only = λ p there. absurd (true≢false (sym there ∙ ap is_some (none p)));
   }
 
   -- once all that are remembered were gone over

@@ -1,6 +1,5 @@
 -- Two plans, of whose shapes it is told which are alike: a pair of the one as a pair of the other.
-use Rattle.std.specs.Prelude.{◌≡◌, ◌<◌, ℕ, nat_eq, List, Option, Some, None, get_or}
-use Rattle.std.specs.Prelude.{length, position, slice_get}
+use Rattle.std.specs.Prelude.{◌≡◌, ℕ, nat_eq, List, Option, Some, None, get_or, length, position, slice_get}
 use Rattle.std.specs.List.{position_or_len}
 use Rattle.std.specs.Option.{option_eq, option_map, unwrap_or}
 use Rattle.std.proofs.Common.{refl, sym, ap, ◌∙◌, arith, eq-eqb, subst}

@@ -1,7 +1,6 @@
 -- A pair of a new plan that was one of the old plan, at an alike shape: what was kept of it is taken over.
-use Rattle.std.specs.Prelude.{◌≡◌, ◌<◌, ℕ, true, false, List, Option, Some, None, Contains, length, slice_get}
+use Rattle.std.specs.Prelude.{◌≡◌, true, false, List, Some, None, Contains, slice_get}
 use Rattle.std.proofs.Common.{sym, ap, ◌∙◌, subst, inl, inr}
-use Rattle.std.proofs.lemmas.Option.{slice_get_within}
 use Rattle.shx_term.specs.declared.term.Term.{Term}
 use Rattle.shx_term.specs.Members.{SameMembers}
 use Rattle.shx_term.proofs.SetLemmas.{SameMembers-then}
@@ -20,10 +19,10 @@ use Rattle.pair_results.specs.PairResults.{rows_at}
 use Rattle.read_records.specs.declared.reader.Reader.TheVariants.{OfPair}
 use Rattle.read_records.specs.Records.{reads_of}
 use Rattle.edit_engine.specs.declared.kept.Kept.{Kept}
+use Rattle.edit_engine.specs.Renewal.{IsRight}
 use Rattle.edit_engine.specs.Swapped.{is_pair_of, was_pair}
 use Rattle.edit_engine.specs.Touched.{is_among_pairs}
 use Rattle.edit_engine.specs.inner.Kept.{IsKeptOf}
-use Rattle.edit_engine.specs.inner.Swapping.{IsAnswerOf}
 use Rattle.edit_engine.proofs.CopiedLemmas.{reads_after, results_after}
 use Rattle.edit_engine.proofs.PairLemmas.{among_pairs, pair_or_not}
 use Rattle.edit_engine.proofs.SwapLemmas.{IsAlikePair, before_alike}
@@ -31,11 +30,6 @@ use Rattle.edit_engine.proofs.SwapLemmas.{IsAlikePair, before_alike}
 module _ (swap : Swap) (is : IsSwap swap) (numbered : IsNumbered (plan_before swap).shapes)
     (renumbered : IsNumbered (plan_after swap).shapes) (g : Graph) (kept : Kept)
     (held : IsKeptOf (plan_before swap).shapes (plan_before swap).targeted g kept) (p : Pair) where
-  -- a pair that has no old one was none
-  pub none_before : None ≡ pair_before swap.alikes.now p
-      → was_pair (plan_before swap) swap.alikes.now g p ≡ false
-  none_before none = ap (is_pair_of (plan_before swap) g) (sym none)
-
   module _ (q : Pair) (before : Some q ≡ pair_before swap.alikes.now p) where
     pub alike_before : IsAlikePair (plan_before swap).shapes (plan_after swap).shapes q p
     alike_before =
@@ -69,7 +63,7 @@ module _ (swap : Swap) (is : IsSwap swap) (numbered : IsNumbered (plan_before sw
           → found.rows.items ≡ rows_renumbered (number_after swap) (rows_at kept.results q.shape node)
           → SameMembers found.reads reads
           → (was_pair (plan_before swap) swap.alikes.now g p ≡ true)
-          × IsAnswerOf (plan_after swap).shapes g p found
+          × IsRight (plan_after swap).shapes g (record { pair = p; answer = found })
       taken_over law node at found rows read =
           let there = held.records.pairs q is_old_pair in
           let one : there.reads ≡ reads = cc in (

@@ -1,4 +1,5 @@
--- What another plan makes of an engine: which pairs are evaluated, and what stays, under new numbers.
+-- What another plan makes of an engine: which pairs are evaluated, and what stays, under new numbers. Of each
+-- new shape `alikes` has the number of the old one that is alike, where one is.
 use Rattle.std.specs.Prelude.{◌≡◌, ℕ, ◌+◌, Bool, false, not, List, ◌++◌, Option, Some, None, filter, length}
 use Rattle.std.specs.List.{filter_map}
 use Rattle.std.specs.Set.{distinct_count}
@@ -13,8 +14,7 @@ use Rattle.edit_engine.specs.EngineState.{EngineState}
 use Rattle.edit_engine.specs.Remembered.{AreAllRecalled, answer_of, fresh}
 use Rattle.edit_engine.specs.Touched.{is_among_pairs}
 
--- of each new shape the number of the old one that is alike, where one is
-
+-- whether there is a pair, and it is one of the plan on the graph
 abbrev pub is_pair_of : Planned → Graph → Option Pair → Bool
 is_pair_of plan g None = false
 is_pair_of plan g (Some p) = is_among_pairs (pairs plan g) p

@@ -1,13 +1,9 @@
 //! `Engine::adopt`: another plan takes the place of the one at hand, and what is kept of alike shapes stays.
-ghost use Rattle.std.specs.Prelude.{◌≡◌, ◌+◌, length, All, IfOk, OnErr, OnOk};
-ghost use Rattle.shape_eval.specs.Answered.{answered};
-ghost use Rattle.shape_eval.specs.Plan.{IsNumbered};
+ghost use Rattle.std.specs.Prelude.{◌≡◌, ◌+◌, length, IfOk, OnErr};
 ghost use Rattle.shape_eval.specs.Planned.{plan_of};
-ghost use Rattle.shape_eval.specs.Report.{pairs};
 ghost use Rattle.plan_swap.specs.Alike.{AreAlikes};
 ghost use Rattle.plan_swap.specs.Swap.{IsSwap, plan_after, plan_before};
 ghost use Rattle.edit_engine.specs.MayBeAsked.{MayBeAsked};
-ghost use Rattle.edit_engine.specs.Remembered.{answer_of};
 ghost use Rattle.edit_engine.specs.Swapped.{Adopts, SwapsFresh, swapped_pairs};
 ghost use Rattle.edit_engine.specs.inner.Kept.{IsKeptOf};
 ghost use Rattle.read_records.specs.Recall.{kept_of};

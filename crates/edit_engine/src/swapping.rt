@@ -1,10 +1,6 @@
 //! What is taken over from under an old plan, and what is evaluated under the new one.
-ghost use Rattle.std.specs.Prelude.{◌≡◌, ◌+◌, [], not, filter, length, All, Contains, IfOk, OnOk, IsSome};
-ghost use Rattle.shx_term.specs.Members.{SameMembers};
-ghost use Rattle.graph_view.specs.Valid.{IsValidView};
+ghost use Rattle.std.specs.Prelude.{◌≡◌, ◌+◌, [], not, filter, length, All, IfOk, OnOk};
 ghost use Rattle.shape_eval.specs.Answered.{answered};
-ghost use Rattle.shape_eval.specs.Plan.{IsKnownPlan};
-ghost use Rattle.shape_eval.specs.Recalled.{IsRecallOf};
 ghost use Rattle.plan_swap.specs.Swap.{IsSwap, plan_after, plan_before};
 ghost use Rattle.read_records.specs.Recall.{kept_of};
 ghost use Rattle.edit_engine.specs.MayBeAsked.{MayBeAsked};
@@ -23,7 +19,7 @@ use graph_view::{GraphView, Reads};
 use plan_swap::{Swap, alike_shapes_find_alike, alike_shapes_nest_alike};
 use read_records::{Reader, Recall};
 use shape_eval::{Answers, Known, PairAnswer};
-use shx_term::{Memory, Pool, Steps};
+use shx_term::{Memory, Steps};
 use std::alloc::Global;
 use std::sync::ledger::Ledger;
 

@@ -1,4 +1,5 @@
 -- One plan in the place of another, of whose shapes some are alike: pairs of the one as pairs of the other.
+-- Of each new shape `alikes` has the number of the old one that is alike, where one is.
 use Rattle.std.specs.Prelude.{ℕ, nat_eq, List, Option, Some, None, position, slice_get}
 use Rattle.std.specs.Option.{option_eq, option_map, unwrap_or}
 use Rattle.comp_core.specs.declared.pair.Pair.{Pair}
@@ -8,8 +9,6 @@ use Rattle.shape_eval.specs.Report.{at_shape}
 use Rattle.plan_swap.specs.declared.swap.Swap.{Swap}
 use Rattle.plan_swap.specs.Alike.{AreAlikes}
 use Rattle.plan_swap.specs.Renumbered.{new_number}
-
--- of each new shape the number of the old one that is alike, where one is
 
 -- the pair of the old plan that a new one was: at the alike shape, and at the same node
 abbrev pub pair_before : List (Option ℕ) → Pair → Option Pair

@@ -17,22 +17,19 @@ use Rattle.report_write.specs.ReportTexts.{report_text}
 abbrev pub written : Format → Planned → Graph → List ℕ
 written format plan g = report_text format g.terms plan.shapes (report plan g)
 
--- how many results the report has, at how many pairs, and how many pairs are nested in these, each once
+-- how many results the report has, and at how many pairs
 abbrev pub result_count : Planned → Graph → ℕ
 result_count plan g = length (report plan g)
 
 abbrev pub pair_count : Planned → Graph → ℕ
 pair_count plan g = length (pairs plan g)
 
-abbrev pub nested_count : Planned → Graph → ℕ
-nested_count plan g = distinct_count same_pair (nested_pairs plan g)
-
--- two plans come to the same on a graph
+-- two plans come to the same on a graph; so many pairs are nested in theirs, each counted once
 pub record WritesTheSame (p q : Planned) (g : Graph) : Type 0 where
   pub text : (format : Format) → written format p g ≡ written format q g
   pub results : result_count p g ≡ result_count q g
   pub pairs : pair_count p g ≡ pair_count q g
-  pub nested : nested_count p g ≡ nested_count q g
+  pub nested : distinct_count same_pair (nested_pairs p g) ≡ distinct_count same_pair (nested_pairs q g)
 
 -- plans of the same declarations come to the same on every graph, whatever numbers they give the shapes
 abbrev pub PlansWriteTheSame : Type 0

@@ -1,5 +1,5 @@
 -- What is taken over from under an old plan, while a new one is adopted.
-use Rattle.std.specs.Prelude.{◌≡◌, ℕ, true, false, List, Option, Some, MatchOption}
+use Rattle.std.specs.Prelude.{◌≡◌, true, false, List, Option, Some, MatchOption}
 use Rattle.shx_term.specs.Members.{SameMembers}
 use Rattle.graph_view.specs.declared.key.Key.{Key}
 use Rattle.graph_view.specs.Graph.{Graph}
@@ -7,11 +7,11 @@ use Rattle.comp_core.specs.declared.memo.PairAnswer.{PairAnswer}
 use Rattle.comp_core.specs.declared.pair.Pair.{Pair}
 use Rattle.shape_eval.specs.declared.shape.PlanShape.{PlanShape}
 use Rattle.shape_eval.specs.Recalled.{IsRecalled}
-use Rattle.shape_eval.specs.Results.{pair_reads, results}
 use Rattle.plan_swap.specs.declared.swap.Swap.{Swap}
 use Rattle.plan_swap.specs.Renumbered.{rows_renumbered}
 use Rattle.plan_swap.specs.Swap.{number_after, pair_after, plan_before}
 use Rattle.read_records.specs.Recall.{Answer}
+use Rattle.edit_engine.specs.Renewal.{IsRight}
 use Rattle.edit_engine.specs.Swapped.{was_pair}
 
 -- an answer, under new numbers
@@ -34,14 +34,9 @@ pub record AreCopied (swap : Swap) (old new : Pair → Option Answer) : Type 0 w
   pub only : (p : Pair) → IsRecalled new p
       → (q : Pair) × (IsRecalled old q × (pair_after swap.alikes.now q ≡ Some p))
 
--- what a pair comes to
-pub record IsAnswerOf (shapes : List PlanShape) (g : Graph) (p : Pair) (answer : PairAnswer (List Key))
-    : Type 0 where
-  pub rows : answer.rows.items ≡ results shapes g p
-  pub reads : SameMembers answer.reads (pair_reads shapes g p)
-
 -- what was kept of a pair is what it comes to, where it was a pair; else nothing was
 abbrev pub IsTakenOver : Swap → List PlanShape → Graph → Pair → Option (PairAnswer (List Key)) → Type 0
 IsTakenOver swap shapes g p found =
     MatchOption found (was_pair (plan_before swap) swap.alikes.now g p ≡ false)
-    (λ answer. (was_pair (plan_before swap) swap.alikes.now g p ≡ true) × IsAnswerOf shapes g p answer)
+    (λ answer. (was_pair (plan_before swap) swap.alikes.now g p ≡ true)
+    × IsRight shapes g (record { pair = p; answer = answer }))

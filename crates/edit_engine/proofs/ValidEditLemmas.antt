@@ -3,37 +3,24 @@ use Rattle.std.specs.Prelude.{List, [], ◌∷◌, All, ◌≡◌}
 use Rattle.std.proofs.Common.{refl, sym, subst}
 use Rattle.std.proofs.lemmas.List.Elements.{All-cons, All-head, All-nil, All-tail}
 use Rattle.shx_term.specs.declared.term.Term.{Term}
-use Rattle.shx_term.specs.declared.term.Term.TheVariants.{Blank, Iri, Lit}
 use Rattle.shx_term.specs.declared.triple.TermTriple.{TermTriple}
 use Rattle.shx_term.specs.Members.{SameMembers}
 use Rattle.shx_term.specs.Pool.{with_term, with_terms}
-use Rattle.shx_term.specs.TripleTerms.{numbered_all, terms_of}
-use Rattle.shx_term.specs.ValidTriples.{IsIri, IsNoLiteral, IsNotWide, IsValidTermTriple}
+use Rattle.shx_term.specs.TripleTerms.{terms_of}
+use Rattle.shx_term.specs.ValidTriples.{IsNotWide, IsValidTermTriple}
 use Rattle.shx_term.proofs.HeldLemmas.{with_terms_grow}
 use Rattle.shx_term.proofs.MemberLemmas.{All_of_each, each_of_All}
 use Rattle.edit_history.specs.declared.net.Net.{Net}
 use Rattle.graph_view.specs.Graph.{Graph}
 use Rattle.graph_view.specs.Valid.{IsValidTriple, IsValidView}
 use Rattle.graph_view.proofs.PatchedLemmas.{IsValidView-patched}
-use Rattle.graph_view.proofs.ValidLemmas.{IsValidTriple-numbered, IsValidView-entered}
+use Rattle.graph_view.proofs.ValidLemmas.{IsValidView-entered, narrow_predicate, narrow_subject}
+use Rattle.graph_view.proofs.ValidLemmas.{valid_numbered}
 use Rattle.shape_eval.specs.declared.shape.PlanShape.{PlanShape}
 use Rattle.shape_eval.specs.Plan.{IsKnownPlan, Planned}
 use Rattle.edit_engine.specs.MayBeAsked.{MayBeAsked}
 use Rattle.edit_engine.specs.Nets.{IsNetOn, added_to, graph_after, removed_from, terms_after}
 use Rattle.edit_engine.proofs.EnterLemmas.{plan_known_more}
-use Rattle.edit_engine.proofs.NetPatchLemmas.{Contains-from_numbered_all}
-
--- ---- terms that are no wide literals
-
-narrow_subject : (t : Term) → IsNoLiteral t → IsNotWide t
-narrow_subject (Iri iri) is = tt
-narrow_subject (Blank blank) is = tt
-narrow_subject (Lit literal) is = absurd is
-
-narrow_predicate : (t : Term) → IsIri t → IsNotWide t
-narrow_predicate (Iri iri) is = tt
-narrow_predicate (Blank blank) is = absurd is
-narrow_predicate (Lit literal) is = absurd is
 
 -- those of valid triples
 pub narrow_terms : (ts : List TermTriple) → All IsValidTermTriple ts → All IsNotWide (terms_of ts)
@@ -57,13 +44,6 @@ valid_entered g (t ∷ ts) valid narrow =
     (All-tail IsNotWide t ts narrow)
 
 -- and where a change that may be made is made
--- triples over the numbers of valid ones are valid
-pub valid_numbered : (terms : List Term) (ts : List TermTriple) → All IsValidTermTriple ts
-    → All (IsValidTriple terms) (numbered_all terms ts)
-valid_numbered terms ts fit = All_of_each (IsValidTriple terms) (numbered_all terms ts) (λ u c.
-    let from = Contains-from_numbered_all terms ts u c in
-    IsValidTriple-numbered terms from.0 u from.2 (each_of_All IsValidTermTriple ts fit from.0 from.1))
-
 pub valid_after : (g : Graph) (net : Net) → IsValidView g → IsNetOn g net → IsValidView (graph_after g net)
 valid_after g net valid fits =
     let terms = terms_after g net in

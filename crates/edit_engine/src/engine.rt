@@ -8,13 +8,24 @@ use std::marker::Model;
 /// It keeps the results of each pair of a targeted shape and one of its target nodes, and for each pair, and
 /// each target, the keys that were read; and both of the pairs that are nested in these. All of it is of the
 /// terms that are settled, so what was entered behind them can be cut off.
-#[derive(Drop)]
 pub struct Engine<V: GraphEdit> {
     pub(crate) plan: Plan,
     pub(crate) view: V,
     pub(crate) kept: Kept,
     /// How many terms there were when the graph was last changed, or opened.
     pub(crate) settled: u32,
+}
+
+// A derived drop is no call: each place where an engine ends would split into one path for each of its parts.
+impl<V: GraphEdit + Drop> Drop for Engine<V> {
+    fn drop(self) {
+        let Engine {
+            plan: _plan,
+            view: _view,
+            kept: _kept,
+            settled: _settled,
+        } = self;
+    }
 }
 
 impl<V: GraphEdit> Model for Engine<V> {

@@ -14,7 +14,6 @@ use shx_term::{Memory, Pool};
 use std::alloc::{AllocError, Global};
 
 /// What was read for each target and each pair, the results of each pair, and what nested pairs come to.
-#[derive(Drop)]
 pub(crate) struct Kept {
     pub(crate) records: Records,
     pub(crate) results: PairResults,
@@ -23,6 +22,19 @@ pub(crate) struct Kept {
     pub(crate) pairs: u64,
     /// How many there are once what is staged is made.
     pub(crate) coming: u64,
+}
+
+// A derived drop is no call: each place where it ends would split into one path for each of its parts.
+impl Drop for Kept {
+    fn drop(self) {
+        let Kept {
+            records: _records,
+            results: _results,
+            recall: _recall,
+            pairs: _pairs,
+            coming: _coming,
+        } = self;
+    }
 }
 
 impl Kept {

@@ -1,19 +1,20 @@
 -- Valid triples by their numbers, and views that stay valid as terms are entered and triples come and go.
-use Rattle.std.specs.Prelude.{◌≡◌, ℕ, ◌<◌, List, ◌++◌, length, take, slice_get, All, Contains}
+use Rattle.std.specs.Prelude.{◌≡◌, ℕ, ◌<◌, List, [], ◌∷◌, ◌++◌, length, take, slice_get, All, Contains}
 use Rattle.std.specs.Prelude.{Option, Some, None}
-use Rattle.std.proofs.Common.{drop, sym, ap, ◌∙◌, subst, inl, inr}
+use Rattle.std.proofs.Common.{drop, refl, sym, ap, ◌∙◌, subst, inl, inr}
 use Rattle.std.proofs.lemmas.List.{take-append-drop}
-use Rattle.std.proofs.lemmas.List.Elements.{All-take}
+use Rattle.std.proofs.lemmas.List.Elements.{All-cons, All-head, All-nil, All-tail, All-take}
 use Rattle.std.proofs.lemmas.Option.{slice_get_within}
 use Rattle.shx_term.specs.declared.term.Term.{Term}
+use Rattle.shx_term.specs.declared.term.Term.TheVariants.{Iri, Blank, Lit}
 use Rattle.shx_term.specs.declared.triple.Triple.{Triple}
 use Rattle.shx_term.specs.declared.triple.TermTriple.{TermTriple}
 use Rattle.shx_term.specs.Members.{SameMembers}
 use Rattle.shx_term.specs.Pool.{with_term}
 use Rattle.shx_term.specs.TermOrder.{same_term}
 use Rattle.shx_term.specs.inner.TermOrderLaws.{same_term_equiv, same_term_exact}
-use Rattle.shx_term.specs.TripleTerms.{number_in, triple_of_numbers, numbered}
-use Rattle.shx_term.specs.ValidTriples.{IsNotWide, IsValidTermTriple}
+use Rattle.shx_term.specs.TripleTerms.{number_in, triple_of_numbers, numbered, numbered_all}
+use Rattle.shx_term.specs.ValidTriples.{IsIri, IsNoLiteral, IsNotWide, IsValidTermTriple}
 use Rattle.shx_term.proofs.HeldLemmas.{with_term_grows}
 use Rattle.shx_term.proofs.IdOrderLemmas.{slice_get-append}
 use Rattle.shx_term.proofs.MemberLemmas.{Contains-insert, each_of_All, All_of_each}
@@ -45,6 +46,32 @@ IsValidTriple-numbered terms stated t e valid =
       o = slice_get-position terms stated.o t.o made.2;
       valid = valid;
     }
+
+-- ... and so are all of them
+pub valid_numbered : (terms : List Term) (ts : List TermTriple) → All IsValidTermTriple ts
+    → All (IsValidTriple terms) (numbered_all terms ts)
+valid_numbered terms [] all = All-nil (IsValidTriple terms)
+valid_numbered terms (t ∷ ts) all =
+    let rest = valid_numbered terms ts (All-tail IsValidTermTriple t ts all) in
+    let fit = All-head IsValidTermTriple t ts all in
+    elim (numbered terms t) as
+    (λ o. numbered terms t ≡ o → All (IsValidTriple terms) (numbered_all terms (t ∷ ts))) [
+      | None ↦ λ e. rw e rest
+      | Some u ↦ λ e. rw e (All-cons (IsValidTriple terms) u (numbered_all terms ts)
+          (IsValidTriple-numbered terms t u e fit) rest)
+    ] refl
+
+-- ---- subjects and predicates are no wide literals
+
+pub narrow_subject : (t : Term) → IsNoLiteral t → IsNotWide t
+narrow_subject (Iri iri) is = tt
+narrow_subject (Blank blank) is = tt
+narrow_subject (Lit literal) is = absurd is
+
+pub narrow_predicate : (t : Term) → IsIri t → IsNotWide t
+narrow_predicate (Iri iri) is = tt
+narrow_predicate (Blank blank) is = absurd is
+narrow_predicate (Lit literal) is = absurd is
 
 -- a triple stays valid where more terms are entered behind its own
 pub IsValidTriple-append : (terms more : List Term) (t : Triple) → IsKnownTriple terms t

@@ -16,7 +16,7 @@ pub fn is_iri(kind: TokenKind) -> bool
     )
 }
 
-pub(crate) fn is_string(kind: TokenKind) -> bool
+pub fn is_string(kind: TokenKind) -> bool
     ensures { result ≡ is_string kind }
 {
     matches!(

@@ -43,7 +43,7 @@ mod triples;
 pub use document::read_document;
 pub use ends::term_end;
 pub use fault::TtlFault;
-pub use groups::{begins_verb, is_iri};
+pub use groups::{begins_verb, is_iri, is_string};
 pub use laws::{
     a_derived_statement_is_shallow, a_found_term_goes_to_its_end, a_shallow_statement_is_derived,
     a_term_goes_to_one_end, found_terms_suit_their_tokens, one_term_is_found,

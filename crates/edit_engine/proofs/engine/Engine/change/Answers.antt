@@ -12,7 +12,7 @@ use Rattle.edit_engine.proofs.PatchLemmas.{patched_is}
 use Rattle.edit_engine.proofs.RememberedLemmas.{recalled_nodes}
 use Rattle.edit_engine.proofs.SettledLemmas.{is_whole_again}
 use Rattle.edit_engine.proofs.SoundLemmas.{IsSound-valid}
-use Rattle.edit_engine.proofs.ValidEditLemmas.{valid_numbered}
+use Rattle.graph_view.proofs.ValidLemmas.{valid_numbered}
 use Rattle.edit_engine.proofs.engine.Engine.change.Goals.{else-is_empty-via-then-is_empty+else-is_empty-2}
 use Rattle.edit_engine.proofs.engine.Engine.change.Goals.{else-is_empty-via-else-is_empty}
 use Rattle.edit_engine.proofs.engine.Engine.change.Goals as goal

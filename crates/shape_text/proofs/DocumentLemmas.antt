@@ -1,5 +1,5 @@
 -- What may be asked of what a text states: it is a valid view.
-use Rattle.std.proofs.Common.{◌≡◌, Bool, true, false, List, [], ◌∷◌, ◌++◌, None, Some, if◌then◌else◌}
+use Rattle.std.proofs.Common.{◌≡◌, Bool, true, false, List, [], ◌∷◌, ◌++◌, if◌then◌else◌}
 use Rattle.std.proofs.Common.{refl, sym, subst}
 use Rattle.std.specs.Prelude.{All}
 use Rattle.std.specs.Cmp.{first_so, second_so}
@@ -9,11 +9,11 @@ use Rattle.shx_term.specs.declared.term.Term.{Term}
 use Rattle.shx_term.specs.declared.term.Term.TheVariants.{Iri, Blank, Lit}
 use Rattle.shx_term.specs.declared.triple.TermTriple.{TermTriple}
 use Rattle.shx_term.specs.Pool.{Pooled, is_held, with_term, with_terms}
-use Rattle.shx_term.specs.TripleTerms.{numbered, numbered_all, terms_of}
-use Rattle.shx_term.specs.ValidTriples.{IsIri, IsNoLiteral, IsNotWide, IsValidTermTriple}
+use Rattle.shx_term.specs.TripleTerms.{terms_of}
+use Rattle.shx_term.specs.ValidTriples.{IsNotWide, IsValidTermTriple}
 use Rattle.shx_term.specs.Vocabulary.{vocabulary}
 use Rattle.graph_view.specs.Valid.{IsValidTriple, IsValidView}
-use Rattle.graph_view.proofs.ValidLemmas.{IsValidTriple-numbered}
+use Rattle.graph_view.proofs.ValidLemmas.{narrow_predicate, narrow_subject, valid_numbered}
 use Rattle.ttl_meaning.specs.declared.document.Document.{Document}
 use Rattle.ttl_meaning.specs.inner.DocumentOf.{IsDocumentOf}
 use Rattle.ttl_meaning.specs.IsStated.{Bounds}
@@ -43,16 +43,6 @@ pub narrow_vocabulary : HasNoWide vocabulary
 unfolding vocabulary
 narrow_vocabulary = narrow_iris vocabulary refl
 
-narrow_subject : (t : Term) → IsNoLiteral t → IsNotWide t
-narrow_subject (Iri iri) is = tt
-narrow_subject (Blank blank) is = tt
-narrow_subject (Lit literal) is = absurd is
-
-narrow_predicate : (t : Term) → IsIri t → IsNotWide t
-narrow_predicate (Iri iri) is = tt
-narrow_predicate (Blank blank) is = absurd is
-narrow_predicate (Lit literal) is = absurd is
-
 -- those held, and one more
 narrow_next : (held : List Term) (t : Term) → HasNoWide held → IsNotWide t → HasNoWide (with_term held t)
 narrow_next held t narrow is =
@@ -74,20 +64,6 @@ narrow_entered held (t ∷ ts) narrow all =
     (All-tail IsValidTermTriple t ts all)
 
 -- ---- documents
-
--- triples over the numbers of valid ones are valid
-pub valid_numbered : (terms : List Term) (ts : List TermTriple) → All IsValidTermTriple ts
-    → All (IsValidTriple terms) (numbered_all terms ts)
-valid_numbered terms [] all = All-nil (IsValidTriple terms)
-valid_numbered terms (t ∷ ts) all =
-    let rest = valid_numbered terms ts (All-tail IsValidTermTriple t ts all) in
-    let fit = All-head IsValidTermTriple t ts all in
-    elim (numbered terms t) as
-    (λ o. numbered terms t ≡ o → All (IsValidTriple terms) (numbered_all terms (t ∷ ts))) [
-      | None ↦ λ e. rw e rest
-      | Some u ↦ λ e. rw e (All-cons (IsValidTriple terms) u (numbered_all terms ts)
-          (IsValidTriple-numbered terms t u e fit) rest)
-    ] refl
 
 -- a document is a valid view, where no wide literal was held before it
 pub valid_document : (bounds : Bounds) (s : State) (document : Document) (pool : Pooled)

@@ -11,4 +11,5 @@ pub mod SamePlanLemmas
 pub mod SameResultLemmas
 pub mod SameShapeLemmas
 pub mod SameTextLemmas
+pub mod StatedLemmas
 pub mod VerdictLemmas

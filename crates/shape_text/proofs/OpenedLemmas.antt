@@ -1,13 +1,11 @@
--- What is opened and taken of one text.
-use Rattle.std.proofs.Common.{◌≡◌, ◌≢◌, ℕ, ◌+◌, ◌≤◌, ◌<◌, List, Option, sym, subst, arith}
+-- How often one text is opened.
+use Rattle.std.proofs.Common.{◌≡◌, ◌≢◌, ℕ, ◌+◌, ◌≤◌, sym, subst, arith}
 use Rattle.std.proofs.Common.{true, false, ◌==◌, if◌then◌else◌, Result, Err, inl, inr, refl}
 use Rattle.std.proofs.lemmas.Bool.{eqb-true}
-use Rattle.shx_outside.specs.declared.role.Role.{Role}
 use Rattle.shx_outside.specs.Counted.{Rose, last_count, next_count}
-use Rattle.shx_outside.specs.Outside.{InputState}
 use Rattle.text_input.specs.declared.read_fault.ReadFault.{ReadFault}
 use Rattle.text_input.specs.declared.read_fault.ReadFault.TheVariants.{Input}
-use Rattle.text_input.specs.TextRead.{OpensOnce, TakesWithin}
+use Rattle.text_input.specs.TextRead.{OpensOnce}
 
 -- a count that is raised once rises by one at most
 pub next_bounded : (n : ℕ) → next_count n ≤ n + 1
@@ -33,11 +31,3 @@ module _ {T : Type 0} (before now : ℕ) (result : Result T ReadFault) (opens : 
 
     pub OpensOnce-rose : result ≢ Err Input → Rose before now
     OpensOnce-rose other = subst (Rose before) (sym (opens.opened other)) (next_rose before)
-
--- what was taken of a text was taken of the whole that was opened
-pub taken_whole : (before after : InputState) (role : Role) (told : Option (List ℕ)) (limit : ℕ)
-    → (before.opens role < after.opens role → TakesWithin told (after.rest role) limit)
-    → (before.opens role < after.opens role → after.whole role ≡ told)
-    → before.opens role < after.opens role → TakesWithin (after.whole role) (after.rest role) limit
-taken_whole before after role told limit within whole opened =
-    subst (λ text. TakesWithin text (after.rest role) limit) (sym (whole opened)) (within opened)

@@ -15,7 +15,7 @@ use Rattle.shx_term.specs.ValidTriples.{IsValidTermTriple}
 use Rattle.shx_term.proofs.MemberLemmas.{All_of_each, each_of_All}
 use Rattle.graph_view.specs.Graph.{Graph, IsKnownTriple}
 use Rattle.graph_view.specs.Valid.{IsValidTriple}
-use Rattle.graph_view.proofs.ValidLemmas.{IsKnownTriple-valid}
+use Rattle.graph_view.proofs.ValidLemmas.{IsKnownTriple-valid, valid_numbered}
 use Rattle.ttl_tokens.specs.Form.{Times}
 use Rattle.ttl_meaning.specs.declared.document.Document.{Document}
 use Rattle.ttl_meaning.specs.State.{State}
@@ -28,7 +28,6 @@ use Rattle.shape_text.specs.declared.refusal.Refusal.TheVariants.{Text}
 use Rattle.shape_text.specs.TextReadings.{TextReading, States, Faulty, Long, IsReadAs, IsKnownDocument}
 use Rattle.shape_text.specs.TextReadings.{numbered_from, setting_of}
 use Rattle.shape_text.specs.Refusal.{RefusesAs}
-use Rattle.shape_text.proofs.DocumentLemmas.{valid_numbered}
 
 module _ (limits : Limits) (base : List ℕ) (scope : Scope) (held : List Term) (text : List ℕ) where
   pub read_once : (a b : TextReading) → IsReadAs limits base scope held text a

@@ -94,7 +94,7 @@ pub unplanned_broken : (limits : Limits) (g : Graph) (patterns : PatternState) (
     → TellsCheck (graph_faults limits g) fault → IsUnplanned limits g patterns patterns (check_refusal fault)
 unplanned_broken limits g patterns (check.Shape fault) first =
     record { obstacle = breaks fault; judged = first; told = refl; patterns = refl; refused = tt }
-unplanned_broken limits g patterns check.Memory first = tt
+unplanned_broken limits g patterns check.Memory first = refl
 
 -- a fault of what the shapes are compiled to
 pub unplanned_stopped : (T : Type 0) (limits : Limits) (g : Graph) (before after : PatternState)
@@ -134,4 +134,4 @@ unplanned_stopped T limits g before after (compile.PatternRefused shape) none te
       patterns = cause;
       refused = refused;
     }
-unplanned_stopped T limits g before after compile.Memory none tells cause refused = tt
+unplanned_stopped T limits g before after compile.Memory none tells cause refused = cause

@@ -23,7 +23,8 @@ use Rattle.shape_text.specs.Refusal.{IsRefusalOf}
 
 -- ---- the shapes of a graph
 
--- the graph's shapes come to this plan, or to what is answered in its place; want of memory says nothing
+-- the graph's shapes come to this plan, or to what is answered in its place; want of memory says nothing, but
+-- that no pattern was refused
 pub record PlansAs (limits : Limits) (g : Graph) (before after : PatternState) (plan : Planned) : Type 0 where
   pub judged : IsVerdict limits g (plans plan)
   pub fits : IsPlan g.terms plan.shapes
@@ -39,7 +40,7 @@ pub record StopsAs (limits : Limits) (g : Graph) (before after : PatternState) (
 
 abbrev pub IsUnplanned : Limits → Graph → PatternState → PatternState → Refusal → Type 0
 IsUnplanned limits g before after (Text answer) = StopsAs limits g before after answer
-IsUnplanned limits g before after (Cut stop) = Unit {0}
+IsUnplanned limits g before after (Cut stop) = after.faults ≡ before.faults
 
 -- ---- the shapes text
 

@@ -79,6 +79,14 @@ obstacle_answer (reaches_far shape) = OfShape REFERENCES_TOO_DEEP shape
 obstacle_answer (misspells shape) = OfShape BAD_PATTERN shape
 obstacle_answer (is_refused shape) = OfShape PATTERN_REFUSED shape
 
+-- by which code that is told
+abbrev pub obstacle_code : Obstacle → ℕ
+obstacle_code (breaks fault) = fault.code
+obstacle_code (recurs shape) = RECURSIVE
+obstacle_code (reaches_far shape) = REFERENCES_TOO_DEEP
+obstacle_code (misspells shape) = BAD_PATTERN
+obstacle_code (is_refused shape) = PATTERN_REFUSED
+
 -- the host refused a pattern
 abbrev pub refuses_pattern : Verdict → Bool
 refuses_pattern (stops (is_refused shape)) = true

@@ -1,6 +1,7 @@
 //! From the shapes text to a plan of its shapes.
 ghost use Rattle.std.specs.Prelude.{◌≡◌, ◌≤◌, Some, length, IfErr, IfOk};
 ghost use Rattle.iri_resolve.specs.Resolution.{IsAbsolute};
+ghost use Rattle.shx_outside.specs.Told.{StaysAdmitted};
 ghost use Rattle.shx_term.specs.Limits.{AreUsable};
 ghost use Rattle.shx_term.specs.Vocabulary.{vocabulary};
 ghost use Rattle.graph_view.specs.ListGraph.{plain_graph};
@@ -25,6 +26,7 @@ use shape_eval::Plan;
 use shx_outside::PatternHost;
 use shx_term::{IriText, Limits, Pool, Scope};
 use std::alloc::Global;
+use std::mem;
 use triple_store::Store;
 
 /// The shapes of a text that are accepted.
@@ -59,13 +61,15 @@ pub fn judge<P: PatternHost>(
     ensures limit { IfOk result (λ accepted. accepted.pool.limit ≡ limits.now.terms) }
     ensures no_wide { IfOk result (λ accepted. HasNoWide accepted.pool.terms) }
     ensures cut { IfErr result IsStill }
+    ensures admits { StaysAdmitted (P.admits patterns.old) (P.admits patterns.new) }
 {
     let mut pool = pool;
-    let document = match read_turtle(alloc, text, base, Scope::Shapes, limits, &mut pool) {
+    let mut document = match read_turtle(alloc, text, base, Scope::Shapes, limits, &mut pool) {
         Ok(document) => document,
         Err(refusal) => return Err(Unopened::of(refusal, pool)),
     };
-    let graph = Store::from_triples(alloc, pool, document.triples, limits.triples)?;
+    let triples = mem::replace(&mut document.triples, Vec::new(alloc));
+    let graph = Store::from_triples(alloc, pool, triples, limits.triples)?;
     let passed_over = sparql_count(alloc, &graph)?;
     // Its triples are distinct.
     let _ = graph.len();
@@ -94,6 +98,7 @@ pub fn plan_shapes<V: GraphView, P: PatternHost>(
     ensures refused { IfErr result (IsUnplanned limits.now (V.graph graph.now)
         (P.state patterns.old) (P.state patterns.new)) }
     ensures cut { IfErr result IsQuiet }
+    ensures admits { StaysAdmitted (P.admits patterns.old) (P.admits patterns.new) }
 {
     let decls = match check_shapes(alloc, graph, limits) {
         Ok(decls) => decls,

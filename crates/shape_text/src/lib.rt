@@ -6,6 +6,7 @@
 //! | `within.rt` | `read_within`: a text of the inputs, within its limit |
 //! | `turtle.rt` | `read_turtle`: what a text states, or its fault |
 //! | `judging.rt` | `judge`: from a shapes text to a plan; `plan_shapes`: from a graph to a plan |
+//! | `stated_plan.rt` | `plan_stated`: from triples over a pool to a plan |
 //! | `obstacle.rt` | what stands in the way of a plan, as it is told |
 //! | `refusal.rt`, `unopened.rt` | why a text is not taken, and why there is no plan of it |
 //! | `stop.rt` | why a run is cut short |
@@ -23,6 +24,7 @@ mod judging;
 mod obstacle;
 mod refusal;
 mod same_plans;
+mod stated_plan;
 mod stop;
 mod turtle;
 mod unopened;
@@ -31,6 +33,7 @@ mod within;
 pub use judging::{Accepted, judge, plan_shapes};
 pub use refusal::Refusal;
 pub use same_plans::plans_write_the_same;
+pub use stated_plan::plan_stated;
 pub use stop::Stop;
 pub use turtle::read_turtle;
 pub use unopened::Unopened;

@@ -1,8 +1,8 @@
 //! A text within its limit.
-ghost use Rattle.std.specs.Prelude.{◌≡◌, ◌+◌, ◌<◌, ◌≤◌, IfOk, IfErr, OnOk};
+ghost use Rattle.std.specs.Prelude.{◌≡◌, ◌⊎◌, ◌+◌, ◌<◌, ◌≤◌, true, IfOk, IfErr, OnOk};
 ghost use Rattle.report_write.specs.declared.answer.Answer.{Answer as answer_type};
 ghost use Rattle.report_write.specs.declared.answer.Answer.TheVariants.{TooLong};
-ghost use Rattle.shx_outside.specs.Counted.{Rose};
+ghost use Rattle.shx_outside.specs.Counted.{Rose, next_count};
 ghost use Rattle.shx_outside.specs.Told.{StaysAdmitted, SameTexts, OthersStay};
 ghost use Rattle.text_input.specs.TextRead.{ReadsWhole, IsTooLong, TakesWithin};
 ghost use Rattle.shape_text.specs.declared.refusal.Refusal.TheVariants.{Text};
@@ -30,6 +30,15 @@ pub fn read_within<I: Inputs>(
         → (answer ≡ TooLong role) × IsTooLong ((I.state host.old).text name.now) most) }
     ensures within { (I.state host.old).opens role < (I.state host.new).opens role
         → TakesWithin ((I.state host.new).whole role) ((I.state host.new).rest role) most }
+    ensures within_open { (I.state host.new).opened role ≡ true
+        → TakesWithin ((I.state host.new).whole role) ((I.state host.new).rest role) most }
+    ensures whole { (I.state host.new).opened role ≡ true
+        → (I.state host.new).whole role ≡ (I.state host.old).text name.now }
+    ensures stays_open { OnOk result ((I.state host.new).opened role ≡ true) }
+    ensures stays_open_long { IfErr result (λ refusal. (answer : answer_type) → refusal ≡ Text answer
+        → (I.state host.new).opened role ≡ true) }
+    ensures opens { ((I.state host.new).opens role ≡ (I.state host.old).opens role)
+        ⊎ ((I.state host.new).opens role ≡ next_count ((I.state host.old).opens role)) }
     ensures once { (I.state host.new).opens role ≤ (I.state host.old).opens role + 1 }
     ensures opened { OnOk result (Rose ((I.state host.old).opens role) ((I.state host.new).opens role)) }
     ensures cause { RefusalCause (I.state host.old).faults (I.state host.new).faults result }

@@ -196,6 +196,7 @@ IsTextRead-closed {role = role} {s0 = s0} {s1 = s1} name most (Err fault) closed
       within_opened = λ more. absurd (less_than_itself (s0.opens role) (s1.opens role) opens more);
       opens = record { at_most = inl opens; opened = λ other. absurd (other refl) };
       whole = λ more. absurd (less_than_itself (s0.opens role) (s1.opens role) opens more);
+      whole_opened = λ opened. cc;
       opened = λ other. absurd (other refl);
       cause = rose;
       others = others;
@@ -224,6 +225,7 @@ module _ {role : Role} {s0 s1 s2 : InputState} {a0 a1 a2 : Role → List ℕ →
         opened = λ _. rest.stays.opens ∙ has.opens;
       };
       whole = λ _. rest.stays.whole ∙ has.whole;
+      whole_opened = λ _. rest.stays.whole ∙ has.whole;
       opened = λ _. rest.stays.opened;
       cause = rest.cause ∙ has.quiet;
       others = OthersStay-then has.others rest.stays.others;
@@ -247,6 +249,7 @@ module _ {role : Role} {s0 s1 s2 : InputState} {a0 a1 a2 : Role → List ℕ →
         opened = λ _. rest.stays.opens ∙ has.opens;
       };
       whole = λ _. rest.stays.whole ∙ has.whole;
+      whole_opened = λ _. rest.stays.whole ∙ has.whole;
       opened = λ _. rest.stays.opened;
       cause = subst (λ n. HasInputCause {T = Vec ℕ Z} n s2.faults (Err fault)) has.quiet
           (same_cause T (Vec ℕ Z) s1.faults s2.faults fault rest.cause);

@@ -54,6 +54,7 @@ pub record IsTextRead {Z : Type 0} (role : Role) (name : List ℕ) (most : ℕ) 
       → TakesWithin (before.text name) (after.rest role) most
   pub opens : OpensOnce (before.opens role) (after.opens role) result
   pub whole : before.opens role < after.opens role → after.whole role ≡ before.text name
+  pub whole_opened : after.opened role ≡ true → after.whole role ≡ before.text name
   pub opened : result ≢ Err Input → after.opened role ≡ true
   pub cause : HasInputCause before.faults after.faults result
   pub others : OthersStay role before after

@@ -20,7 +20,7 @@ plan_shapes-requires-clause-admitted g c =
     let stored = plain_graph c.in_ok-graph.graph in
     let (end, read, names) = c.in-Ok.ensures.states in
     let same : SameGraph (stated_graph document) stored =
-    c.in_ok-graph.ensures.holds in
+    rw c.replace-triples.ensures.value at c.in_ok-graph.ensures.holds in
     declared_moved c.args.limits.now stored (stated_graph document)
     (SameGraph-sym (stated_graph document) stored same)
     (AreAdmitted (g.P.PatternHost.admits c.args.patterns.now))
@@ -33,7 +33,7 @@ returns-in-Ok-plan_shapes-clause-accepts g c =
     let stored = plain_graph c.in_ok-graph.graph in
     let (end, read, names) = c.in-Ok.ensures.states in
     let same : SameGraph (stated_graph document) stored =
-    c.in_ok-graph.ensures.holds in
+    rw c.replace-triples.ensures.value at c.in_ok-graph.ensures.holds in
     record {
       document = document;
       end = end;
@@ -61,7 +61,7 @@ returns-clause-refused g c =
     let pool = c.into_pool-in-Err-plan_shapes.result in
     let (end, read, names) = c.in-Ok.ensures.states in
     let same : SameGraph (stated_graph document) stored =
-    c.in_ok-graph.ensures.holds in
+    rw c.replace-triples.ensures.value at c.in_ok-graph.ensures.holds in
     let terms : pool.terms ≡ document.terms = ap (λ (pool : Pooled). pool.terms)
     (c.into_pool-in-Err-plan_shapes.ensures ∙ c.in_ok-graph.ensures.pool) in
     rw c.of-in-Err-plan_shapes.ensures

@@ -11,7 +11,7 @@ use Rattle.report_write.specs.declared.answer.Answer.TheVariants.{Changed, Uncha
 use Rattle.report_write.specs.declared.answer.Answer.TheVariants.{Abandoned, Begun, GroupDropped, Queued}
 use Rattle.report_write.specs.declared.answer.Answer.TheVariants.{Slice, SliceTriple, TextFault, TooLong}
 use Rattle.report_write.specs.declared.answer.Answer.TheVariants.{Notice, Rule, OfShape, Count, RefusedAt}
-use Rattle.report_write.specs.declared.answer.Answer.TheVariants.{Usage}
+use Rattle.report_write.specs.declared.answer.Answer.TheVariants.{ShapesTaken, Usage}
 use Rattle.text_output.specs.declared.format.Format.{Format}
 use Rattle.text_output.specs.declared.format.Format.TheVariants.{Lines, Turtle}
 use Rattle.report_write.specs.Roles.{role_name}
@@ -52,6 +52,7 @@ triple_text terms t =
 abbrev pub line_text : List Term → Answer → List ℕ
 line_text terms (Changed evaluated) = codes "ok changed evaluated " ++ decimal evaluated ++ codes "\n"
 line_text terms Unchanged = codes "ok unchanged evaluated 0\n"
+line_text terms (ShapesTaken evaluated) = codes "ok shapes evaluated " ++ decimal evaluated ++ codes "\n"
 line_text terms Begun = codes "ok begun\n"
 line_text terms Queued = codes "ok queued\n"
 line_text terms Abandoned = codes "ok abandoned\n"

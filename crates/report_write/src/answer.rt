@@ -18,6 +18,10 @@ pub enum Answer {
         evaluated: u64,
     },
     Unchanged,
+    /// The shapes are other ones, for which so many pairs were evaluated.
+    ShapesTaken {
+        evaluated: u64,
+    },
     /// A group of edits is open.
     Begun,
     /// An edit waits in the group.
@@ -125,8 +129,13 @@ fn add_line<W: Pieces>(answer: &Answer, pool: &Pool, out: &mut W)
     ensures { W.added out.old out.new (line_text pool.now.terms answer.now) }
 {
     match answer {
-        Answer::Changed { evaluated } => add_change(*evaluated, out),
+        Answer::Changed { evaluated } => add_evaluated(b"ok changed evaluated ", *evaluated, out),
         Answer::Unchanged => out.add(b"ok unchanged evaluated 0\n"),
+        Answer::ShapesTaken { evaluated } => add_evaluated(
+            b"ok shapes evaluated ",
+            *evaluated,
+            out,
+        ),
         Answer::Begun => out.add(b"ok begun\n"),
         Answer::Queued => out.add(b"ok queued\n"),
         Answer::Abandoned => out.add(b"ok abandoned\n"),
@@ -154,10 +163,11 @@ fn add_line<W: Pieces>(answer: &Answer, pool: &Pool, out: &mut W)
     }
 }
 
-fn add_change<W: Pieces>(evaluated: u64, out: &mut W)
-    ensures { W.added out.old out.new (codes "ok changed evaluated " ++ decimal evaluated ++ codes "\n") }
+// What came of a line, and how many pairs were evaluated for it.
+fn add_evaluated<W: Pieces>(what: &[u8], evaluated: u64, out: &mut W)
+    ensures { W.added out.old out.new (what.now ++ decimal evaluated ++ codes "\n") }
 {
-    out.add(b"ok changed evaluated ");
+    out.add(what);
     add_number(evaluated, out);
     out.add(b"\n");
 }

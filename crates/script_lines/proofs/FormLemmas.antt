@@ -2,15 +2,17 @@
 use Rattle.std.proofs.Common.{◌≡◌, ℕ, zero, true, List, ◌++◌, Option, Some, None, drop, cond}
 use Rattle.std.proofs.Common.{refl, sym, ap, ◌∙◌, codes, nat_eq, MatchOption}
 use Rattle.std.specs.List.{starts_with}
+use Rattle.ttl_tokens.specs.declared.token.Token.{Token}
 use Rattle.script_lines.specs.declared.form.Form.{Form}
 use Rattle.script_lines.specs.declared.form.Form.TheVariants.{Blank, Alone, Insert, Remove, Slice}
+use Rattle.script_lines.specs.declared.form.Form.TheVariants.{Shapes}
 use Rattle.script_lines.specs.declared.form.PairTokens.{PairTokens}
 use Rattle.script_lines.specs.declared.form.Terms.{Terms}
 use Rattle.script_lines.specs.declared.word.Word.{Word}
 use Rattle.script_lines.specs.declared.word.Word.TheVariants.{Report, Count, Begin, Commit, Abandon}
 use Rattle.script_lines.specs.declared.word.Word.TheVariants.{Undo, Redo}
-use Rattle.script_lines.specs.Forms.{EndsAt, HasForm, IsPair, IsTriple, begins_with, word_start, word_end}
-use Rattle.script_lines.specs.Forms.{word_text}
+use Rattle.script_lines.specs.Forms.{EndsAt, HasForm, IsName, IsPair, IsTriple, begins_with, word_start}
+use Rattle.script_lines.specs.Forms.{word_end, word_text}
 use Rattle.script_lines.specs.inner.Parts.{IsPartedWord, IsWordEnd}
 use Rattle.script_lines.proofs.WordLemmas.{begins_is}
 
@@ -21,6 +23,7 @@ pub data Head : Type 0 where
   Inserts : Head
   Removes : Head
   Slices : Head
+  Renews : Head
 
 abbrev pub head : Form → Head
 head Blank = Empty
@@ -28,6 +31,7 @@ head (Alone word) = Lone word
 head (Insert terms) = Inserts
 head (Remove terms) = Removes
 head (Slice pair) = Slices
+head (Shapes name) = Renews
 
 -- whether a text begins with a word, and what it is then
 abbrev or_else : List ℕ → List ℕ → Head → Head → Head
@@ -42,7 +46,7 @@ head_of text =
     or_alone text Report (or_alone text Count (or_alone text Begin (or_alone text Commit
     (or_alone text Abandon (or_alone text Undo (or_alone text Redo
     (or_else text (codes "insert") Inserts (or_else text (codes "remove") Removes
-    (or_else text (codes "slice") Slices Empty)))))))))
+    (or_else text (codes "slice") Slices (or_else text (codes "shapes") Renews Empty))))))))))
 
 -- ... which is the only one, since none of them is a front of another
 word_tells : (word : Word) (more : List ℕ) → head_of (word_text word ++ more) ≡ Lone word
@@ -73,6 +77,9 @@ module _ (line : List ℕ) where
   pub slice_head : begins_with (codes "slice") line ≡ true → line_head ≡ Slices
   slice_head begins = ap head_of (begins_is (codes "slice") line begins)
 
+  pub shapes_head : begins_with (codes "shapes") line ≡ true → line_head ≡ Renews
+  shapes_head begins = ap head_of (begins_is (codes "shapes") line begins)
+
   module _ (some : EndsAt line zero → ⊥) where
     pub form_head : (form : Form) → HasForm line form → line_head ≡ head form
     form_head Blank h = absurd (some h)
@@ -80,6 +87,7 @@ module _ (line : List ℕ) where
     form_head (Insert terms) h = insert_head h.word_is.begins
     form_head (Remove terms) h = remove_head h.word_is.begins
     form_head (Slice pair) h = slice_head h.word_is.begins
+    form_head (Shapes name) h = shapes_head h.word_is.begins
 
     -- ---- no form but that of the word
 
@@ -102,6 +110,11 @@ module _ (line : List ℕ) where
         → (pair : PairTokens) × IsPair line (word_end (codes "slice") line) pair
     by_slice (Slice pair) is h = (pair, h.pair_is)
     by_slice form is h = absurd (cc)
+
+    by_shapes : (form : Form) → head form ≡ Renews → HasForm line form
+        → (name : Token) × IsName line (word_end (codes "shapes") line) name
+    by_shapes (Shapes name) is h = (name, h.name_is)
+    by_shapes form is h = absurd (cc)
 
     -- ---- the answers
 
@@ -136,3 +149,10 @@ module _ (line : List ℕ) where
       no_slice word none = λ form h.
           let pair = by_slice form (sym (form_head form h) ∙ slice_head word.ends.begins) h in
           none pair.0 (rw word.ends.place pair.1)
+
+      -- no name follows
+      pub no_shapes : IsPartedWord line (codes "shapes") at → ((name : Token) → IsName line at name → ⊥)
+          → NoForm
+      no_shapes word none = λ form h.
+          let name = by_shapes form (sym (form_head form h) ∙ shapes_head word.ends.begins) h in
+          none name.0 (rw word.ends.place name.1)

@@ -1,6 +1,7 @@
 pub mod BlankLineLemmas
 pub mod FormLemmas
 pub mod LineLemmas
+pub mod NameLemmas
 pub mod OneFormLemmas
 pub mod OneReadingLemmas
 pub mod PairLemmas

@@ -6,6 +6,7 @@ use Rattle.ttl_tokens.specs.Tokens.{IsTokenAt}
 use Rattle.ttl_tokens.proofs.OneTokenLemmas.{one_token}
 use Rattle.script_lines.specs.declared.form.Form.{Form}
 use Rattle.script_lines.specs.declared.form.Form.TheVariants.{Blank, Alone, Insert, Remove, Slice}
+use Rattle.script_lines.specs.declared.form.Form.TheVariants.{Shapes}
 use Rattle.script_lines.specs.declared.form.Terms.{Terms}
 use Rattle.script_lines.specs.declared.word.Word.{Word}
 use Rattle.script_lines.specs.declared.word.Word.TheVariants.{Report, Count, Begin, Commit, Abandon}
@@ -13,6 +14,7 @@ use Rattle.script_lines.specs.declared.word.Word.TheVariants.{Undo, Redo}
 use Rattle.script_lines.specs.Forms.{EndsAt, HasForm, IsTriple, begins_with, word_end, word_text}
 use Rattle.script_lines.proofs.BlankLineLemmas.{is_letter, not_blank}
 use Rattle.script_lines.proofs.FormLemmas.{form_head, head}
+use Rattle.script_lines.proofs.NameLemmas.{one_name}
 use Rattle.script_lines.proofs.PairLemmas.{one_pair}
 
 same_terms : (a b : Terms) → a.subject ≡ b.subject → a.predicate ≡ b.predicate → a.object ≡ b.object → a ≡ b
@@ -54,12 +56,16 @@ module _ (line : List ℕ) (utf8 : IsUtf8 line) where
   slice_more : begins_with (codes "slice") line ≡ true → EndsAt line zero → ⊥
   slice_more = not_blank line utf8 (codes "slice") refl
 
+  shapes_more : begins_with (codes "shapes") line ≡ true → EndsAt line zero → ⊥
+  shapes_more = not_blank line utf8 (codes "shapes") refl
+
   only_blank : EndsAt line zero → (form : Form) → HasForm line form → form ≡ Blank
   only_blank end Blank h = refl
   only_blank end (Alone word) h = absurd (word_more word h.begins end)
   only_blank end (Insert terms) h = absurd (insert_more h.word_is.begins end)
   only_blank end (Remove terms) h = absurd (remove_more h.word_is.begins end)
   only_blank end (Slice pair) h = absurd (slice_more h.word_is.begins end)
+  only_blank end (Shapes name) h = absurd (shapes_more h.word_is.begins end)
 
   -- ---- by the word
 
@@ -72,6 +78,8 @@ module _ (line : List ℕ) (utf8 : IsUtf8 line) where
       ap Remove (one_triple (word_end (codes "remove") line) a b h.triple k.triple)
   one_head (Slice a) (Slice b) e h k =
       ap Slice (one_pair line utf8 (word_end (codes "slice") line) a b h.pair_is k.pair_is)
+  one_head (Shapes a) (Shapes b) e h k =
+      ap Shapes (one_name line utf8 (word_end (codes "shapes") line) a b h.name_is k.name_is)
   one_head a b e h k = absurd (cc)
 
   some_word : (EndsAt line zero → ⊥) → (a b : Form) → HasForm line a → HasForm line b → a ≡ b
@@ -84,3 +92,4 @@ module _ (line : List ℕ) (utf8 : IsUtf8 line) where
   one_form (Insert terms) b h k = some_word (insert_more h.word_is.begins) (Insert terms) b h k
   one_form (Remove terms) b h k = some_word (remove_more h.word_is.begins) (Remove terms) b h k
   one_form (Slice pair) b h k = some_word (slice_more h.word_is.begins) (Slice pair) b h k
+  one_form (Shapes name) b h k = some_word (shapes_more h.word_is.begins) (Shapes name) b h k

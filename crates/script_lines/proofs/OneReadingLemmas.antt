@@ -108,6 +108,7 @@ module _ (line : List ℕ) (utf8 : IsUtf8 line) (document : Document) where
   one_asked (the_form.Remove terms) a b h k =
       h.2 ∙ ap (edits_by Remove) (one_triple_read terms h.0 k.0 h.1 k.1) ∙ sym k.2
   one_asked (the_form.Slice pair) a b h k = one_pair_read line utf8 document pair a b h k
+  one_asked (the_form.Shapes name) a b h k = h ∙ sym k
 
 -- ---- the line
 

@@ -95,6 +95,7 @@ module _ (a b : Document) (alike : HaveSameNames a b) where
     asked (form.Insert terms) reading (triple, read, is) = (triple, triple_read terms triple read, is)
     asked (form.Remove terms) reading (triple, read, is) = (triple, triple_read terms triple read, is)
     asked (form.Slice pair) reading is = pair_read pair reading is
+    asked (form.Shapes name) reading is = is
 
     pub line_read : (limits : Limits) (reading : Result Command LineFault) → IsLineRead limits a line reading
         → IsLineRead limits b line reading

@@ -1,6 +1,6 @@
 -- The forms of a line, by the tokens of Turtle: nothing but white space and comments; a word alone; a word
--- and a triple; or a word with a shape and a node. Before the word of a line stands white space alone, and it
--- is written in small letters.
+-- and a triple; a word with a shape and a node; or a word and a string. Before the word of a line stands
+-- white space alone, and it is written in small letters.
 use Rattle.std.specs.Prelude.{◌≡◌, ℕ, ◌+◌, Bool, true, not, ◌||◌, List, drop, length, nat_eq, codes}
 use Rattle.std.specs.Prelude.{slice_index}
 use Rattle.std.specs.List.{before_first, starts_with}
@@ -9,10 +9,11 @@ use Rattle.ttl_tokens.specs.declared.token.TokenKind.{TokenKind}
 use Rattle.ttl_tokens.specs.declared.token.TokenKind.TheVariants.{BlankLabel, Dot, End}
 use Rattle.ttl_tokens.specs.Chars.{is_white}
 use Rattle.ttl_tokens.specs.Tokens.{IsTokenAt}
-use Rattle.ttl_read.specs.Grammar.{begins_verb, is_iri, is_kind}
+use Rattle.ttl_read.specs.Grammar.{begins_verb, is_iri, is_kind, is_string}
 use Rattle.ttl_read.specs.ReadTerm.{GoesTo}
 use Rattle.script_lines.specs.declared.form.Form.{Form}
 use Rattle.script_lines.specs.declared.form.Form.TheVariants.{Blank, Alone, Insert, Remove, Slice}
+use Rattle.script_lines.specs.declared.form.Form.TheVariants.{Shapes}
 use Rattle.script_lines.specs.declared.form.PairTokens.{PairTokens}
 use Rattle.script_lines.specs.declared.form.Terms.{Terms}
 use Rattle.script_lines.specs.declared.word.Word.{Word}
@@ -100,6 +101,18 @@ pub record IsSlice (line word : List ℕ) (pair : PairTokens) : Type 0 where
   pub word_is : BeginsWith line word
   pub pair_is : IsPair line (word_end word line) pair
 
+-- ---- names
+
+-- a string, and then nothing more
+pub record IsName (line : List ℕ) (at : ℕ) (name : Token) : Type 0 where
+  pub string : Comes line at is_string name
+  pub ends : EndsAt line name.end
+
+-- a word, white space, and a name
+pub record IsShapes (line word : List ℕ) (name : Token) : Type 0 where
+  pub word_is : BeginsWith line word
+  pub name_is : IsName line (word_end word line) name
+
 -- ---- lines
 
 abbrev pub HasForm : List ℕ → Form → Type 0
@@ -108,3 +121,4 @@ HasForm line (Alone word) = IsWord line (word_text word)
 HasForm line (Insert terms) = IsEdit line (codes "insert") terms
 HasForm line (Remove terms) = IsEdit line (codes "remove") terms
 HasForm line (Slice pair) = IsSlice line (codes "slice") pair
+HasForm line (Shapes name) = IsShapes line (codes "shapes") name

@@ -4,7 +4,7 @@
 use Rattle.std.specs.Prelude.{◌≡◌, ◌≢◌, ℕ, ◌<◌, ◌≤◌, ◌⊎◌, ◌==◌, List, length, codes, None, Some, Result, Ok}
 use Rattle.std.specs.Prelude.{Err}
 use Rattle.std.specs.Prelude.{if◌then◌else◌}
-use Rattle.std.specs.Str.{IsUtf8}
+use Rattle.std.specs.Str.{IsUtf8, encode_utf8_all}
 use Rattle.shx_term.specs.declared.fault_codes.TheConstants.{UNKNOWN_PREFIX, BAD_IRI, FLOAT_LITERAL}
 use Rattle.shx_term.specs.declared.fault_codes.TheConstants.{WIDE_VALUE}
 use Rattle.shx_term.specs.declared.fault_codes.TheConstants.{LINE_PREFIX, LINE_IRI, LINE_FLOAT, LINE_WIDE}
@@ -18,13 +18,14 @@ use Rattle.shx_term.specs.Edit.{IsValidEdit}
 use Rattle.shx_term.specs.Vocabulary.{rdf}
 use Rattle.ttl_tokens.specs.declared.token.Token.{Token}
 use Rattle.ttl_tokens.specs.declared.token.TokenKind.TheVariants.{BlankLabel, WordA}
+use Rattle.ttl_tokens.specs.Unescaped.{meaning}
 use Rattle.ttl_meaning.specs.declared.document.Document.{Document}
 use Rattle.ttl_meaning.specs.ShapesNodes.{MayBeOfShapes}
 use Rattle.ttl_read.specs.ReadTerm.{Found, A, No, IsFound, IsOneFound}
 use Rattle.script_lines.specs.declared.command.Command.{Command}
 use Rattle.script_lines.specs.declared.command.Command.TheVariants.{Edit as edits, Report, Count, Begin}
 use Rattle.script_lines.specs.declared.command.Command.TheVariants.{Commit, Abandon, Undo, Redo}
-use Rattle.script_lines.specs.declared.command.Command.TheVariants.{Slice, Nothing}
+use Rattle.script_lines.specs.declared.command.Command.TheVariants.{Slice, Shapes, Nothing}
 use Rattle.script_lines.specs.declared.fault.LineFault.{LineFault}
 use Rattle.script_lines.specs.declared.fault.LineFault.TheVariants.{Line}
 use Rattle.script_lines.specs.declared.form.Form.{Form}
@@ -94,6 +95,12 @@ pub data IsPairRead (line : List ℕ) (document : Document) (pair : PairTokens)
       → IsFound line pair.node document (A node node_end)
       → command ≡ Ok (Slice shape node) → IsPairRead line document pair command
 
+-- ---- names
+
+-- a string is the name of a text of shapes, with its escapes undone
+abbrev pub name_of : List ℕ → Token → List ℕ
+name_of line name = encode_utf8_all (meaning line name)
+
 -- ---- lines
 
 -- an edit by a triple, or the triple's fault
@@ -122,6 +129,7 @@ IsAsked line document (form.Remove terms) reading =
     (triple : Result TermTriple LineFault) × IsTripleRead line document terms triple
     × (reading ≡ edits_by Remove triple)
 IsAsked line document (form.Slice pair) reading = IsPairRead line document pair reading
+IsAsked line document (form.Shapes name) reading = reading ≡ Ok (Shapes (name_of line name))
 
 -- a line is read so: the first of these that holds
 pub data IsLineRead (limits : Limits) (document : Document) (line : List ℕ)
@@ -146,4 +154,5 @@ IsValidCommand Abandon = Unit {0}
 IsValidCommand Undo = Unit {0}
 IsValidCommand Redo = Unit {0}
 IsValidCommand (Slice shape node) = Unit {0}
+IsValidCommand (Shapes name) = Unit {0}
 IsValidCommand Nothing = Unit {0}

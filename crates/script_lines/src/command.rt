@@ -1,7 +1,7 @@
 ghost use Rattle.std.specs.Prelude.{◌≡◌};
 ghost use Rattle.script_lines.specs.Commands.{edit_in};
 
-use shx_term::{Edit, Term};
+use shx_term::{Edit, Term, Text};
 
 /// What a line of a script asks for.
 #[derive(Debug)]
@@ -24,6 +24,8 @@ pub enum Command {
     Redo,
     /// The triples on which the results of a shape at a node rest.
     Slice { shape: Term, node: Term },
+    /// Other shapes: those of the text of this name.
+    Shapes(Text),
     /// Nothing: the line is blank.
     Nothing,
 }
@@ -38,7 +40,7 @@ impl Command {
             Command::Report | Command::Count | Command::Nothing => None,
             Command::Begin | Command::Commit | Command::Abandon => None,
             Command::Undo | Command::Redo => None,
-            Command::Slice { .. } => None,
+            Command::Slice { .. } | Command::Shapes(..) => None,
         }
     }
 }
@@ -55,6 +57,7 @@ impl Drop for Command {
                 shape: _shape,
                 node: _node,
             } => {}
+            Command::Shapes(_name) => {}
         }
     }
 }

@@ -7,12 +7,12 @@ ghost use Rattle.ttl_read.specs.Grammar.{begins_verb};
 ghost use Rattle.script_lines.specs.declared.form.Form.{Form as form_type};
 ghost use Rattle.script_lines.specs.declared.form.PairTokens.{PairTokens as pair_type};
 ghost use Rattle.script_lines.specs.declared.form.Terms.{Terms as terms_type};
-ghost use Rattle.script_lines.specs.Forms.{BeginsWith, Comes, EndsAt, HasForm, IsPair, IsTriple};
+ghost use Rattle.script_lines.specs.Forms.{BeginsWith, Comes, EndsAt, HasForm, IsName, IsPair, IsTriple};
 ghost use Rattle.script_lines.specs.Forms.{is_subject, word_start};
 ghost use Rattle.script_lines.specs.inner.Parts.{IsPartedWord, IsStop};
 
 use crate::word::{Word, is_white, word_alone, word_end, word_start};
-use ttl_read::{begins_verb, is_iri, term_end};
+use ttl_read::{begins_verb, is_iri, is_string, term_end};
 use ttl_tokens::{Token, TokenKind, next_token};
 
 /// What a line is, by the tokens that it has.
@@ -23,6 +23,7 @@ pub(crate) enum Form {
     Insert(Terms),
     Remove(Terms),
     Slice(PairTokens),
+    Shapes(Token),
 }
 
 /// The tokens with which the terms of a triple begin.
@@ -59,6 +60,9 @@ pub(crate) fn form_of(line: &str) -> Option<Form>
     }
     if let Some(at) = parted_word(line, start, "slice") {
         return Some(Form::Slice(pair_at(line, at)?));
+    }
+    if let Some(at) = parted_word(line, start, "shapes") {
+        return Some(Form::Shapes(name_at(line, at)?));
     }
     None
 }
@@ -110,6 +114,21 @@ fn pair_at(line: &str, at: usize) -> Option<PairTokens>
     let node = token_at(line, shape.end)?;
     if ends_at(line, term_end(line, &node)?) {
         Some(PairTokens { shape, node })
+    } else {
+        None
+    }
+}
+
+// The string that comes next, where there is one and then nothing more.
+fn name_at(line: &str, at: usize) -> Option<Token>
+    requires within { at ≤ length line.now }
+    requires boundary { IsCharBoundary line.now at }
+    ensures { MatchOption result ((name : token_type) → IsName line.now at name → ⊥)
+        (IsName line.now at) }
+{
+    let name = token_at(line, at)?;
+    if is_string(name.kind) && ends_at(line, name.end) {
+        Some(name)
     } else {
         None
     }

@@ -10,9 +10,10 @@ use crate::form::{Form, PairTokens, Terms, form_of};
 use crate::term::{predicate_at, shape_at, term_at};
 use crate::{Command, LineFault};
 use shx_term::fault_codes::{LINE_NOT_UTF8, LINE_SYNTAX, LINE_TOO_LONG};
-use shx_term::{Edit, Limits, TermTriple};
+use shx_term::{Edit, Limits, TermTriple, Text};
 use std::alloc::Global;
 use ttl_read::Document;
+use ttl_tokens::unescape;
 
 /// What a line without its line feed asks for, behind a data text, whose base, prefixes and blank nodes are
 /// those of its terms. It takes time and memory linear in the line, and to look up a prefix or a label, time
@@ -71,6 +72,10 @@ fn command_of(
             Ok(Command::Edit(Edit::Remove(triple)))
         }
         Form::Slice(pair) => read_pair(alloc, line, pair, document),
+        Form::Shapes(name) => {
+            let name = Text::new(unescape(alloc, line, name)?);
+            Ok(Command::Shapes(name))
+        }
     }
 }
 

@@ -1,6 +1,7 @@
 mod accepted;
 mod edits;
 mod refused;
+mod shapes;
 mod slices;
 
 use super::seen::is_read_as_said;
@@ -35,4 +36,14 @@ fn pairs(rt: HostRuntime) -> Result<(), Fail> {
 #[test]
 fn no_pair(rt: HostRuntime) -> Result<(), Fail> {
     all_met(rt.alloc(), slices::ROWS, is_read_as_said)
+}
+
+#[test]
+fn names(rt: HostRuntime) -> Result<(), Fail> {
+    all_met(rt.alloc(), shapes::NAMES, is_read_as_said)
+}
+
+#[test]
+fn no_name(rt: HostRuntime) -> Result<(), Fail> {
+    all_met(rt.alloc(), shapes::ROWS, is_read_as_said)
 }

@@ -52,6 +52,7 @@ fn shown(
         Ok(Command::Edit(Edit::Insert(triple))) => shown_triple(alloc, "insert", triple),
         Ok(Command::Edit(Edit::Remove(triple))) => shown_triple(alloc, "remove", triple),
         Ok(Command::Slice { shape, node }) => shown_pair(alloc, shape, node),
+        Ok(Command::Shapes(name)) => format!(in alloc; "shapes [{}]", name.as_str()),
         Ok(command) => String::from_str(alloc, word_of(command)),
         Err(LineFault::Line { code, at: None }) => format!(in alloc; "{code}"),
         Err(LineFault::Line { code, at: Some(at) }) => format!(in alloc; "{code} at {at}"),
@@ -71,6 +72,7 @@ fn word_of(command: &Command) -> &'static str {
         Command::Undo => "undo",
         Command::Redo => "redo",
         Command::Slice { .. } => "slice",
+        Command::Shapes(..) => "shapes",
         Command::Nothing => "nothing",
     }
 }

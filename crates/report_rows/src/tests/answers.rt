@@ -16,6 +16,7 @@ const LAST_LINE: u64 = 18446744073709551615;
 const ANSWERS: &str = "\
 changed=ok changed evaluated 18446744073709551615=
 unchanged=ok unchanged evaluated 0=
+shapes=ok shapes evaluated 3=
 begun=ok begun=
 queued=ok queued=
 abandoned=ok abandoned=
@@ -37,6 +38,7 @@ fn answer_of(word: &str) -> Result<Answer, RowFault> {
             evaluated: u64::MAX,
         }),
         "unchanged" => Ok(Answer::Unchanged),
+        "shapes" => Ok(Answer::ShapesTaken { evaluated: 3 }),
         "begun" => Ok(Answer::Begun),
         "queued" => Ok(Answer::Queued),
         "abandoned" => Ok(Answer::Abandoned),

@@ -1,6 +1,6 @@
 use Rattle.std.proofs.Common.{sym, ◌∙◌, true≢false}
 use Rattle.std.proofs.lemmas.Str.{IsCharBoundary-start}
-use Rattle.script_lines.proofs.FormLemmas.{alone_answer, no_insert, no_remove, no_slice}
+use Rattle.script_lines.proofs.FormLemmas.{alone_answer, no_insert, no_remove, no_slice, no_shapes}
 use Rattle.script_lines.proofs.form.form_of.Goals as goal
 
 pub ends_at-requires-clause-boundary : goal.ends_at-requires-clause-boundary
@@ -28,3 +28,9 @@ returns-in_err-pair_at c =
     rw c.from_residual-in_err-pair_at.ensures
     (no_slice c.args.line.now (λ end. true≢false (sym (c.ends_at.ensures.1 end) ∙ c.if-ends_at.false))
     c.in-Some-parted_word-3.at c.in-Some-parted_word-3.ensures c.in_err-pair_at.ensures)
+
+pub returns-in_err-name_at : goal.returns-in_err-name_at
+returns-in_err-name_at c =
+    rw c.from_residual-in_err-name_at.ensures
+    (no_shapes c.args.line.now (λ end. true≢false (sym (c.ends_at.ensures.1 end) ∙ c.if-ends_at.false))
+    c.in-Some-parted_word-4.at c.in-Some-parted_word-4.ensures c.in_err-name_at.ensures)

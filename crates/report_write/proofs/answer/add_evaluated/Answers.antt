@@ -1,5 +1,5 @@
 use Rattle.shx_term.proofs.PieceLemmas.{three_in_turn}
-use Rattle.report_write.proofs.answer.add_change.Goals as goal
+use Rattle.report_write.proofs.answer.add_evaluated.Goals as goal
 
 pub returns : goal.returns
 returns g c =

@@ -48,7 +48,7 @@ use Rattle.script_run.specs.declared.reply.Reply.TheVariants.{Answers}
 use Rattle.script_run.specs.declared.script_run.ScriptRun.{ScriptRun}
 use Rattle.script_run.specs.inner.Changing.{ComesAlike, IsRefusedBy, StaysCourse, made_behind}
 use Rattle.script_run.specs.inner.Changing.{next_change, none_next, way_step}
-use Rattle.script_run.specs.Replies.{MovesOn, Replies}
+use Rattle.script_run.specs.Replies.{AnswersOn, MovesOn, Replies}
 use Rattle.script_run.specs.Stored.{IsScriptRun, MayGoOn}
 use Rattle.script_run.specs.Manner.{Manner}
 use Rattle.script_run.specs.Script.{change_step, changed, edits_step, kept_by, nested_due, past_of}
@@ -67,7 +67,7 @@ has_term shapes g recalled is p there =
     (is.right.each p answer found).node
 
 -- the pairs that are remembered stand in a list
-recalled_pairs : (remembered : Remembering) → AreAllRecalled (answer_of remembered) (keys remembered)
+pub recalled_pairs : (remembered : Remembering) → AreAllRecalled (answer_of remembered) (keys remembered)
 recalled_pairs remembered = record {
   each = λ p.
       let among = Contains-test (eq_by_cmp pair_cmp) (eq_by_cmp_equiv pair_cmp_total)
@@ -251,6 +251,7 @@ module _ (script : ScriptRun) (may : MayGoOn script)
   MayGoOn-by fits enters same NoEffect is applied =
       let past = same applied.changed in
       record {
+        base = may.base;
         group = valid;
         course = rw (applied.same, past) may.course;
         staged = ap (λ (p : Past). p.staged) past ∙ may.staged;
@@ -260,6 +261,7 @@ module _ (script : ScriptRun) (may : MayGoOn script)
   MayGoOn-by fits enters same Effect is applied =
       let past = enters applied.changed in
       record {
+        base = may.base;
         group = valid;
         course = rw (plan.triple_limit, past)
             (stays.made net engine.graph fits (effect_changes (is_no_change net) _ is) applied.graph);
@@ -278,6 +280,7 @@ module _ (script : ScriptRun) (may : MayGoOn script)
   pub MayGoOn-moved : (made : ℕ) → MovesTo script.history history made
       → IsCourse script.engine.triple_limit engine.graph script.history.changes made → MayGoOn gone_on
   MayGoOn-moved made moves course = record {
+    base = may.base;
     group = valid;
     course = rw (plan.triple_limit, moves.changes, moves.cursor_is) course;
     staged = moves.staged ∙ may.staged;
@@ -325,10 +328,12 @@ some_behind past is =
 
 -- it was answered, and nothing was done
 pub MovesOn-counted : (script : ScriptRun) → MayGoOn script → (reply : Reply) (work : Work)
-    → MovesOn (Ok reply) script (record script { line = script.line + 1 }) work work
+    → AnswersOn reply script (record script { line = script.line + 1 }) work work
 MovesOn-counted script may reply work = record {
   names = refl;
-  goes_on = record { group = may.group; course = may.course; staged = may.staged };
+  base = refl;
+  format = refl;
+  goes_on = record { base = may.base; group = may.group; course = may.course; staged = may.staged };
   line = refl;
   risen = NoneFell-itself work;
 }
@@ -336,7 +341,8 @@ MovesOn-counted script may reply work = record {
 -- edits were refused, and so nothing was done
 module _ (script : ScriptRun) (may : MayGoOn script) (net : Net) (engine : EngineState) (history : Past)
     (past : history ≡ script.history) (steps steps' nested nested' : ℕ) (result : Result Reply AllocError)
-    (script' : ScriptRun) (names : script'.document ≡ script.document)
+    (script' : ScriptRun) (names : script'.document ≡ script.document) (base : script'.base ≡ script.base)
+    (format : script'.format ≡ script.format)
     (moves : MayGoOn (record script { engine = engine; history = history }) → (work : Work)
     → MovesOn result (record script { engine = engine; history = history }) script' work work) where
   abbrev was : Work
@@ -352,6 +358,8 @@ module _ (script : ScriptRun) (may : MayGoOn script) (net : Net) (engine : Engin
       let moved = moves kept was in
       record {
         names = names;
+        base = base;
+        format = format;
         goes_on = moved.goes_on;
         line = moved.line;
         risen = subst (λ (work : Work). OnOk result (NoneFell was work)) (sym none) moved.risen;
@@ -368,6 +376,8 @@ module _ (script : ScriptRun) (may : MayGoOn script) (net : Net) (engine : Engin
       let never = memory refl in
       record {
         names = names;
+        base = base;
+        format = format;
         goes_on = none_is result _ never;
         line = none_is result _ never;
         risen = none_is result _ never;

@@ -1,10 +1,16 @@
 pub mod ChangingLemmas
+pub mod EnteredLemmas
 pub mod HistoryLemmas
+pub mod LoadingLemmas
+pub mod LoadsLemmas
 pub mod NamesLemmas
+pub mod ObeysLemmas
 pub mod RowsLemmas
 pub mod ScriptRunLemmas
 pub mod SliceLemmas
 pub mod StandsWellLemmas
+pub mod TakenShapesLemmas
 pub mod UndoneLemmas
+pub mod UnplannedLemmas
 pub mod ValidationLemmas
 pub mod WorkLemmas

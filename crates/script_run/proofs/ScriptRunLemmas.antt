@@ -78,6 +78,7 @@ module _ (limits : Limits) (format : Format) (s : ScriptState) (script : ScriptR
         history_is = past;
         line_is = ap (λ line. line + 1) is.line_is;
         refused_is = is.refused_is;
+        halted_is = is.halted_is;
         triples = plan.triple_limit ∙ is.triples;
         terms = plan.term_limit ∙ is.terms;
         format_is = is.format_is;
@@ -113,6 +114,7 @@ module _ (limits : Limits) (format : Format) (s : ScriptState) (script : ScriptR
         history_is = past ∙ is.history_is;
         line_is = is.line_is;
         refused_is = is.refused_is;
+        halted_is = is.halted_is;
         triples = is.triples;
         terms = is.terms;
         format_is = is.format_is;

@@ -1,7 +1,7 @@
 -- A script stands well behind each line.
 use Rattle.std.specs.Prelude.{◌≡◌, ℕ, ◌+◌, ◌-◌, ◌≤◌, All, Bool, true, false, IfOk, IfSome, List, []}
 use Rattle.std.specs.Prelude.{◌∷◌, ◌++◌, None, Option, Some, Result, Ok, Err, if◌then◌else◌, length}
-use Rattle.std.specs.Prelude.{nat_le, nat_lt}
+use Rattle.std.specs.Prelude.{drop, map, nat_le, nat_lt, reverse, take}
 use Rattle.std.specs.List.{IsDistinct}
 use Rattle.std.proofs.Common.{refl, sym, subst, arith}
 use Rattle.std.proofs.lemmas.Bool.{ltb-false}
@@ -11,50 +11,59 @@ use Rattle.std.proofs.lemmas.Option.{slice_get_within}
 use Rattle.shx_term.specs.declared.edit.Edit.{Edit}
 use Rattle.shx_term.specs.declared.fault_codes.TheConstants.{GROUP_OPEN, GROUP_TOO_LONG, NO_GROUP}
 use Rattle.shx_term.specs.declared.fault_codes.TheConstants.{GRAPH_TERMS, GRAPH_TRIPLES, NOTHING_TO_REDO}
-use Rattle.shx_term.specs.declared.fault_codes.TheConstants.{NOTHING_TO_UNDO, NO_PAIR}
+use Rattle.shx_term.specs.declared.fault_codes.TheConstants.{NOTHING_TO_UNDO, NO_PAIR, TEXT_TOO_LONG}
 use Rattle.shx_term.specs.declared.limits.Limits.{Limits}
 use Rattle.shx_term.specs.declared.term.Term.{Term}
 use Rattle.shx_term.specs.Edit.{IsValidEdit}
 use Rattle.shx_term.specs.Pool.{is_held, with_term, with_terms}
 use Rattle.shx_term.specs.TermOrder.{same_term}
 use Rattle.shx_term.specs.TripleTerms.{terms_of}
+use Rattle.shx_term.specs.ValidTriples.{IsValidTermTriple}
 use Rattle.shx_term.specs.inner.TermOrderLaws.{same_term_equiv}
+use Rattle.shx_term.proofs.HeldLemmas.{with_terms_grow}
 use Rattle.shx_term.proofs.SetLemmas.{SameMembers-itself}
 use Rattle.edit_history.specs.declared.net.Net.{Net}
 use Rattle.edit_history.specs.History.{history_after, redo_change, undo_change}
 use Rattle.graph_view.specs.Graph.{Graph}
 use Rattle.graph_view.specs.SameGraph.{SameGraph}
+use Rattle.graph_view.specs.Valid.{IsValidView}
 use Rattle.graph_view.proofs.ExchangeLemmas.{length-exchanged, length-removed}
 use Rattle.comp_core.specs.declared.pair.Pair.{Pair}
 use Rattle.shape_eval.specs.Plan.{Planned}
-use Rattle.edit_engine.specs.Course.{IsCourse, IsWhole}
+use Rattle.edit_engine.specs.Course.{CanFollow, IsCourse, IsWhole}
 use Rattle.edit_engine.specs.Edits.{net_of}
 use Rattle.edit_engine.specs.NamedPairs.{pair_in}
 use Rattle.edit_engine.specs.Nets.{Effect, IsNetOn, NoEffect, Outcome, PastTerms, PastTriples, added_to}
 use Rattle.edit_engine.specs.Nets.{count_after, graph_after, is_no_change, outcome, removed_from, terms_after}
 use Rattle.edit_engine.specs.Nets.{turned}
+use Rattle.edit_engine.specs.Swapped.{kept_over}
 use Rattle.edit_engine.proofs.CourseLemmas.{course_back, course_forth, course_made, course_redone}
 use Rattle.edit_engine.proofs.CourseLemmas.{course_undone}
 use Rattle.edit_engine.proofs.EffectLemmas.{IsNetOn-edits}
 use Rattle.edit_engine.proofs.HeldTripleLemmas.{AreAllHeld-entered, length-numbered_all}
-use Rattle.edit_engine.proofs.SoundLemmas.{IsSound, IsSound-after, IsSound-whole, entered}
-use Rattle.edit_engine.proofs.SoundLemmas.{entered_patch, removed_terms_held}
-use Rattle.edit_engine.proofs.ValidEditLemmas.{valid_after}
+use Rattle.edit_engine.proofs.SoundLemmas.{CanFollow-over, IsSound, IsSound-after, IsSound-valid}
+use Rattle.edit_engine.proofs.SoundLemmas.{IsSound-whole, entered, entered_patch, removed_terms_held}
+use Rattle.edit_engine.proofs.ValidEditLemmas.{narrow_terms, valid_after, valid_entered}
+use Rattle.shape_text.specs.TextReadings.{Faulty, Long, States, TextReading}
+use Rattle.shape_text.specs.Verdict.{Obstacle, breaks, is_refused, misspells, obstacle_code, reaches_far}
+use Rattle.shape_text.specs.Verdict.{recurs}
 use Rattle.ttl_meaning.specs.State.{State}
 use Rattle.script_lines.specs.declared.command.Command.{Command}
 use Rattle.script_lines.specs.declared.command.Command.TheVariants.{Edit as edits, Report, Count, Begin}
 use Rattle.script_lines.specs.declared.command.Command.TheVariants.{Commit, Abandon, Undo, Redo, Slice}
-use Rattle.script_lines.specs.declared.command.Command.TheVariants.{Nothing}
+use Rattle.script_lines.specs.declared.command.Command.TheVariants.{Nothing, Shapes}
 use Rattle.script_lines.specs.declared.fault.LineFault.{LineFault}
 use Rattle.script_lines.specs.declared.fault.LineFault.TheVariants.{Line, Memory}
 use Rattle.script_lines.specs.Lines.{IsValidCommand}
 use Rattle.report_write.specs.declared.answer.Answer.TheVariants.{Queued}
+use Rattle.script_run.specs.Load.{Judgement, Load, StatesValid, refuses, takes, unjudged}
 use Rattle.script_run.specs.Manner.{Manner}
-use Rattle.script_run.specs.Script.{abandon_step, answers, begin_step, change_step, changed, command_step}
-use Rattle.script_run.specs.Script.{commit_step, edit_step, make_again, past_of, reading_step, redo_step}
-use Rattle.script_run.specs.Script.{refusal, script_step, serve_lines, slice_step, stays, take_back}
-use Rattle.script_run.specs.Script.{undo_step}
-use Rattle.script_run.specs.ScriptState.{ScriptState, start_state}
+use Rattle.script_run.specs.Script.{abandon_step, answers, begin_step, beside_text, change_step, changed}
+use Rattle.script_run.specs.Script.{command_step, commit_step, edit_step, is_cut, is_silent, judged_step}
+use Rattle.script_run.specs.Script.{load_step, make_again, obstacle_step, past_of, reading_step, redo_step}
+use Rattle.script_run.specs.Script.{refusal, script_step, serve_lines, shapes_step, slice_step, stays}
+use Rattle.script_run.specs.Script.{take_back, text_step, undo_step}
+use Rattle.script_run.specs.ScriptState.{ScriptState, start_state, with_loads}
 use Rattle.script_run.specs.Undone.{AreValidLines, StandsWell}
 
 pub same_itself : (g : Graph) → SameGraph g g
@@ -114,7 +123,22 @@ module _ (limits : Limits) (s : ScriptState) (well : StandsWell limits s) where
   Stands-same : (group : Option (List Edit)) (line : ℕ) (refused : Bool) → IfSome group (All IsValidEdit)
       → StandsWell limits (record s { group = group; line = line; refused = refused })
   Stands-same group line refused fit =
-      record { graph = well.graph; group = fit; course = well.course; within = well.within }
+      record {
+        graph = well.graph;
+        group = fit;
+        course = well.course;
+        within = well.within;
+        loads = well.loads;
+      }
+
+  Stands-cut : StandsWell limits (is_cut s).state
+  Stands-cut = record {
+    graph = well.graph;
+    group = well.group;
+    course = well.course;
+    within = well.within;
+    loads = well.loads;
+  }
 
   Stands-refused : (code : ℕ) (at : Option ℕ) → StandsWell limits (refusal s code at).state
   Stands-refused code at = Stands-same s.group (s.line + 1) true well.group
@@ -132,6 +156,7 @@ module _ (limits : Limits) (s : ScriptState) (well : StandsWell limits s) where
     group = tt;
     course = course;
     within = within;
+    loads = well.loads;
   }
 
   pub Stands-change : (net : Net) → IsNetOn s.graph net → (o : Outcome)
@@ -221,29 +246,129 @@ module _ (limits : Limits) (s : ScriptState) (well : StandsWell limits s) where
   Stands-slice None = Stands-refused NO_PAIR None
   Stands-slice (Some p) = Stands-stays s.group well.group
 
+  -- the terms of a text stand behind those of the graph
+  module _ (end : State) (valid : All IsValidTermTriple end.triples) where
+    abbrev beside : Graph
+    beside = beside_text s end
+
+    valid_beside : IsValidView beside
+    valid_beside =
+        valid_entered s.graph (terms_of end.triples) well.graph.valid (narrow_terms end.triples valid)
+
+    follow_beside : (nets : List Net) → CanFollow limits.triples s.graph nets
+        → CanFollow limits.triples beside nets
+    follow_beside nets =
+        let grown = with_terms_grow s.graph.terms (terms_of end.triples) in
+        CanFollow-over limits.triples s.graph beside nets (record {
+          more = grown.0;
+          terms = grown.1;
+          triples = SameMembers-itself s.graph.triples;
+          old = IsSound-whole limits.triples s.graph well.graph;
+          new = IsSound-valid beside valid_beside well.graph.triples;
+        })
+
+    Stands-beside : (plan : Planned) (kept : List Pair) (halted : Bool) → StandsWell limits
+        (record s { graph = beside; plan = plan; kept = kept; line = s.line + 1; halted = halted })
+    Stands-beside plan kept halted = record {
+      graph = record {
+        valid = valid_beside;
+        terms = once_entered s.graph.terms (terms_of end.triples) well.graph.terms;
+        triples = well.graph.triples;
+        few = well.graph.few;
+      };
+      group = well.group;
+      course = record {
+        back = follow_beside (map (turned true) (reverse (take s.made s.changes))) well.course.back;
+        forth = follow_beside (drop s.made s.changes) well.course.forth;
+      };
+      within = well.within;
+      loads = well.loads;
+    }
+
+    Stands-obstacle : (obstacle : Obstacle) → StandsWell limits (obstacle_step s beside obstacle).state
+    Stands-obstacle (breaks fault) = Stands-refused (obstacle_code (breaks fault)) None
+    Stands-obstacle (recurs shape) = Stands-refused (obstacle_code (recurs shape)) None
+    Stands-obstacle (reaches_far shape) = Stands-refused (obstacle_code (reaches_far shape)) None
+    Stands-obstacle (misspells shape) = Stands-refused (obstacle_code (misspells shape)) None
+    Stands-obstacle (is_refused shape) = Stands-beside s.plan s.kept true
+
+    Stands-judged : (judgement : Judgement) → StandsWell limits (judged_step s beside judgement).state
+    Stands-judged (takes plan alikes) = Stands-beside plan (kept_over plan alikes beside s.kept) s.halted
+    Stands-judged (refuses obstacle) = Stands-obstacle obstacle
+    Stands-judged unjudged = Stands-cut
+
+  Stands-text : (reading : TextReading) (judgement : Judgement) → StatesValid reading
+      → StandsWell limits (text_step limits s reading judgement).state
+  Stands-text Long judgement valid = Stands-refused TEXT_TOO_LONG None
+  Stands-text (Faulty code at) judgement valid = Stands-refused code None
+  Stands-text (States document end) judgement valid =
+      elim (nat_lt limits.terms (length (beside_text s end).terms)) as
+      (λ b. StandsWell limits (if b then refusal s GRAPH_TERMS None
+      else judged_step s (beside_text s end) judgement).state) [
+        | true ↦ Stands-refused GRAPH_TERMS None
+        | false ↦ Stands-judged end valid judgement
+      ]
+
+-- a text that is loaded, and those of later lines
+Stands-load : (limits : Limits) (s : ScriptState) → StandsWell limits s → (loads : List Load)
+    → All (λ load. StatesValid load.reading) loads → StandsWell limits (load_step limits s loads).state
+Stands-load limits s well [] valid = Stands-cut limits s well
+Stands-load limits s well (load ∷ rest) valid =
+    let P : Load → Type 0 = λ load. StatesValid load.reading in
+    Stands-text limits (with_loads rest s) (record {
+      graph = well.graph;
+      group = well.group;
+      course = well.course;
+      within = well.within;
+      loads = All-tail P load rest valid;
+    }) load.reading load.judgement (All-head P load rest valid)
+
+-- ---- lines
+
+module _ (limits : Limits) (s : ScriptState) (well : StandsWell limits s) where
+  Stands-shapes : (group : Option (List Edit)) → StandsWell limits (shapes_step limits s group).state
+  Stands-shapes None = Stands-load limits s well s.loads well.loads
+  Stands-shapes (Some waiting) = Stands-refused limits s well GROUP_OPEN None
+
   pub Stands-command : (command : Command) → IsValidCommand command
       → StandsWell limits (command_step limits s command).state
-  Stands-command (edits edit) fit = Stands-edit edit fit s.group refl
-  Stands-command Begin fit = Stands-begin s.group
-  Stands-command Commit fit = Stands-commit s.group refl
-  Stands-command Abandon fit = Stands-abandon s.group
-  Stands-command Undo fit = Stands-undo s.group
-  Stands-command Redo fit = Stands-redo s.group
-  Stands-command Report fit = Stands-stays s.group well.group
-  Stands-command Count fit = Stands-stays s.group well.group
-  Stands-command (Slice shape node) fit = Stands-slice (pair_in s.plan s.graph shape node)
-  Stands-command Nothing fit = Stands-stays s.group well.group
+  Stands-command (edits edit) fit = Stands-edit limits s well edit fit s.group refl
+  Stands-command Begin fit = Stands-begin limits s well s.group
+  Stands-command Commit fit = Stands-commit limits s well s.group refl
+  Stands-command Abandon fit = Stands-abandon limits s well s.group
+  Stands-command Undo fit = Stands-undo limits s well s.group
+  Stands-command Redo fit = Stands-redo limits s well s.group
+  Stands-command Report fit = Stands-stays limits s well s.group well.group
+  Stands-command Count fit = Stands-stays limits s well s.group well.group
+  Stands-command (Slice shape node) fit = Stands-slice limits s well (pair_in s.plan s.graph shape node)
+  Stands-command (Shapes name) fit = Stands-shapes s.group
+  Stands-command Nothing fit = Stands-stays limits s well s.group well.group
 
   Stands-reading : (reading : Result Command LineFault) → IfOk reading IsValidCommand
       → StandsWell limits (reading_step limits s reading).state
   Stands-reading (Ok command) fit = Stands-command command fit
-  Stands-reading (Err (Line code at)) fit = Stands-refused code at
+  Stands-reading (Err (Line code at)) fit = Stands-refused limits s well code at
   Stands-reading (Err Memory) fit = well
+
+Stands-line : (manner : Manner) (s : ScriptState) → StandsWell manner.limits s → (line : List ℕ)
+    → IfOk (manner.lines line) IsValidCommand → StandsWell manner.limits (script_step manner s line).state
+Stands-line manner s well line fit =
+    elim s.halted as (λ b. StandsWell manner.limits
+    (if b then is_silent s else reading_step manner.limits s (manner.lines line)).state) [
+      | true ↦ well
+      | false ↦ Stands-reading manner.limits s well (manner.lines line) fit
+    ]
 
 pub Stands-start : (limits : Limits) (g : Graph) (end : State) (plan : Planned) → IsWhole limits.triples g
     → StandsWell limits (start_state g end plan)
 Stands-start limits g end plan whole =
-    record { graph = whole; group = tt; course = record { back = tt; forth = tt }; within = omega arith }
+    record {
+      graph = whole;
+      group = tt;
+      course = record { back = tt; forth = tt };
+      within = omega arith;
+      loads = All-nil (λ (load : Load). StatesValid load.reading);
+    }
 
 pub Stands-lines : (manner : Manner) (s : ScriptState) (lines : List (List ℕ)) → StandsWell manner.limits s
     → AreValidLines manner.lines lines → StandsWell manner.limits (serve_lines manner s lines).state
@@ -251,5 +376,5 @@ Stands-lines manner s [] well fit = well
 Stands-lines manner s (line ∷ lines) well fit =
     let P : List ℕ → Type 0 = λ line. IfOk (manner.lines line) IsValidCommand in
     Stands-lines manner (script_step manner s line).state lines
-    (Stands-reading manner.limits s well (manner.lines line) (All-head P line lines fit))
+    (Stands-line manner s well line (All-head P line lines fit))
     (All-tail P line lines fit)

@@ -63,12 +63,12 @@ module _ (limits : Limits) (format : Format) (s : ScriptState) (validation : Val
       → script.engine.term_limit ≡ validation.graph.pool.limit
       → script.engine.triple_limit ≡ validation.graph.limit → script.document ≡ validation.document
       → script.format ≡ validation.format → script.group ≡ None → script.history ≡ no_past limits.history
-      → script.line ≡ 0 → script.refused ≡ false
+      → script.line ≡ 0 → script.refused ≡ false → script.halted ≡ false
       → nested_pairs plan s.graph ≡ nested_pairs plan stored
       → AreAllRecalled (answer_of script.engine.remembered) (nested_pairs plan stored)
       → IsScriptRun limits format s script
-  IsScriptRun-opened script plans graph terms triples document writes group past line refused alike recalled
-      = record {
+  IsScriptRun-opened script plans graph terms triples document writes group past line refused halted alike
+      recalled = record {
         stores = subst (SameGraph s.graph) (sym graph) is.stores;
         names_are = subst (λ (d : Document). HasNamesOf s.data_end d) (sym document) is.names_are;
         plan_is = plans ∙ is.plan_is;
@@ -83,6 +83,7 @@ module _ (limits : Limits) (format : Format) (s : ScriptState) (validation : Val
         });
         line_is = line ∙ sym is.start.line;
         refused_is = refused ∙ sym is.start.refused;
+        halted_is = halted ∙ sym is.start.halted;
         triples = triples ∙ is.limits_are.triples;
         terms = terms ∙ is.limits_are.terms;
         format_is = writes ∙ is.format_is;

@@ -15,6 +15,9 @@ and_then_assoc first more later =
 pub and_then-no_work : (work : Work) → and_then work no_work ≡ work
 and_then-no_work work = same_work (and_then work no_work) work (omega arith) (omega arith)
 
+pub no_work-and_then : (work : Work) → and_then no_work work ≡ work
+no_work-and_then work = same_work (and_then no_work work) work (omega arith) (omega arith)
+
 -- where nothing more was done, no work was
 pub still_work : (before after : Work) → after ≡ before → after ≡ and_then before no_work
 still_work before after same = same ∙ sym (and_then-no_work before)

@@ -1,3 +1,7 @@
+pub mod Admitted
+pub mod Hosts
+pub mod Load
+pub mod Loaded
 pub mod LineReadings
 pub mod Manner
 pub mod Replies

@@ -2,6 +2,7 @@
 -- has come.
 use Rattle.std.specs.Prelude.{◌≡◌, false, [], All, IfSome, None}
 use Rattle.std.specs.Option.{option_map}
+use Rattle.iri_resolve.specs.Resolution.{IsAbsolute}
 use Rattle.shx_term.specs.Edit.{IsValidEdit}
 use Rattle.shx_term.specs.declared.limits.Limits.{Limits}
 use Rattle.graph_view.specs.ListGraph.{plain_graph}
@@ -33,6 +34,7 @@ pub record IsStart (s : ScriptState) : Type 0 where
   pub made : s.made ≡ 0
   pub line : s.line ≡ 0
   pub refused : s.refused ≡ false
+  pub halted : s.halted ≡ false
 
 -- the validation stores the state before the first line, with the limits and the format of the run
 pub record IsValidation (limits : Limits) (format : Format) (s : ScriptState) (validation : Validation)
@@ -61,13 +63,15 @@ pub record IsScriptRun (limits : Limits) (format : Format) (s : ScriptState) (sc
     pub history_is : script.history ≡ past_of limits s
     pub line_is : script.line ≡ s.line
     pub refused_is : script.refused ≡ s.refused
+    pub halted_is : script.halted ≡ s.halted
     pub triples : script.engine.triple_limit ≡ limits.triples
     pub terms : script.engine.term_limit ≡ limits.terms
     pub format_is : script.format ≡ format
 
--- what is true of each run of a script: the edits that wait are valid, and the changes that are made can be
--- taken back and those that were taken back made again
+-- what is true of each run of a script: the base is absolute, the edits that wait are valid, and the changes
+-- that are made can be taken back and those that were taken back made again
 pub record MayGoOn (script : ScriptRun) : Type 0 where
+  pub base : IsAbsolute script.base
   pub group : IfSome script.group (λ waiting. All IsValidEdit waiting.items)
   pub course : IsCourse script.engine.triple_limit script.engine.graph script.history.changes
       script.history.cursor

@@ -7,17 +7,19 @@ use Rattle.edit_engine.specs.Course.{IsCourse, IsWhole}
 use Rattle.edit_engine.specs.Edits.{net_of}
 use Rattle.edit_engine.specs.Nets.{Effect, outcome}
 use Rattle.script_lines.specs.Lines.{IsValidCommand}
+use Rattle.script_run.specs.Load.{StatesValid}
 use Rattle.script_run.specs.Manner.{LineReadings}
 use Rattle.script_run.specs.Script.{edits_step, redo_step, undo_step}
 use Rattle.script_run.specs.ScriptState.{ScriptState}
 
--- where a script stands: its graph is whole, what waits in its group is valid, and its changes can be taken
--- back and made again
+-- where a script stands: its graph is whole, what waits in its group is valid, as is what the texts state
+-- that its lines load, and its changes can be taken back and made again
 pub record StandsWell (limits : Limits) (s : ScriptState) : Type 0 where
   pub graph : IsWhole limits.triples s.graph
   pub group : IfSome s.group (All IsValidEdit)
   pub course : IsCourse limits.triples s.graph s.changes s.made
   pub within : s.made ≤ length s.changes
+  pub loads : All (λ load. StatesValid load.reading) s.loads
 
 -- what the lines ask to insert or to remove is valid
 abbrev pub AreValidLines : LineReadings → List (List ℕ) → Type 0

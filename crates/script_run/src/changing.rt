@@ -1,6 +1,6 @@
 //! Lines that change the graph, or how edits are taken: edits, groups, undo and redo.
 ghost use Rattle.std.specs.Prelude.{◌≡◌, ◌<◌, ◌+◌, ◌-◌, ◌^◌, true, false, None};
-ghost use Rattle.std.specs.Prelude.{All, IfOk, IfErr, Ok, OnErr};
+ghost use Rattle.std.specs.Prelude.{All, IfOk, IfErr, OnErr};
 ghost use Rattle.std.specs.Option.{is_some, option_copied};
 ghost use Rattle.shx_term.specs.Edit.{IsValidEdit};
 ghost use Rattle.edit_engine.specs.Applied.{Applies, IsChanged, Refuses, SamePlan, counted_at};
@@ -13,7 +13,7 @@ ghost use Rattle.script_run.specs.Script.{abandon_step, begin_step, commit_step,
 ghost use Rattle.script_run.specs.ScriptState.{ScriptState};
 ghost use Rattle.script_run.specs.Work.{Work, evaluating};
 ghost use Rattle.script_run.specs.inner.Changing.{IsRefusedBy, made_behind, next_change, none_next, way_step};
-ghost use Rattle.script_run.specs.Replies.{MovesOn, Replies};
+ghost use Rattle.script_run.specs.Replies.{AnswersOn, MovesOn, Replies};
 ghost use Rattle.script_run.specs.Stored.{IsScriptRun, MayGoOn};
 
 use crate::alike::changes_come_alike;
@@ -50,6 +50,7 @@ pub fn do_edit<K: Ledger, L: Ledger>(
         (evaluating steps.old nested.old) (evaluating steps.new nested.new)) }
     ensures moves { MovesOn result script.old script.new
         (evaluating steps.old nested.old) (evaluating steps.new nested.new) }
+    ensures running { script.new.halted ≡ script.old.halted }
 {
     if script.group.is_some() {
         return queue(script, edit, limits);
@@ -80,6 +81,7 @@ fn queue(script: &mut ScriptRun, edit: Edit, limits: &Limits) -> Result<Reply, M
         → IfOk result (λ reply. Replies manner (edit_step manner.limits s edit s.group) reply script.new
         work work) }
     ensures moves { (work : Work) → MovesOn result script.old script.new work work }
+    ensures running { script.new.halted ≡ script.old.halted }
 {
     let Some(waiting) = &mut script.group else {
         unreachable!()
@@ -98,7 +100,8 @@ pub fn begin(alloc: Global, script: &mut ScriptRun) -> Reply
     ensures replies { (manner : Manner) (s : ScriptState) (work : Work)
         → IsScriptRun manner.limits manner.format s script.old
         → Replies manner (begin_step s s.group) result script.new work work }
-    ensures moves { (work : Work) → MovesOn (Ok result) script.old script.new work work }
+    ensures moves { (work : Work) → AnswersOn result script.old script.new work work }
+    ensures running { script.new.halted ≡ script.old.halted }
 {
     if script.group.is_some() {
         return refuse_line(script, GROUP_OPEN, None);
@@ -122,6 +125,7 @@ pub fn commit<K: Ledger, L: Ledger>(
         (evaluating steps.old nested.old) (evaluating steps.new nested.new)) }
     ensures moves { MovesOn result script.old script.new
         (evaluating steps.old nested.old) (evaluating steps.new nested.new) }
+    ensures running { script.new.halted ≡ script.old.halted }
 {
     changes_come_alike(&script.engine);
     let Some(waiting) = &script.group else {
@@ -157,7 +161,8 @@ pub fn abandon(script: &mut ScriptRun) -> Reply
     ensures replies { (manner : Manner) (s : ScriptState) (work : Work)
         → IsScriptRun manner.limits manner.format s script.old
         → Replies manner (abandon_step s s.group) result script.new work work }
-    ensures moves { (work : Work) → MovesOn (Ok result) script.old script.new work work }
+    ensures moves { (work : Work) → AnswersOn result script.old script.new work work }
+    ensures running { script.new.halted ≡ script.old.halted }
 {
     if script.group.is_none() {
         return refuse_line(script, NO_GROUP, None);
@@ -182,6 +187,7 @@ pub fn undo_or_redo<K: Ledger, L: Ledger>(
         (evaluating steps.old nested.old) (evaluating steps.new nested.new)) }
     ensures moves { MovesOn result script.old script.new
         (evaluating steps.old nested.old) (evaluating steps.new nested.new) }
+    ensures running { script.new.halted ≡ script.old.halted }
 {
     if script.group.is_some() {
         return Ok(refuse_line(script, GROUP_OPEN, None));
@@ -312,6 +318,9 @@ fn refuse_edits(script: &mut ScriptRun, fault: EditFault) -> Result<Reply, Memor
         → IfOk result (λ reply. IsRefusedBy manner s fault reply script.new work) }
     ensures memory { fault ≡ EditFault.Memory → IfOk result (λ reply. ⊥) }
     ensures names { script.new.document ≡ script.old.document }
+    ensures base { script.new.base ≡ script.old.base }
+    ensures format { script.new.format ≡ script.old.format }
+    ensures running { script.new.halted ≡ script.old.halted }
     ensures moves { MayGoOn script.old → (work : Work) → MovesOn result script.old script.new work work }
 {
     match fault {

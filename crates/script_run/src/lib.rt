@@ -1,4 +1,4 @@
-//! A script that is being answered: what each line does to the graph, and what is said to it.
+//! A script that is being answered: what each line does to the graph or the shapes, and what is said to it.
 //!
 //! | file | what it holds |
 //! |---|---|
@@ -6,6 +6,7 @@
 //! | `script_run.rt` | `ScriptRun`: the engine that keeps the report, and how far the script has come |
 //! | `reply.rt` | `reply_to`: a line is done, and what is said to it; `write_reply` writes that |
 //! | `changing.rt` | lines that change the graph: edits, groups, undo and redo |
+//! | `loading.rt` | a line that loads shapes: those of another text take the place of those in force |
 //! | `slicing.rt` | why a node fails, or not |
 //! | `alike.rt` | a law: the same comes of a change as the graph is stored |
 //! | `read_once.rt` | a law: a line has one reading |
@@ -13,14 +14,15 @@
 //! | `stored_graph.rt` | the form in which graphs are stored |
 //!
 //! It stands on `edit_engine` for results that are kept current and on `edit_history` for changes that can be
-//! taken back, on `triple_store` for graphs, on `script_lines` for lines, on `pair_slice` for slices and on
-//! `report_write` for answers.
-//! Start with `reply.rt`; `specs/Script.antt` says what each line does, and `specs/Stored.antt` how what is
-//! kept stands for the state that is spoken of there.
+//! taken back, on `triple_store` for graphs, on `script_lines` for lines, on `shape_text` and `plan_swap` for
+//! other shapes, on `pair_slice` for slices and on `report_write` for answers. Start with `reply.rt`;
+//! `specs/Script.antt` says what each line does, `specs/Stored.antt` how what is kept stands for the state
+//! that is spoken of there, and `specs/Loaded.antt` what is told of texts that lines load.
 #![tactic(auto)]
 
 mod alike;
 mod changing;
+mod loading;
 mod read_once;
 mod reply;
 mod script_run;

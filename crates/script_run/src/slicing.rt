@@ -1,5 +1,5 @@
 //! Why a node fails a shape, or does not.
-ghost use Rattle.std.specs.Prelude.{◌<◌, ◌-◌, ◌^◌, IfOk};
+ghost use Rattle.std.specs.Prelude.{◌≡◌, ◌<◌, ◌-◌, ◌^◌, IfOk};
 ghost use Rattle.edit_engine.specs.NamedPairs.{pair_in};
 ghost use Rattle.script_run.specs.Manner.{Manner};
 ghost use Rattle.script_run.specs.Script.{slice_step};
@@ -32,6 +32,7 @@ pub fn slice(
         → IfOk result (λ reply. Replies manner (slice_step s (pair_in s.plan s.graph shape.now node.now))
         reply script.new work work) }
     ensures moves { (work : Work) → MovesOn result script.old script.new work work }
+    ensures running { script.new.halted ≡ script.old.halted }
 {
     // The graph may be stored in another order than the script's.
     same_graphs_answer_alike();

@@ -57,6 +57,8 @@ returns-in-Ok-clause-moves g c =
     let valid : All IsValidEdit edits = rw c.in-Some.is at may.group in
     rw (c.said.ensures.counted, c.close_group.ensures) (record {
       names = refl;
+      base = refl;
+      format = refl;
       goes_on = MayGoOn-applied script may (law.course script.history may.course) net made.new.engine
           made.ensures.plan c.in-Ok.change None tt made.new.history c.args.nested.now
           made.new.nested (law.fits edits valid) (rw c.deref.ensures.value at came.entered) came.unchanged
@@ -98,8 +100,8 @@ returns-in-Err-clause-moves g c =
     let refused = c.refuse_edits in
     MovesOn-refused script c.requires.goes_on (net_of script.engine.graph c.deref.result.now) made.new.engine
     made.new.history c.in-Err.ensures.kept c.args.steps.now made.new.steps c.args.nested.now made.new.nested
-    refused.result refused.new.script refused.ensures.names refused.ensures.moves c.in-Err.fault
-    c.in-Err.ensures.refused refused.ensures.memory
+    refused.result refused.new.script refused.ensures.names refused.ensures.base refused.ensures.format
+    refused.ensures.moves c.in-Err.fault c.in-Err.ensures.refused refused.ensures.memory
 
 pub returns-in_default-clause-moves : goal.returns-in_default-clause-moves
 returns-in_default-clause-moves g c =

@@ -55,6 +55,8 @@ returns-in-Ok-clause-moves g c =
     All-cons IsValidEdit c.args.edit [] c.requires.valid (All-nil IsValidEdit) in
     rw c.said.ensures.counted (record {
       names = refl;
+      base = refl;
+      format = refl;
       goes_on = MayGoOn-applied script may (law.course script.history may.course) net made.new.engine
           made.ensures.plan c.in-Ok.change script.group may.group made.new.history c.args.nested.now
           made.new.nested (law.fits edits valid) (rw c.from_ref.ensures.value at came.entered) came.unchanged
@@ -96,9 +98,9 @@ returns-clause-moves g c =
     let refused = c.refuse_edits in
     MovesOn-refused script c.requires.goes_on (net_of script.engine.graph c.from_ref.result.now)
     made.new.engine made.new.history c.in-Err.ensures.kept c.args.steps.now made.new.steps c.args.nested.now
-    made.new.nested
-    refused.result refused.new.script refused.ensures.names refused.ensures.moves c.in-Err.fault
-    c.in-Err.ensures.refused refused.ensures.memory
+    made.new.nested refused.result refused.new.script refused.ensures.names refused.ensures.base
+    refused.ensures.format refused.ensures.moves c.in-Err.fault c.in-Err.ensures.refused
+    refused.ensures.memory
 
 pub returns-then-is_some-clause-moves : goal.returns-then-is_some-clause-moves
 returns-then-is_some-clause-moves g c =

@@ -31,7 +31,14 @@ returns-then-len-limits-clause-moves c = λ work.
     let may = subst (λ (group : Option (Vec Edit Global)).
     MayGoOn (record c.args.script.now { group = group })) c.in-Some.is c.requires.goes_on in
     let moved = c.refuse_line.ensures.moves may work in
-    record { names = moved.names; goes_on = moved.goes_on; line = moved.line; risen = moved.risen }
+    record {
+      names = moved.names;
+      base = moved.base;
+      format = moved.format;
+      goes_on = moved.goes_on;
+      line = moved.line;
+      risen = moved.risen;
+    }
 
 pub returns-clause-moves : goal.returns-clause-moves
 returns-clause-moves c = λ work.
@@ -41,7 +48,10 @@ returns-clause-moves c = λ work.
     let valid : All IsValidEdit waiting = rw c.in-Some.is at may.group in
     rw c.said.ensures.counted (record {
       names = refl;
+      base = refl;
+      format = refl;
       goes_on = record {
+        base = may.base;
         group = subst (All IsValidEdit) (sym c.in_ok-push.ensures.items)
             (All-append IsValidEdit waiting (edit ∷ []) valid
             (All-cons IsValidEdit edit [] c.requires.valid (All-nil IsValidEdit)));

@@ -86,6 +86,8 @@ returns-clause-moves g c =
     let came = c.in_ok-change.ensures in
     rw c.said.ensures.counted (record {
       names = refl;
+      base = refl;
+      format = refl;
       goes_on = MayGoOn-moved script may stays (turned back net) engine c.move_by.ensures.plan
           c.in_ok-change.change script.group may.group history c.args.nested.now c.move_by.new.nested
           (made_behind back script.history.cursor) c.move_history.ensures

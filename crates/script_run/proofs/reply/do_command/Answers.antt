@@ -1,64 +1,38 @@
+use Rattle.std.proofs.Common.{Ok, ◌∙◌}
+use Rattle.std.proofs.lemmas.Result.{IfErr-weaker}
+use Rattle.script_run.specs.Loaded.{library_of}
 use Rattle.script_run.specs.Work.{evaluating}
-use Rattle.script_run.proofs.ScriptRunLemmas.{Replies-answers, Replies-nothing, Replies-report}
-use Rattle.script_run.proofs.ChangingLemmas.{MovesOn-counted}
+use Rattle.script_run.proofs.ObeysLemmas.{LoadsWithin-none, MovesOn-answered, Obeys-alone, TellsRefusal-none}
+use Rattle.script_run.proofs.ObeysLemmas.{cut_by_shapes, loads_nothing}
 use Rattle.script_run.proofs.reply.do_command.Goals as goal
 
-pub returns-in-Report-clause-replies : goal.returns-in-Report-clause-replies
-returns-in-Report-clause-replies g c = λ manner s same is.
+pub returns-in-Shapes-clause-stopped : goal.returns-in-Shapes-clause-stopped
+returns-in-Shapes-clause-stopped g c = λ manner s is.
+    IfErr-weaker c.take_shapes.result _ _ (λ stop ends input.
+    cut_by_shapes manner.limits s c.args.command _ c.in-Shapes.is (ends input))
+    (c.take_shapes.ensures.stopped manner s is)
+
+pub returns-in_ok-do_alone-in_default-clause-replies : goal.returns-in_ok-do_alone-in_default-clause-replies
+returns-in_ok-do_alone-in_default-clause-replies g c = λ manner s same is.
     let script = c.args.script.now in
-    let alike = c.same_graphs_answer_alike.ensures.report script.engine.plan s.graph script.engine.graph
-    is.stores c.view.ensures.asked in
-    rw (c.in-Report.is, c.said.ensures.reply, c.said.ensures.counted)
-    (Replies-report manner s script is (evaluating c.args.steps.now c.args.nested.now) alike)
+    let done = c.do_alone in
+    let library = library_of script.base (g.I.Inputs.state c.args.host.now) in
+    Obeys-alone manner library s (Ok c.args.command) c.in_ok-do_alone-in_default.field-0 done.new.script
+    (g.P.PatternHost.state c.args.patterns.now).refused (evaluating c.args.steps.now c.args.nested.now)
+    (evaluating done.new.steps done.new.nested) (loads_nothing c.args.command c.in_default.not-Shapes)
+    (done.ensures.running ∙ c.requires.running) (c.in_ok-do_alone-in_default.ensures.replies manner s same is)
 
-pub returns-in-Count-clause-replies : goal.returns-in-Count-clause-replies
-returns-in-Count-clause-replies g c = λ manner s same is.
-    let script = c.args.script.now in
-    rw (
-      c.in-Count.is,
-      c.said-in-Count.ensures.reply,
-      c.said-in-Count.ensures.counted,
-      ← c.count-answer.ensures manner s is,
-    ) (Replies-answers manner s script is (evaluating c.args.steps.now c.args.nested.now)
-    c.count-answer.result)
+pub returns-in_ok-do_alone-in_default-clause-moves : goal.returns-in_ok-do_alone-in_default-clause-moves
+returns-in_ok-do_alone-in_default-clause-moves g c =
+    MovesOn-answered c.in_ok-do_alone-in_default.field-0 c.args.script.now c.do_alone.new.script
+    (evaluating c.args.steps.now c.args.nested.now) (evaluating c.do_alone.new.steps c.do_alone.new.nested)
+    c.in_ok-do_alone-in_default.ensures.moves
 
-pub returns-in-Begin-clause-replies : goal.returns-in-Begin-clause-replies
-returns-in-Begin-clause-replies g c = λ manner s same is.
-    rw c.in-Begin.is (c.begin.ensures.replies manner s (evaluating c.args.steps.now c.args.nested.now) is)
+pub returns-in_ok-do_alone-in_default-clause-patterns : goal.returns-in_ok-do_alone-in_default-clause-patterns
+returns-in_ok-do_alone-in_default-clause-patterns g c =
+    TellsRefusal-none (g.P.PatternHost.state c.args.patterns.now).faults c.do_alone.new.script.halted
+    c.in_ok-do_alone-in_default.field-0 (c.do_alone.ensures.running ∙ c.requires.running)
 
-pub returns-in-Abandon-clause-replies : goal.returns-in-Abandon-clause-replies
-returns-in-Abandon-clause-replies g c = λ manner s same is.
-    rw c.in-Abandon.is (c.abandon.ensures.replies manner s (evaluating c.args.steps.now c.args.nested.now) is)
-
-pub returns-in-Slice-clause-replies : goal.returns-in-Slice-clause-replies
-returns-in-Slice-clause-replies g c = λ manner s same is.
-    rw c.in-Slice.is (c.slice.ensures.replies manner s (evaluating c.args.steps.now c.args.nested.now) is)
-
-pub returns-in-Nothing-clause-replies : goal.returns-in-Nothing-clause-replies
-returns-in-Nothing-clause-replies g c = λ manner s same is.
-    rw (c.in-Nothing.is, c.said-in-Nothing.ensures.reply, c.said-in-Nothing.ensures.counted)
-    (Replies-nothing manner s c.args.script.now is (evaluating c.args.steps.now c.args.nested.now))
-
-pub returns-in-Report-clause-moves : goal.returns-in-Report-clause-moves
-returns-in-Report-clause-moves g c =
-    rw c.said.ensures.counted (MovesOn-counted c.args.script.now c.requires.goes_on
-    c.said.result (evaluating c.args.steps.now c.args.nested.now))
-
-pub returns-in-Count-clause-moves : goal.returns-in-Count-clause-moves
-returns-in-Count-clause-moves g c =
-    rw c.said-in-Count.ensures.counted (MovesOn-counted c.args.script.now c.requires.goes_on
-    c.said-in-Count.result (evaluating c.args.steps.now c.args.nested.now))
-
-pub returns-in-Nothing-clause-moves : goal.returns-in-Nothing-clause-moves
-returns-in-Nothing-clause-moves g c =
-    rw c.said-in-Nothing.ensures.counted (MovesOn-counted c.args.script.now c.requires.goes_on
-    c.said-in-Nothing.result (evaluating c.args.steps.now c.args.nested.now))
-
-pub returns-in-Begin-clause-moves : goal.returns-in-Begin-clause-moves
-returns-in-Begin-clause-moves g c = c.begin.ensures.moves (evaluating c.args.steps.now c.args.nested.now)
-
-pub returns-in-Abandon-clause-moves : goal.returns-in-Abandon-clause-moves
-returns-in-Abandon-clause-moves g c = c.abandon.ensures.moves (evaluating c.args.steps.now c.args.nested.now)
-
-pub returns-in-Slice-clause-moves : goal.returns-in-Slice-clause-moves
-returns-in-Slice-clause-moves g c = c.slice.ensures.moves (evaluating c.args.steps.now c.args.nested.now)
+pub returns-in_ok-do_alone-in_default-clause-inputs : goal.returns-in_ok-do_alone-in_default-clause-inputs
+returns-in_ok-do_alone-in_default-clause-inputs g c =
+    LoadsWithin-none c.args.limits.now.text (g.I.Inputs.state c.args.host.now) _

@@ -13,8 +13,8 @@ returns-clause-opened g c = λ limits format s same is.
     let nested = c.same_graphs_answer_alike.ensures.nested (plan_of validation.plan) s.graph
     (plain_graph validation.graph) is.stores c.requires.stands in
     IsScriptRun-opened limits format s validation is _ engine.plan engine.graph engine.term_limit
-    engine.triple_limit refl refl refl (c.new.ensures ∙ ap no_past (sym same)) refl refl nested
-    engine.remembered
+    engine.triple_limit refl refl refl (c.new.ensures ∙ ap no_past (sym same)) refl refl refl
+    nested engine.remembered
 
 pub returns-clause-work : goal.returns-clause-work
 returns-clause-work g c = λ limits format s is.
@@ -32,6 +32,7 @@ returns-clause-goes_on g c =
     let engine = c.in_ok-engine.engine in
     let none = c.changes_can_be_taken_back.ensures.none engine.triple_limit engine.graph in
     record {
+      base = c.requires.absolute;
       group = tt;
       course = rw c.new.ensures none;
       staged = ap (λ (past : Past). past.staged) c.new.ensures;

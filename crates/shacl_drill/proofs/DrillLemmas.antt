@@ -16,6 +16,7 @@ use Rattle.command_words.specs.Words.{command_words}
 use Rattle.shacl_run.specs.declared.status.Status.{Status}
 use Rattle.shacl_run.specs.declared.status.Status.TheVariants.{Conforms, Violates, BadWords, Refused}
 use Rattle.shacl_run.specs.declared.status.Status.TheVariants.{InputFault, WriteFault, Memory, LinesRefused}
+use Rattle.script_run.specs.Load.{Load}
 use Rattle.script_run.specs.Manner.{Manner}
 use Rattle.shacl_run.specs.Outside.{Outside}
 use Rattle.shacl_run.specs.Readings.{Readings}
@@ -27,6 +28,7 @@ use Rattle.shacl_run.specs.Run.{with_verdict, words_manner, words_script}
 use Rattle.script_run.specs.ScriptState.{ScriptState}
 use Rattle.shacl_run.specs.RunClauses.{DataIsReadBy, IsRun, LinesAreReadBy, WritesDue, WritesWhole}
 use Rattle.shacl_run.specs.Status.{IsAnswered, IsReported, status_number}
+use Rattle.shacl_run.proofs.CompleteLemmas.{all_told as all_told_of, writes_alone}
 use Rattle.shacl_run.proofs.EndLemmas.{cut_or_answered}
 use Rattle.shacl_run.proofs.RunLemmas.{ByVerdict-then}
 use Rattle.shacl_drill.specs.Clauses.{EndsSilent, Surroundings, Tells, TellsDue, TellsOf}
@@ -40,23 +42,24 @@ use Rattle.shacl_drill.proofs.SizeLemmas.{one_size}
 
 -- ---- where all texts are told, there is an output
 
-module _ (limits : Limits) (readings : Readings) (verdict : Verdict) (told : List ℕ → List ℕ) where
+module _ (limits : Limits) (readings : Readings) (verdict : Verdict) (loads : List Load)
+    (told : List ℕ → List ℕ) where
   abbrev all_told : List ℕ → Option (List ℕ)
   all_told name = Some (told name)
 
   script_told : (manner : Manner) (notices : ℕ) (s : ScriptState) (name : Option (List ℕ))
-      → IsSome (opening_output manner (script_text all_told name) (opens notices s))
+      → IsSome (opening_output manner loads (script_text all_told name) (opens notices s))
   script_told manner notices s None = refl
   script_told manner notices s (Some name) = refl
 
   output_of : (manner : Manner) (asked : Option Asked) (opening : Opening)
-      → IsSome (opening_output manner (words_script all_told asked) opening)
+      → IsSome (opening_output manner loads (words_script all_told asked) opening)
   output_of manner asked (ends output) = refl
   output_of manner None (opens notices s) = refl
   output_of manner (Some words) (opens notices s) = script_told manner notices s words.files.script_file
 
   abbrev output_by : Manner → Option Asked → Option Opening → Option Output
-  output_by manner asked = option_and_then (opening_output manner (words_script all_told asked))
+  output_by manner asked = option_and_then (opening_output manner loads (words_script all_told asked))
 
   verdict_told : (manner : Manner) (asked : Option Asked) (format : Format) (g : Graph) (given : Verdict)
       (bytes : List ℕ)
@@ -79,7 +82,7 @@ module _ (limits : Limits) (readings : Readings) (verdict : Verdict) (told : Lis
   files_told manner (Some words) =
       shapes_told manner (Some words) words.format readings.shapes (told words.files.data_file)
 
-  output_is_told : (words : List (List ℕ)) → IsSome (run_output limits readings verdict words all_told)
+  output_is_told : (words : List (List ℕ)) → IsSome (run_output limits readings verdict loads words all_told)
   output_is_told words = files_told (words_manner limits readings words) (command_words words)
 
 -- ---- how a drill ends behind a run that answered
@@ -175,14 +178,29 @@ module _ (n : ℕ) (ended status : Status) (held held' : MemoryHeld) (sink sink'
         → TellsDue n readings before after status verdict
     tells_due readings verdict writes right lines =
         let due = writes right lines in
-        some_told _ due.output (λ output. TellsOf n output before after status)
-        (output_is_told program_limits readings verdict (bytes_named (named_texts n)) run_words) due.due
-        (tells_of empty is inputs last due.output (due.exact is.answered))
+        let from = run_before inputs in
+        let to = run_after last in
+        let alone = writes_alone program_limits run_words from to ended due in record {
+          loads = due.told;
+          right = all_told_of program_limits run_words from to ended is.answered due;
+          told = some_told _ alone.output (λ output. TellsOf n output before after status)
+              (output_is_told program_limits readings verdict due.told (bytes_named (named_texts n))
+              run_words)
+              alone.due (tells_of empty is inputs last alone.output (alone.exact is.answered));
+        }
 
     tells_run : IsRun program_limits run_words (run_before inputs) (run_after last) ended
         → TellsRun n before after status
     tells_run runs = record {
-      read = runs.read is.answered;
+      read =
+          let read = runs.read is.answered in record {
+            readings = read.readings;
+            shapes = read.shapes;
+            verdict = read.verdict;
+            judged = read.judged;
+            data_text = read.data_text;
+            lines = read.lines;
+          };
       due = λ readings shapes. elim (runs.writes readings shapes) [
         | inl by ↦ ByVerdict-then program_limits readings.shapes _ patterns patterns' _ _
             (tells_due readings) by

@@ -1,5 +1,5 @@
 -- What a drill promises, in terms of the output that is due of its run.
-use Rattle.std.specs.Prelude.{◌≡◌, ◌≢◌, ℕ, ◌+◌, List, ◌⊎◌, IsSomeAnd}
+use Rattle.std.specs.Prelude.{◌≡◌, ◌≢◌, ℕ, ◌+◌, false, List, None, ◌⊎◌, IsSomeAnd}
 use Rattle.shx_outside.specs.Outside.{PatternState, SinkState}
 use Rattle.shx_term.specs.Limits.{program_limits}
 use Rattle.text_output.specs.Writes.{FellShort, Put}
@@ -7,6 +7,9 @@ use Rattle.command_words.specs.Words.{command_words}
 use Rattle.shacl_run.specs.declared.status.Status.{Status}
 use Rattle.shacl_run.specs.declared.status.Status.TheVariants.{Conforms, BadWords, Refused, WriteFault}
 use Rattle.shacl_run.specs.declared.status.Status.TheVariants.{Memory}
+use Rattle.script_run.specs.Load.{Load}
+use Rattle.shacl_run.specs.Loads.{AreLoaded}
+use Rattle.shacl_run.specs.Outside.{Outside}
 use Rattle.shacl_run.specs.Readings.{Readings}
 use Rattle.shacl_run.specs.Run.{Output, run_output}
 use Rattle.shacl_run.specs.RunClauses.{ByVerdict, DataIsReadBy, IsRead, LinesAreReadBy, ShapesAreReadBy}
@@ -56,19 +59,43 @@ pub record TellsOf (n : ℕ) (output : Output) (before after : Surroundings) (st
 
 -- ---- the run
 
--- the output that is due of a run over the texts of n nodes, by this reading of them and this verdict on
--- their shapes, is told of
+-- the output that is due of a run over the texts of n nodes, by this reading of them, this verdict on their
+-- shapes, and what comes of the texts that the script loads, is told of
+pub record TellsBy (n : ℕ) (readings : Readings) (before after : Surroundings) (status : Status)
+    (verdict : Verdict) : Type 0 where
+  pub loads : List Load
+  pub right : AreLoaded ⊥ program_limits readings verdict after.patterns.refused run_words (texts n) loads
+  pub told : IsSomeAnd (run_output program_limits readings verdict loads run_words (texts n)) (λ output.
+      TellsOf n output before after status)
+
+-- where the data text and the lines are read so
 abbrev pub TellsDue : ℕ → Readings → Surroundings → Surroundings → Status → Verdict → Type 0
 TellsDue n readings before after status verdict =
     DataIsReadBy program_limits readings verdict (command_words run_words) (texts n)
     → LinesAreReadBy program_limits readings verdict (command_words run_words) (texts n)
-    → IsSomeAnd (run_output program_limits readings verdict run_words (texts n)) (λ output.
-    TellsOf n output before after status)
+    → TellsBy n readings before after status verdict
+
+-- the outside of a run over the texts of n nodes, before any is opened
+abbrev pub over_texts : ℕ → Surroundings → Outside
+over_texts n at = record {
+  inputs = record {
+    text = texts n;
+    opened = λ role. false;
+    opens = λ role. 0;
+    whole = λ role. None;
+    rest = λ role. None;
+    faults = 0;
+  };
+  sink = at.sink;
+  patterns = at.patterns;
+  nested = at.nested;
+  steps = at.steps;
+}
 
 -- the texts have a reading; and whatever they are read as, the shapes come to one verdict, and what is due by
 -- it is told of
 pub record TellsRun (n : ℕ) (before after : Surroundings) (status : Status) : Type 0 where
-  pub read : IsRead program_limits run_words (texts n)
+  pub read : IsRead program_limits run_words (over_texts n before) (over_texts n after)
   pub due : (readings : Readings)
       → ShapesAreReadBy program_limits readings (command_words run_words) (texts n)
       → ByVerdict program_limits readings.shapes (words_shapes (texts n) (command_words run_words))

@@ -9,6 +9,7 @@
 //! | `tests/runs.rt` | a run of a case, and the first of a table that ends in another way |
 //! | `tests/limits.rt` | texts and shapes at each limit and one past it |
 //! | `tests/scripts.rt` | lines, scripts and edits at each limit and one past it |
+//! | `tests/shapes.rt` | lines that load other shapes, where the outside fails or a limit is met |
 //! | `tests/groups.rt` | groups and changes that are taken back, at their limits and at those of the graph |
 //! | `tests/failures.rt` | each call of the inputs and each put fails in turn |
 //! | `tests/honest.rt` | a run over inputs that never fail, and a sink with room for what is due |

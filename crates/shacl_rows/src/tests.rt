@@ -7,3 +7,4 @@ mod order;
 mod outside;
 mod runs;
 mod scripts;
+mod shapes;

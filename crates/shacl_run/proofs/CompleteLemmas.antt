@@ -1,6 +1,7 @@
 -- A run where nothing outside fails.
 use Rattle.std.proofs.Common.{◌≡◌, ◌≢◌, ℕ, ◌≤◌, Bool, true, false, List, [], ◌∷◌, Option, None, Some, length}
-use Rattle.std.proofs.Common.{refl, sym, ap, subst, inl, inr, length-append, ◌∙◌, arith}
+use Rattle.std.proofs.Common.{refl, sym, ap, subst, inl, inr, append-nil, length-append, ◌∙◌, arith}
+use Rattle.std.proofs.Common.{if◌then◌else◌}
 use Rattle.std.specs.Prelude.{IfSome, ◌⊎◌}
 use Rattle.std.proofs.lemmas.Option.{same_Some}
 use Rattle.shx_outside.specs.Counted.{Rose}
@@ -16,6 +17,8 @@ use Rattle.shacl_run.specs.declared.status.Status.TheVariants.{Conforms, Violate
 use Rattle.shacl_run.specs.declared.status.Status.TheVariants.{InputFault, WriteFault, Memory, LinesRefused}
 use Rattle.shacl_run.specs.Complete.{HasNoPattern, HasRoom, HasRoomByAny, IsCalm, IsComplete, IsDue}
 use Rattle.shacl_run.specs.Complete.{IsUndisturbed, NothingFailed, WritesDefined}
+use Rattle.script_run.specs.Replies.{is_any_refused}
+use Rattle.shacl_run.specs.Loads.{AreLoaded, is_refused_by}
 use Rattle.shacl_run.specs.Outside.{Outside}
 use Rattle.shape_text.specs.ShapesReadings.{AreJudged, ComeTo}
 use Rattle.shacl_run.specs.Readings.{Readings}
@@ -23,8 +26,10 @@ use Rattle.shape_text.specs.TextReadings.{TextReading, States, Faulty, Long, sta
 use Rattle.shacl_run.specs.Run.{Output, run_output}
 use Rattle.shacl_run.specs.RunClauses.{ByVerdict, DataIsReadBy, HasCauses, IsRun, LinesAreReadBy}
 use Rattle.shape_text.specs.Verdict.{RoseWhere, Verdict, IsVerdict, plans, stops, refuses_pattern}
-use Rattle.shacl_run.specs.RunClauses.{ShapesAreReadBy, WritesDue, WritesFront}
+use Rattle.shacl_run.specs.RunClauses.{ShapesAreReadBy, WritesBy, WritesDue, WritesFront}
 use Rattle.shacl_run.specs.RunClauses.{WritesWhole, words_shapes}
+use Rattle.shacl_run.proofs.MissingLemmas.{loaded_weaker}
+use Rattle.shacl_run.proofs.NoPatternLemmas.{no_load_refused}
 use Rattle.shacl_run.specs.Status.{IsAnswered, IsCutShort}
 use Rattle.shape_text.specs.Verdict.Obstacle.{breaks, recurs, reaches_far, misspells, is_refused}
 
@@ -59,9 +64,17 @@ cut_is_not_answered Memory answered cut = answered
 cut_is_not_answered LinesRefused answered cut = cut
 
 -- where the host's count did not rise, no pattern was refused
-not_refused : (b : Bool) (before now : ℕ) → IsCalm before now → RoseWhere b before now → b ≡ false
-not_refused true before now calm rose = absurd (calm_is_not_risen before now calm rose)
-not_refused false before now calm same = refl
+not_refused : (b : Bool) (before now : ℕ) → IsCalm before now → (b ≡ true → Rose before now) → b ≡ false
+not_refused true before now calm rose = absurd (calm_is_not_risen before now calm (rose refl))
+not_refused false before now calm rose = refl
+
+rose_where : (b : Bool) (before now : ℕ) → RoseWhere b before now → b ≡ true → Rose before now
+rose_where true before now rose is = rose
+rose_where false before now same is = absurd (cc)
+
+none_of_both : (first later : Bool) → first ≡ false → (if first then true else later) ≡ false → later ≡ false
+none_of_both true later built is = absurd (cc)
+none_of_both false later built is = is
 
 module _ (limits : Limits) (words : List (List ℕ)) (before after : Outside) (status : Status) where
   defined_written : (due : Option Output) (output : Output) → IfSome due (λ defined. output ≡ defined)
@@ -71,6 +84,22 @@ module _ (limits : Limits) (words : List (List ℕ)) (before after : Outside) (s
   defined_written (Some defined) output is whole =
       subst (λ o. WritesWhole o before after status) is whole
 
+  -- what is written does not depend on what comes of texts that are not loaded
+  pub writes_alone : {readings : Readings} {verdict : Verdict}
+      → (due : WritesDue limits readings verdict words before after status)
+      → WritesBy limits readings verdict due.told words before after status
+  writes_alone {readings = readings} {verdict = verdict} due =
+      subst (λ loads. WritesBy limits readings verdict loads words before after status)
+      (append-nil due.told) (due.writes [])
+
+  -- of a run that answered all is told
+  pub all_told : {readings : Readings} {verdict : Verdict} → IsAnswered status
+      → (due : WritesDue limits readings verdict words before after status)
+      → AreLoaded ⊥ limits readings verdict after.patterns.refused words before.inputs.text due.told
+  all_told {readings = readings} {verdict = verdict} answered due =
+      loaded_weaker (cut_is_not_answered status answered) limits readings verdict after.patterns.refused words
+      before.inputs.text due.told due.right
+
   due_by : (readings : Readings) → NothingFailed before after → IsAnswered status
       → ByVerdict limits readings.shapes (words_shapes before.inputs.text (command_words words))
       before.patterns after.patterns (λ verdict.
@@ -78,16 +107,27 @@ module _ (limits : Limits) (words : List (List ℕ)) (before after : Outside) (s
       → LinesAreReadBy limits readings verdict (command_words words) before.inputs.text
       → WritesDue limits readings verdict words before after status)
       → IsDue limits readings words before after status
-  due_by readings nothing answered by = record {
-    verdict = by.verdict;
-    judged = by.judged;
-    built = not_refused (refuses_pattern by.verdict) before.patterns.faults after.patterns.faults
-        nothing.patterns by.patterns;
-    written = λ data_text lines.
-        let due = by.says data_text lines in
-        defined_written (run_output limits readings by.verdict words before.inputs.text) due.output due.due
-        (due.exact answered);
-  }
+  due_by readings nothing answered by =
+      let patterns = nothing.patterns in
+      let built = not_refused (refuses_pattern by.verdict) before.patterns.faults after.patterns.faults
+      patterns by.patterns in record {
+        verdict = by.verdict;
+        judged = by.judged;
+        built = built;
+        written = λ data_text lines.
+            let due = by.says data_text lines in
+            let writes = writes_alone due in
+            let refused = is_refused_by by.verdict due.told in record {
+              loads = due.told;
+              right = all_told answered due;
+              all_built = none_of_both (refuses_pattern by.verdict) (is_any_refused due.told) built
+                  (not_refused refused before.patterns.faults after.patterns.faults patterns
+                  (rose_where refused before.patterns.faults after.patterns.faults due.patterns));
+              whole = defined_written
+                  (run_output limits readings by.verdict due.told words before.inputs.text) writes.output
+                  writes.due (writes.exact answered);
+            };
+      }
 
   pub complete : IsRun limits words before after status → NothingFailed before after
       → IsComplete limits words before after status
@@ -169,9 +209,12 @@ module _ (limits : Limits) (readings : Readings) (words : List (List ℕ)) (befo
       → WritesDue limits readings verdict words before after WriteFault
       → HasCauses words before after WriteFault → ⊥
   written_by verdict has due causes =
-      let is = subst (λ told. IfSome told (λ defined. due.output ≡ defined)) has.due due.due in
-      let front = subst (λ output. WritesFront output before.sink after.sink WriteFault) is (due.prefix tt) in
-      fits_whole has.output has.room has.is has.fits front (causes.used_up refl)
+      let writes = writes_alone limits words before after WriteFault due in
+      let fits = has.room due.told after.patterns.refused due.right in
+      let is = subst (λ told. IfSome told (λ defined. writes.output ≡ defined)) fits.is writes.due in
+      let front = subst (λ output. WritesFront output before.sink after.sink WriteFault) is
+      (writes.prefix tt) in
+      fits_whole fits.output fits.room fits.has fits.fits front (causes.used_up refl)
 
   no_fault : ShapesAreReadBy limits readings (command_words words) before.inputs.text
       → HasRoomByAny limits readings words before → IsRun limits words before after WriteFault → ⊥
@@ -199,16 +242,25 @@ module _ (limits : Limits) (readings : Readings) (words : List (List ℕ)) (befo
       → HasRoom limits readings words before verdict
       → WritesDue limits readings verdict words before after status
       → WritesDefined limits readings words before after status
-  defined_by answered verdict judged room due = record {
-    verdict = verdict;
-    judged = judged;
-    built = no_pattern_refused limits words before readings calm.no_pattern verdict judged;
-    output = room.output;
-    defined = room.due;
-    written =
-        let is = subst (λ told. IfSome told (λ defined. due.output ≡ defined)) room.due due.due in
-        subst (λ output. WritesWhole output before after status) is (due.exact answered);
-  }
+  defined_by answered verdict judged room due =
+      let writes = writes_alone limits words before after status due in
+      let right = all_told limits words before after status answered due in
+      let last = after.patterns.refused in
+      let fits = room.room due.told last (loaded_weaker (λ none. tt) limits readings verdict last words
+      before.inputs.text due.told right) in record {
+        verdict = verdict;
+        judged = judged;
+        built = no_pattern_refused limits words before readings calm.no_pattern verdict judged;
+        loads = due.told;
+        right = right;
+        all_built = no_load_refused limits words before readings calm.no_pattern verdict last due.told
+            room.lines fits.output fits.is right;
+        output = fits.output;
+        defined = fits.is;
+        written =
+            let is = subst (λ told. IfSome told (λ defined. writes.output ≡ defined)) fits.is writes.due in
+            subst (λ output. WritesWhole output before after status) is (writes.exact answered);
+      }
 
   pub undisturbed : (status ≡ Memory) ⊎ WritesDefined limits readings words before after status
   undisturbed =

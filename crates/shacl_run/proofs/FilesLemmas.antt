@@ -1,9 +1,11 @@
 -- A run over files, by what was prepared.
-use Rattle.std.proofs.Common.{◌≡◌, ◌≢◌, ℕ, List, Option, None, Some, Result, Err, Ok, inl, inr, refl}
-use Rattle.std.proofs.Common.{ap, subst}
+use Rattle.std.proofs.Common.{◌≡◌, ◌≢◌, ℕ, ◌≤◌, true, false, List, [], ◌++◌, Option, None, Some}
+use Rattle.std.proofs.Common.{Result, Err, Ok, inl, inr, refl, ap, sym, ◌∙◌, subst, true≢false}
 use Rattle.std.specs.Prelude.{All, IfSome, ◌⊎◌}
 use Rattle.std.specs.Option.{option_and_then, option_map}
+use Rattle.shx_outside.specs.Counted.{Rose}
 use Rattle.shx_outside.specs.declared.role.Role.TheVariants.{Data, Script}
+use Rattle.shx_outside.specs.Outside.{PatternState}
 use Rattle.shx_term.specs.declared.limits.Limits.{Limits}
 use Rattle.shx_term.specs.declared.term.Term.{Term}
 use Rattle.shx_term.specs.Pool.{Pooled}
@@ -23,10 +25,12 @@ use Rattle.shacl_run.specs.declared.status.Status.TheVariants.{InputFault}
 use Rattle.shape_text.specs.declared.unopened.Unopened.{Unopened}
 use Rattle.shape_text.specs.declared.unopened.Unopened.TheVariants.{Told}
 use Rattle.script_run.specs.declared.validation.Validation.{Validation}
-use Rattle.shacl_run.specs.inner.Ends.{Ends, EndsByPattern}
-use Rattle.shacl_run.specs.inner.Files.{FilesAreRead, FilesOpenOnly, RunsFiles, RunsWords, files_output}
+use Rattle.shacl_run.specs.inner.Ends.{Ends, EndsBy, EndsByPattern}
+use Rattle.shacl_run.specs.inner.Files.{FilesAreRead, FilesOpenOnly, RunsFiles, RunsWords, Serves}
+use Rattle.shacl_run.specs.inner.Files.{files_output}
 use Rattle.shacl_run.specs.inner.Prepared.{AreRead, IsPrepared}
-use Rattle.shacl_run.specs.inner.Serving.{HaveReadings, LinesAreReadAt}
+use Rattle.shacl_run.specs.inner.Serving.{HaveReadings, LinesAreReadAt, RunsScript}
+use Rattle.script_run.specs.Loaded.{Library}
 use Rattle.script_run.specs.Stored.{IsValidation}
 use Rattle.script_run.specs.Manner.{LineReadings, Manner}
 use Rattle.shape_text.specs.Names.{HasNamesOf}
@@ -34,17 +38,22 @@ use Rattle.shacl_run.specs.Readings.{Readings, LinesAreRead}
 use Rattle.shape_text.specs.TextReadings.{TextReading, States, Faulty, Long, stated_graph}
 use Rattle.shape_text.specs.ShapesReadings.{ShapesAreRead}
 use Rattle.script_run.specs.LineReadings.{IsReadBehind}
+use Rattle.shacl_run.specs.Loads.{AreOpeningLoaded, is_refused_by, words_library}
 use Rattle.shacl_run.specs.Outside.{Outside}
-use Rattle.shacl_run.specs.Run.{IsOpening, Opening, manner_of, opening_fed, opening_output, refused}
-use Rattle.shacl_run.specs.Run.{script_text}
+use Rattle.shacl_run.specs.Run.{IsOpening, Opening, behind, files_opening, manner_of, opening_fed}
+use Rattle.shacl_run.specs.Run.{opening_output, refused, script_text, words_format, words_script}
 use Rattle.shacl_run.specs.Run.{texts_opening, validation_output, with_data, with_shapes, with_verdict}
 use Rattle.shacl_run.specs.Run.Opening.{ends, opens}
-use Rattle.shacl_run.specs.RunClauses.{IsOpenedBy, OpensOnly, StopsFed}
-use Rattle.script_run.specs.ScriptState.{ScriptState, start_state}
-use Rattle.shape_text.specs.Verdict.{Verdict, plans, stops}
+use Rattle.shacl_run.specs.RunClauses.{ByVerdict, DataIsReadBy, IsOpenedBy, LinesAreReadBy, OpensOnly}
+use Rattle.shacl_run.specs.RunClauses.{StopsFed, words_shapes}
+use Rattle.shacl_run.specs.Status.{IsCutShort}
+use Rattle.script_run.specs.ScriptState.{ScriptState, start_state, with_loads}
+use Rattle.script_run.specs.Work.{no_work}
+use Rattle.shape_text.specs.Verdict.{RoseWhere, Verdict, plans, refuses_pattern, stops}
 use Rattle.shacl_run.proofs.EndLemmas.{Ends-told}
 use Rattle.shacl_run.proofs.RunLemmas.{ByVerdict-then}
-use Rattle.shacl_run.proofs.ValidationRunLemmas.{ended_told, opened_told, opening_told}
+use Rattle.shacl_run.proofs.RefusalLemmas.{Rose_or_not, by_loads, by_shapes, counted, unrefused_told}
+use Rattle.shacl_run.proofs.ValidationRunLemmas.{ended_loaded, ended_told, opened_told, opening_told}
 
 -- ---- what a state that is reported was opened from
 
@@ -148,21 +157,37 @@ found_lines limits readings verdict (Faulty code at) same (Some bytes) have verd
 found_lines limits readings verdict Long same (Some bytes) have verdict' decided =
     (λ line. Err Memory, λ document' end' plan' is states. absurd (cc))
 
-module _ (limits : Limits) (asked : Asked) (texts : List ℕ → Option (List ℕ)) where
+module _ (limits : Limits) (asked : Asked) (before after : Outside) where
+  abbrev texts : List ℕ → Option (List ℕ)
+  texts = before.inputs.text
+
   abbrev told_script : Option (List ℕ)
   told_script = script_text texts asked.files.script_file
 
+  abbrev HasRisen : Type 0
+  HasRisen = Rose before.patterns.faults after.patterns.faults
+
+  -- the lines are read where no pattern was refused, and some readings are theirs in any case
   all_read : (prepared : _) (read : AreRead limits asked.base (texts asked.files.shapes_file)
       (texts asked.files.data_file) prepared)
-      → ((document : Graph) (end : State) (plan : Planned) → read.verdict ≡ plans plan
+      → ((HasRisen → ⊥) → (document : Graph) (end : State) (plan : Planned) → read.verdict ≡ plans plan
       → read.readings.data_text ≡ States document end
       → HaveReadings limits end limits.script told_script)
-      → FilesAreRead limits asked texts
-  all_read prepared read have =
-      let (lines, are_read) =
-      found_lines limits read.readings read.verdict read.readings.data_text refl told_script have read.verdict
-      refl in
-      record {
+      → FilesAreRead limits asked before after
+  all_read prepared read have = elim (Rose_or_not before.patterns.faults after.patterns.faults) [
+    | inl risen ↦ with_lines read.readings.lines (λ calm. absurd (calm risen))
+    | inr calm ↦
+        let (lines, are_read) =
+        found_lines limits read.readings read.verdict read.readings.data_text refl told_script (have calm)
+        read.verdict refl in
+        with_lines lines (λ _. are_read)
+  ]
+    where
+      with_lines : (lines : LineReadings)
+          → ((HasRisen → ⊥)
+          → LinesAreRead limits (record read.readings { lines = lines }) read.verdict told_script)
+          → FilesAreRead limits asked before after
+      with_lines lines are_read = record {
         readings = record read.readings { lines = lines };
         shapes = read.shapes_read;
         verdict = read.verdict;
@@ -174,19 +199,19 @@ module _ (limits : Limits) (asked : Asked) (texts : List ℕ → Option (List �
   -- where no validation was opened, no line is read
   pub refused_read : (answer : Answer) (pool : Pooled) → AreRead limits asked.base
       (texts asked.files.shapes_file) (texts asked.files.data_file) (Err (Told answer pool))
-      → FilesAreRead limits asked texts
+      → FilesAreRead limits asked before after
   refused_read answer pool read =
       all_read (Err (Told answer pool)) read
-      (λ document end plan planned states. absurd (read.names_read document end plan planned states))
+      (λ calm document end plan planned states. absurd (read.names_read document end plan planned states))
 
   -- where one was, the lines behind its names have readings
   pub opened_read : (validation : Validation) → AreRead limits asked.base
       (texts asked.files.shapes_file) (texts asked.files.data_file) (Ok validation)
-      → ((end : State) → HasNamesOf end validation.document
-      → HaveReadings limits end limits.script told_script) → FilesAreRead limits asked texts
+      → ((HasRisen → ⊥) → (end : State) → HasNamesOf end validation.document
+      → HaveReadings limits end limits.script told_script) → FilesAreRead limits asked before after
   opened_read validation read have =
       all_read (Ok validation) read
-      (λ document end plan planned states. have end (read.names_read document end states))
+      (λ calm document end plan planned states. have calm end (read.names_read document end states))
 
 -- ---- a run whose texts were refused
 
@@ -200,9 +225,10 @@ pub by_pattern : (format : Format) (terms : List Term) (answer : Answer) (status
 by_pattern format terms answer status before after (inl same) run_ends = inl same
 by_pattern format terms answer status before after (inr (shape, is)) run_ends =
     inr (
+      [],
       terms,
       shape,
-      subst (λ (a : Answer). Ends (Some (refused format terms a)) status before after) is
+      subst (λ (a : Answer). Ends (Some (behind [] no_work (refused format terms a))) status before after) is
           run_ends,
     )
 
@@ -222,96 +248,172 @@ module _ (limits : Limits) (readings : Readings) (asked : Asked) (before after :
   abbrev manner : Manner
   manner = manner_of limits readings asked.format
 
-  -- what was prepared
-  abbrev IsPreparedAs : Result Validation Unopened → Type 0
-  IsPreparedAs = IsPrepared limits asked.format asked.base shapes_text data_text before.patterns
-      after.patterns DataIsOpened
+  abbrev library : Library
+  library = words_library (Some asked) before.inputs.text
 
-  pub files_refused : (answer : Answer) (pool : Pooled) → IsPreparedAs (Err (Told answer pool))
+  -- what was prepared, when the pattern host had come so far
+  abbrev IsPreparedAs : PatternState → Result Validation Unopened → Type 0
+  IsPreparedAs patterns = IsPrepared limits asked.format asked.base shapes_text data_text before.patterns
+      patterns DataIsOpened
+
+  pub files_refused : (answer : Answer) (pool : Pooled) → IsPreparedAs after.patterns (Err (Told answer pool))
       → Ends (Some (refused asked.format pool.terms answer)) status before after
       → status ≢ InputFault → (IsOpenedBy before.inputs after.inputs Script → ⊥)
       → RunsFiles limits readings asked before after status
   files_refused answer pool is run_ends other no_script =
-      inl (ByVerdict-then limits readings.shapes shapes_text before.patterns after.patterns _ _
-      (λ verdict says data_right lines. record {
-        run_ends = Ends-told (files_output limits readings verdict asked before.inputs.text)
-            (Some (refused asked.format pool.terms answer)) status before after
-            (ended_told manner script (texts_opening asked.format readings verdict shapes_text data_text)
-            (refused asked.format pool.terms answer) (says.due data_right)) run_ends;
-        script_stops = λ failed opened. absurd (other failed);
-        opened = record {
-          data_text = λ opened. says.planned (data_opened opened);
-          script = λ opened. absurd (no_script opened);
+      let by = is.due (λ cut. cut) readings right in
+      let verdict = by.verdict in
+      let output = refused asked.format pool.terms answer in
+      let opening = texts_opening asked.format readings verdict shapes_text data_text in
+      inl (record {
+        verdict = verdict;
+        judged = by.judged;
+        patterns = λ refuses. subst
+            (λ b. RoseWhere b before.patterns.faults after.patterns.faults) refuses by.patterns;
+        refused = by.refused;
+        says = λ data_right lines. record {
+          by = record {
+            told = [];
+            right = ended_loaded (IsCutShort status) manner library after.patterns.refused script opening
+                output (by.says.due data_right);
+            run_ends = λ rest.
+                Ends-told (files_output limits readings verdict asked before.inputs.text rest) (Some output)
+                status before after (ended_told manner rest script opening output (by.says.due data_right))
+                run_ends;
+            patterns = by_shapes (refuses_pattern verdict) before.patterns.faults after.patterns.faults
+                by.patterns;
+            stops = λ failed. absurd (other failed);
+          };
+          opened = record {
+            data_text = λ opened. by.says.planned (data_opened opened);
+            script = λ opened. absurd (no_script opened);
+          };
         };
       })
-      (is.due (λ cut. cut) readings right))
 
   -- ---- a run of a validation
 
-  pub files_opened : (validation : Validation) → IsPreparedAs (Ok validation) → Ends None status before after
+  -- it ends as is due for what the texts came to, by a verdict
+  abbrev EndsFor : Verdict → Option Opening → Type 0
+  EndsFor verdict opening =
+      EndsBy (λ loads. option_and_then (opening_output manner loads script) opening)
+      (λ loads. IfSome opening
+      (AreOpeningLoaded (IsCutShort status) manner library after.patterns.refused script loads))
+      (λ loads. IsOpenedBy before.inputs after.inputs Script → IfSome opening (λ o.
+      StopsFed (opening_fed manner loads o) script (after.inputs.rest Script) before.sink after.sink))
+      (is_refused_by verdict) status before after
+
+  module _ (verdict : Verdict) (built : refuses_pattern verdict ≡ false) where
+    -- where nothing is told of them
+    untold_ends : before.patterns.faults ≤ after.patterns.faults → Ends None status before after
+        → EndsFor verdict None
+    untold_ends risen run_ends =
+        let counts = counted before.patterns.faults after.patterns.faults risen in
+        record {
+          told = counts.loads;
+          right = tt;
+          run_ends = λ rest. run_ends;
+          patterns = by_loads verdict counts.loads built before.patterns.faults after.patterns.faults
+              counts.rose;
+          stops = λ failed opened. tt;
+        }
+
+    told_ends : (opening : Option Opening) (notices : ℕ) (s : ScriptState)
+        → IfSome opening (λ o. o ≡ opens notices s)
+        → RunsScript manner library notices s script status before after → EndsFor verdict opening
+    told_ends opening notices s is runs = record {
+      told = runs.told;
+      right = opening_told opening notices s
+          (AreOpeningLoaded (IsCutShort status) manner library after.patterns.refused script runs.told) is
+          runs.right;
+      run_ends = λ rest.
+          let loads = runs.told ++ rest in
+          Ends-told (option_and_then (opening_output manner loads script) opening)
+          (option_map (validation_output manner notices (with_loads loads s)) script) status before after
+          (opened_told manner loads script opening notices s is) (runs.run_ends rest);
+      patterns = by_loads verdict runs.told built before.patterns.faults after.patterns.faults runs.patterns;
+      stops = λ failed opens_script. opening_told opening notices s
+          (λ o. StopsFed (opening_fed manner runs.told o) script (after.inputs.rest Script) before.sink
+          after.sink) is (runs.stops failed opens_script);
+    }
+
+  pub files_opened : (patterns : PatternState) (validation : Validation)
+      → IsPreparedAs patterns (Ok validation) → before.patterns.faults ≤ after.patterns.faults
+      → Ends None status before after
       → ((s : ScriptState) → IsValidation limits asked.format s validation
       → LinesAreReadAt manner s limits.script script
-      → Ends (option_map (validation_output manner validation.passed_over s) script) status before after)
-      → ((s : ScriptState) → IsValidation limits asked.format s validation
-      → LinesAreReadAt manner s limits.script script → status ≡ InputFault
-      → IsOpenedBy before.inputs after.inputs Script
-      → StopsFed (opening_fed manner (opens validation.passed_over s)) script (after.inputs.rest Script)
-      before.sink after.sink)
+      → RunsScript manner library validation.passed_over s script status before after)
       → RunsFiles limits readings asked before after status
-  files_opened validation is causes run_ends fed =
-      inl (ByVerdict-then limits readings.shapes shapes_text before.patterns after.patterns _ _
-      (λ verdict says data_right lines.
-      let opened = says.due data_right in
-      let s = opened.state in
-      let due = option_map (validation_output manner validation.passed_over s) script in
+  files_opened patterns validation is risen causes runs =
+      let by = is.due (λ cut. cut) readings right in
+      let verdict = by.verdict in
+      let built = by.says.built in
+      let notices = validation.passed_over in
       let opening = texts_opening asked.format readings verdict shapes_text data_text in
-      let read = λ (told : Opening) (some : opening ≡ Some told).
-      lines_at limits readings asked.format verdict s
-      (opens_texts asked.format readings validation.passed_over s verdict shapes_text data_text opened.due
-      told some) script lines in
-      record {
-        run_ends = by_opening opening validation.passed_over s
-            (λ o. Ends (option_and_then (opening_output manner script) o) status before after) opened.due
-            causes
-            (λ told some. Ends-told (files_output limits readings verdict asked before.inputs.text) due status
-            before after (opened_told manner script opening validation.passed_over s opened.due)
-            (run_ends s opened.stored (read told some)));
-        script_stops = λ failed opens_script.
-            by_opening opening validation.passed_over s
-            (λ o. IfSome o (λ opening. StopsFed (opening_fed manner opening) script
-            (after.inputs.rest Script) before.sink after.sink)) opened.due tt
-            (λ told some. opening_told opening validation.passed_over s
-            (λ opening. StopsFed (opening_fed manner opening) script (after.inputs.rest Script) before.sink
-            after.sink) opened.due (fed s opened.stored (read told some) failed opens_script));
-        opened = record {
-          data_text = λ by. says.planned (data_opened by);
-          script = λ _. opening_told opening validation.passed_over s IsOpening opened.due tt;
-        };
+      inl (record {
+        verdict = verdict;
+        judged = by.judged;
+        patterns = λ refuses. absurd (true≢false (sym refuses ∙ built));
+        refused = unrefused_told limits readings.shapes verdict after.patterns.refused built shapes_text;
+        says = λ data_right lines.
+            let opened = by.says.due data_right in
+            let s = opened.state in
+            let read = λ (told : Opening) (some : opening ≡ Some told).
+            lines_at limits readings asked.format verdict s
+            (opens_texts asked.format readings notices s verdict shapes_text data_text opened.due told some)
+            script lines in
+            record {
+              by = by_opening opening notices s (EndsFor verdict) opened.due
+                  (untold_ends verdict built risen causes)
+                  (λ told some.
+                  told_ends verdict built opening notices s opened.due
+                  (runs s opened.stored (read told some)));
+              opened = record {
+                data_text = λ by_data. by.says.planned (data_opened by_data);
+                script = λ _. opening_told opening notices s IsOpening opened.due tt;
+              };
+            };
       })
-      (is.due (λ cut. cut) readings right))
 
 -- ---- words that name files
 
-module _ (limits : Limits) (readings : Readings) (asked : Asked) (words : List (List ℕ))
-    (same : Some asked ≡ command_words words) (before after : Outside) (status : Status) where
-  words_open : (verdict : Verdict) → FilesOpenOnly readings verdict asked before.inputs after.inputs
+module _ (limits : Limits) (readings : Readings) (words : List (List ℕ)) (before after : Outside)
+    (status : Status) where
+  -- a run of words, by what they name
+  abbrev pub RunsAsked : Option Asked → Type 0
+  RunsAsked asked =
+      ByVerdict limits readings.shapes (words_shapes before.inputs.text asked) before.patterns after.patterns
+      (λ verdict. DataIsReadBy limits readings verdict asked before.inputs.text
+      → LinesAreReadBy limits readings verdict asked before.inputs.text
+      → let manner = manner_of limits readings (words_format asked) in
+      let script = words_script before.inputs.text asked in
+      let opening = files_opening readings verdict asked before.inputs.text in
+      Serves (λ loads. option_and_then (opening_output manner loads script) opening)
+      (λ loads. IfSome opening
+      (AreOpeningLoaded (IsCutShort status) manner (words_library asked before.inputs.text)
+      after.patterns.refused script loads))
+      (λ loads. IfSome opening (λ o.
+      StopsFed (opening_fed manner loads o) script (after.inputs.rest Script) before.sink after.sink))
+      (OpensOnly readings verdict words before.inputs after.inputs) verdict status before after)
+
+  words_open : (asked : Asked) → Some asked ≡ command_words words → (verdict : Verdict)
+      → FilesOpenOnly readings verdict asked before.inputs after.inputs
       → OpensOnly readings verdict words before.inputs after.inputs
-  words_open verdict only = record {
+  words_open asked same verdict only = record {
     data_text = λ opened. rw (← same) (only.data_text opened);
     script = λ opened. rw (← same) (only.script opened);
   }
 
-  pub words_run : RunsFiles limits readings asked before after status
+  pub words_run : (asked : Asked) → Some asked ≡ command_words words
+      → RunsFiles limits readings asked before after status
       → RunsWords limits readings words before after status
-  words_run runs = elim runs [
-    | inl by ↦ inl (rw (← same) (ByVerdict-then limits readings.shapes
+  words_run asked same runs = elim runs [
+    | inl by ↦
+        let as_asked : RunsAsked (Some asked) = ByVerdict-then limits readings.shapes
         (before.inputs.text asked.files.shapes_file) before.patterns after.patterns _ _
         (λ verdict says right lines.
         let serves = says right lines in
-        record {
-          run_ends = serves.run_ends;
-          script_stops = serves.script_stops;
-          opened = words_open verdict serves.opened;
-        }) by))
+        record { by = serves.by; opened = words_open asked same verdict serves.opened }) by in
+        inl (subst RunsAsked same as_asked)
     | inr early ↦ inr early
   ]

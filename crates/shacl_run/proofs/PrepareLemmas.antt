@@ -1,7 +1,7 @@
 -- What was read decides what the two texts come to.
-use Rattle.std.proofs.Common.{◌≡◌, ℕ, List, Option, None, Some, refl, ◌∙◌, sym, subst, inl, inr, Result, Ok}
-use Rattle.std.proofs.Common.{Err}
-use Rattle.std.specs.Prelude.{IfSome, IfOk, IfErr, ◌⊎◌}
+use Rattle.std.proofs.Common.{◌≡◌, ℕ, false, List, Option, None, Some, refl, ◌∙◌, sym, subst, inl, inr}
+use Rattle.std.proofs.Common.{Result, Ok, Err}
+use Rattle.std.specs.Prelude.{IfSome, IfOk, IfErr, OnOk, ◌⊎◌}
 use Rattle.shx_outside.specs.declared.flags.Flags.{Flags}
 use Rattle.shx_outside.specs.declared.role.Role.TheVariants.{Shapes as of_shapes, Data as of_data}
 use Rattle.shx_outside.specs.Outside.{PatternState}
@@ -30,7 +30,7 @@ use Rattle.shape_text.specs.declared.stop.Stop.{Stop}
 use Rattle.script_run.specs.declared.validation.Validation.{Validation}
 use Rattle.shape_text.specs.Judging.{Accepts, IsShapesRefusal, RefusesShapes}
 use Rattle.shacl_run.specs.inner.Validation.{Opens, RefusesData}
-use Rattle.shacl_run.specs.inner.Prepared.{AreRead, HasNamesRead, HostStays, IsPrepared, Prepares}
+use Rattle.shacl_run.specs.inner.Prepared.{AreRead, HasNamesRead, HostStays, IsPrepared, JudgedBy, Prepares}
 use Rattle.shacl_run.specs.inner.Prepared.{PreparesBy}
 use Rattle.shape_text.specs.Refusal.{IsRefusalOf}
 use Rattle.shape_text.specs.Unopened.{beside}
@@ -46,7 +46,6 @@ use Rattle.shape_text.specs.Verdict.{passed_over, RoseWhere, Obstacle, Verdict, 
 use Rattle.shape_text.specs.Verdict.{refuses_pattern, stops}
 use Rattle.shacl_run.specs.Run.{refused}
 use Rattle.shacl_run.specs.Run.Opening.{ends, opens}
-use Rattle.shacl_run.specs.RunClauses.{ByVerdict}
 use Rattle.shape_text.specs.Verdict.Obstacle.{breaks, recurs, reaches_far, misspells, is_refused}
 use Rattle.shape_text.proofs.ReadingLemmas.{read_once}
 
@@ -271,6 +270,7 @@ module _ (limits : Limits) (format : Format) (base : List ℕ) (shapes data_text
                 (λ opening. opening ≡ ends (refused format pool.terms answer)) shapes data_text told right
                 (λ same. found.told format readings data_text);
             planned = λ opened. absurd (closed opened);
+            built = tt;
           };
         };
         read = λ uncut. record {
@@ -340,12 +340,17 @@ module _ (limits : Limits) (format : Format) (base : List ℕ) (shapes data_text
           (λ same. opening_data limits base readings format P accepts.document accepts.end plan data_text
           other same data_right told holds)
 
+      built_by : (prepared : Result Validation Unopened)
+          → OnOk prepared (refuses_pattern (plans plan) ≡ false)
+      built_by (Ok validation) = refl
+      built_by (Err why) = tt
+
       -- the verdict is that the shapes have this plan
       planned_by : (prepared : Result Validation Unopened) (readings : Readings)
           → ShapesAreRead limits base readings.shapes shapes
           → (DataIsRead limits base readings (plans plan) data_text
           → Prepares limits format readings (plans plan) shapes data_text prepared)
-          → ByVerdict limits readings.shapes shapes before after
+          → JudgedBy limits readings.shapes shapes before after
           (PreparesBy limits format base readings shapes data_text DataIsOpened prepared)
       planned_by prepared readings right due = record {
         verdict = plans plan;
@@ -358,6 +363,7 @@ module _ (limits : Limits) (format : Format) (base : List ℕ) (shapes data_text
           due = due;
           planned = λ _. read_alike limits base reading readings (λ r. HavePlan r (plans plan)) tt shapes
               shapes_told right;
+          built = built_by prepared;
         };
       }
 

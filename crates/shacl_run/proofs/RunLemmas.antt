@@ -130,7 +130,7 @@ module _ (status : Status) (before after : Outside) where
           tells = λ _ other. absurd (other same);
         }
     | inr told ↦
-        let (terms, shape, ends) = told in
+        let (front, terms, shape, ends) = told in
         let puts = ends.whole answered in
         record {
           bytes = puts.written;
@@ -138,7 +138,7 @@ module _ (status : Status) (before after : Outside) where
           fell = puts.put.fell;
           tells = λ _ _. (
             puts.defined.0,
-            record { terms = terms; shape = shape; is = puts.defined.1 },
+            record { front = front; terms = terms; shape = shape; is = puts.defined.1 },
           );
         }
   ]
@@ -184,14 +184,17 @@ module _ (limits : Limits) (words : List (List ℕ)) (before after : Outside) (s
     | inl by ↦ inl (ByVerdict-then limits readings.shapes _ before.patterns after.patterns _ _
         (λ verdict says right lines.
         let serves = says right lines in
-        let w = written status before after (run_output limits readings verdict words before.inputs.text)
-        serves.run_ends in
+        let ended = serves.by in
         record {
-          output = w.output;
-          due = w.is;
-          exact = w.exact;
-          prefix = w.prefix;
-          script_stops = serves.script_stops;
+          told = ended.told;
+          right = ended.right;
+          writes = λ rest.
+              let w = written status before after
+              (run_output limits readings verdict (ended.told ++ rest) words before.inputs.text)
+              (ended.run_ends rest) in
+              record { output = w.output; due = w.is; exact = w.exact; prefix = w.prefix };
+          patterns = ended.patterns;
+          script_stops = ended.stops;
           opened = serves.opened;
         }) by)
     | inr early ↦ inr early
@@ -220,9 +223,9 @@ module _ (limits : Limits) (words : List (List ℕ)) (before after : Outside) (s
       → RunsWords limits readings words before after status)
       → Ends None status before after
       → EndsByPattern (words_format (command_words words)) status before after ⊎ IsCutShort status
-      → (IsAnswered status → IsRead limits words before.inputs.text)
+      → (IsAnswered status → IsRead limits words before after)
       → (IsReported status
-      → IfSome (command_words words) (λ asked. ReadsAll asked.files before.inputs after.inputs))
+      → IfSome (command_words words) (λ asked. ReadsAll limits asked.files before.inputs after.inputs))
       → OpensInTurn before.inputs after.inputs status
       → StaysWithin limits before.inputs after.inputs → IsRun limits words before after status
   IsRun-ended runs causes by read read_to_end opened within = record {

@@ -1,61 +1,75 @@
 -- How the answers to a script end.
 use Rattle.std.proofs.Common.{◌≡◌, ◌≢◌, ℕ, Bool, true, false, List, [], ◌∷◌, Option, None, Some, Vec}
-use Rattle.std.proofs.Common.{Result, Err, refl, sym, ap, ◌∙◌, append-nil, subst}
+use Rattle.std.proofs.Common.{Result, Err, refl, sym, ap, ◌∙◌, subst}
+use Rattle.std.specs.declared.alloc.Global.{Global}
+use Rattle.std.specs.Option.{option_map}
 use Rattle.std.specs.Prelude.{IfSome, if◌then◌else◌}
 use Rattle.std.proofs.lemmas.Option.{IfSome_then}
-use Rattle.shx_outside.specs.declared.role.Role.TheVariants.{Script}
-use Rattle.shx_outside.specs.Outside.{InputState}
-use Rattle.text_input.specs.ScriptReader.{ReaderState, new_reader, GoesOn}
-use Rattle.text_input.specs.TextRead.{TakesWithin}
-use Rattle.text_input.proofs.CountLemmas.{IsCounted-start, IsCounted-within, GoesOn-then}
-use Rattle.text_output.specs.declared.format.Format.{Format}
-use Rattle.text_output.specs.Writes.{FellShort, Put}
+use Rattle.shx_term.specs.declared.edit.Edit.{Edit}
+use Rattle.shx_term.specs.declared.limits.Limits.{Limits}
 use Rattle.comp_core.specs.declared.row.ResultRow.{ResultRow}
 use Rattle.shape_eval.specs.Report.{report}
+use Rattle.text_output.specs.declared.format.Format.{Format}
+use Rattle.text_output.specs.inner.AddedLaws.{Put-none}
+use Rattle.text_output.specs.Writes.{Put}
+use Rattle.shape_text.specs.declared.stop.Stop.{Stop}
+use Rattle.shape_text.specs.declared.stop.Stop.TheVariants.{Input, Write, Memory}
+use Rattle.shape_text.specs.Stops.{StopCause}
+use Rattle.script_run.specs.declared.script_run.ScriptRun.{ScriptRun}
+use Rattle.script_run.specs.Load.{Load}
+use Rattle.script_run.specs.ScriptState.{ScriptState, with_loads}
+use Rattle.script_run.specs.Stored.{IsScriptRun}
+use Rattle.script_run.specs.Work.{NoneFell, and_then, no_work}
+use Rattle.script_run.proofs.WorkLemmas.{NoneFell-by, still_work}
 use Rattle.shacl_run.specs.declared.status.Status.{Status}
 use Rattle.shacl_run.specs.declared.status.Status.TheVariants.{Conforms, Violates, BadWords, Refused}
 use Rattle.shacl_run.specs.declared.status.Status.TheVariants.{InputFault, WriteFault, LinesRefused}
 use Rattle.shacl_run.specs.declared.status.Status.TheVariants.{Memory as no_memory}
-use Rattle.shape_text.specs.declared.stop.Stop.{Stop}
-use Rattle.shape_text.specs.declared.stop.Stop.TheVariants.{Input, Write, Memory}
 use Rattle.shacl_run.specs.inner.Ends.{Ends}
 use Rattle.shacl_run.specs.inner.Serving.{open_notice}
-use Rattle.script_run.specs.Stored.{IsScriptRun}
-use Rattle.script_run.specs.declared.script_run.ScriptRun.{ScriptRun}
-use Rattle.shx_term.specs.declared.edit.Edit.{Edit}
-use Rattle.shx_term.specs.declared.limits.Limits.{Limits}
-use Rattle.std.specs.declared.alloc.Global.{Global}
-use Rattle.std.specs.Option.{option_map}
-use Rattle.shape_text.specs.Stops.{StopCause}
 use Rattle.shacl_run.specs.inner.Stops.{end_status, stop_status}
 use Rattle.shacl_run.specs.Outside.{Outside, counts}
-use Rattle.shacl_run.specs.Run.{Output, dropped_text, ending, status_of_rows, status_of_state}
-use Rattle.script_run.specs.ScriptState.{ScriptState}
+use Rattle.shacl_run.specs.Run.{Output, dropped_text, status_of_rows}
 use Rattle.shacl_run.specs.Status.{IsAnswered, IsReported}
-use Rattle.script_run.specs.Work.{NoneFell}
-use Rattle.shacl_run.proofs.EndLemmas.{answered_apart, cut_or_answered, Ends-input, Ends-memory, Ends-short}
-use Rattle.shacl_run.proofs.EndLemmas.{Ends-whole}
-use Rattle.script_run.proofs.WorkLemmas.{still_work}
+use Rattle.shacl_run.proofs.EndLemmas.{answered_apart, cut_or_answered, Ends-after, Ends-input, Ends-memory}
+use Rattle.shacl_run.proofs.EndLemmas.{IsStill, PutsFirst}
+use Rattle.shacl_run.proofs.HaltedLemmas.{behind_nothing}
+
+-- where nothing is put, nothing is put first
+pub PutsFirst-none : (before within : Outside) → IsStill before within → counts within ≡ counts before
+    → PutsFirst [] before within
+PutsFirst-none before within still same = record {
+  put = subst (λ sink. Put before.sink sink []) (sym still.sink) (Put-none before.sink);
+  inputs = still.inputs;
+  risen = NoneFell-by (counts before) (counts within) no_work
+      (still_work (counts before) (counts within) same);
+}
 
 pub rows_answered : (rows : List ResultRow) → IsAnswered (status_of_rows rows)
 rows_answered [] = tt
 rows_answered (row ∷ rows) = tt
 
-state_answered : (s : ScriptState) (refused : Bool)
+pub state_answered : (s : ScriptState) (refused : Bool)
     → IsAnswered (if refused then LinesRefused else status_of_rows (report s.plan s.graph))
 state_answered s true = tt
 state_answered s false = rows_answered (report s.plan s.graph)
 
--- the run ends after the last line
-pub Ends-last : (due : Option Output) (format : Format) (s : ScriptState) (before after : Outside)
-    → IfSome due (λ told. told ≡ ending format false s) → after.inputs.faults ≡ before.inputs.faults
-    → counts after ≡ counts before → Put before.sink after.sink (dropped_text format s s.group)
-    → Ends due (status_of_state s) before after
-Ends-last due format s before after told quiet same put =
-    Ends-whole due (ending format false s) before after told (state_answered s s.refused) (record {
-      inputs = quiet;
-      counted = λ _. still_work (counts before) (counts after) same;
-    }) put
+-- the run ends with what is due, behind a line at which nothing is put
+pub Ends-last : (due : Option Output) (output : Output) (status : Status) (before within after : Outside)
+    → IfSome due (λ told. told ≡ output) → IsStill before within → counts within ≡ counts before
+    → Ends (Some output) status within after → Ends due status before after
+Ends-last due output status before within after told still same ends =
+    Ends-after [] no_work status before within after (PutsFirst-none before within still same) due
+    (Some output) (IfSome_then due told (λ one is. record {
+      rest = output;
+      is = refl;
+      whole = is ∙ sym (behind_nothing output);
+    })) (counted due) ends
+  where
+    counted : (due : Option Output)
+        → IfSome due (λ told. counts within ≡ and_then (counts before) no_work)
+    counted None = tt
+    counted (Some told) = still_work (counts before) (counts within) same
 
 -- the notice that is written is the one that is due
 pub notice_is : (limits : Limits) (format : Format) (s : ScriptState) (script : ScriptRun)
@@ -71,17 +85,26 @@ notice_is limits format s script is =
     waiting_notice None waiting is = ap (dropped_text format s) is
     waiting_notice (Some edits) waiting is = ap (dropped_text format s) is
 
--- or the sink fails in the notice that a group was open
-pub Ends-last_short : (due : Option Output) (format : Format) (s : ScriptState) (before after : Outside)
-    → IfSome due (λ told. told ≡ ending format false s) → after.inputs.faults ≡ before.inputs.faults
-    → FellShort before.sink after.sink (dropped_text format s s.group) → Ends due WriteFault before after
-Ends-last_short due format s before after told quiet short =
-    let text = dropped_text format s s.group in
-    Ends-short due text before after
-    (IfSome_then due told (λ output same. ([], ap (λ (o : Output). o.text) same ∙ sym (append-nil text))))
-    quiet short
+-- what comes of the texts that later lines load is not kept
+pub IsScriptRun-beside : (limits : Limits) (format : Format) (s : ScriptState) (script : ScriptRun)
+    (rest : List Load) → IsScriptRun limits format s script
+    → IsScriptRun limits format (with_loads rest s) script
+IsScriptRun-beside limits format s script rest is = record {
+  stores = is.stores;
+  names_are = is.names_are;
+  plan_is = is.plan_is;
+  kept_is = is.kept_is;
+  group_is = is.group_is;
+  history_is = is.history_is;
+  line_is = is.line_is;
+  refused_is = is.refused_is;
+  halted_is = is.halted_is;
+  triples = is.triples;
+  terms = is.terms;
+  format_is = is.format_is;
+}
 
--- ... whatever is due
+-- the run ended with a text that was put, whatever is due
 pub Ends-answered : (status : Status) (text : List ℕ) (before after : Outside) → IsAnswered status
     → after.inputs.faults ≡ before.inputs.faults → Put before.sink after.sink text
     → NoneFell (counts before) (counts after) → Ends None status before after
@@ -131,24 +154,14 @@ stop_words Input is = absurd (cc)
 stop_words Write is = absurd (cc)
 stop_words Memory is = absurd (cc)
 
+-- and gives no report to the end
+pub stop_unreported : (stop : Stop) → IsReported (stop_status stop) → ⊥
+stop_unreported Input reported = reported
+stop_unreported Write reported = reported
+stop_unreported Memory reported = reported
+
 -- a run that was cut short did not answer
 pub cut_unanswered : (r : Result Status Stop) (stop : Stop) → r ≡ Err stop → IsAnswered (end_status r) → ⊥
 cut_unanswered r Input is answered = subst (λ r. IsAnswered (end_status r)) is answered
 cut_unanswered r Write is answered = subst (λ r. IsAnswered (end_status r)) is answered
 cut_unanswered r Memory is answered = subst (λ r. IsAnswered (end_status r)) is answered
-
--- an input that failed was not read to its end before
-pub not_ended : (ended : Bool) (stop : Stop) → (ended ≡ true → stop ≢ Input) → stop ≡ Input → ended ≡ false
-not_ended true stop going is = absurd (going refl is)
-not_ended false stop going is = refl
-
--- a script that was read on to here is read within its limit
-pub TakesWithin-read : {reader reader' : ReaderState} {inputs0 inputs inputs' : InputState} (limit : ℕ)
-    → GoesOn (new_reader limit) inputs0 reader inputs → GoesOn reader inputs reader' inputs'
-    → TakesWithin (inputs0.rest Script) (inputs'.rest Script) limit
-TakesWithin-read {inputs0 = inputs0} limit before last = record {
-  front = λ text is.
-      let counted = (GoesOn-then before last).kept.each text limit
-      (IsCounted-start text limit (inputs0.rest Script) is) in
-      (IsCounted-within text limit _ _ counted).front text refl;
-}

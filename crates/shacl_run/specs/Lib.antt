@@ -1,5 +1,6 @@
 pub mod Admits
 pub mod Complete
+pub mod Loads
 pub mod Outside
 pub mod Readings
 pub mod Run

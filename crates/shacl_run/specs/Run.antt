@@ -23,13 +23,14 @@ use Rattle.shacl_run.specs.declared.status.Status.TheVariants.{Conforms, Violate
 use Rattle.shacl_run.specs.declared.status.Status.TheVariants.{LinesRefused}
 use Rattle.command_words.specs.Asked.{Asked}
 use Rattle.command_words.specs.Words.{command_words}
+use Rattle.script_run.specs.Load.{Load}
 use Rattle.script_run.specs.Manner.{Manner}
 use Rattle.shacl_run.specs.Readings.{Readings}
 use Rattle.shape_text.specs.TextReadings.{TextReading, States, Faulty, Long, stated_graph}
 use Rattle.shape_text.specs.Verdict.{Verdict, obstacle_answer, passed_over, plans, stops}
 use Rattle.script_run.specs.Script.{first_work, said_text, serve_lines}
 use Rattle.script_run.specs.Script.Said.{reports}
-use Rattle.script_run.specs.ScriptState.{ScriptState, start_state}
+use Rattle.script_run.specs.ScriptState.{ScriptState, start_state, with_loads}
 use Rattle.script_run.specs.Work.{Work, and_then, no_work}
 
 -- what is written, how the run ends, and the work that it takes
@@ -72,13 +73,20 @@ dropped_text format s None = []
 dropped_text format s (Some waiting) = answer_text format s.graph.terms GroupDropped
 
 -- how a run ends after the lines of its script: where it is longer than its limit, and where it is not
-abbrev pub ending : Format → Bool → ScriptState → Output
-ending format true s = refused format s.graph.terms (TooLong Script)
-ending format false s = record {
+abbrev pub end_of_script : Format → Bool → ScriptState → Output
+end_of_script format true s = refused format s.graph.terms (TooLong Script)
+end_of_script format false s = record {
   text = dropped_text format s s.group;
   status = status_of_state s;
   work = no_work;
 }
+
+-- with a line that ended the script
+abbrev pub end_of_line : Output
+end_of_line = record { text = []; status = Refused; work = no_work }
+
+abbrev pub ending : Format → Bool → ScriptState → Output
+ending format past s = if s.halted then end_of_line else end_of_script format past s
 
 -- what is due from a state on, of a script of which so many bytes more are allowed, and these are left
 abbrev pub output_from : Manner → ScriptState → ℕ → List ℕ → Output
@@ -180,22 +188,24 @@ words_manner limits readings words = manner_of limits readings (words_format (co
 
 -- ---- the whole
 
--- the output of what the texts came to, where the script is told that it depends on
-abbrev pub opening_output : Manner → Option (List ℕ) → Opening → Option Output
-opening_output manner script (ends output) = Some output
-opening_output manner script (opens notices s) = option_map (validation_output manner notices s) script
+-- the output of what the texts came to, where the script is told that it depends on, and this comes of the
+-- texts that its lines load
+abbrev pub opening_output : Manner → List Load → Option (List ℕ) → Opening → Option Output
+opening_output manner loads script (ends output) = Some output
+opening_output manner loads script (opens notices s) =
+    option_map (validation_output manner notices (with_loads loads s)) script
 
 -- the output, where the texts are told that it depends on
-abbrev pub run_output : Limits → Readings → Verdict → List (List ℕ) → (List ℕ → Option (List ℕ))
-    → Option Output
-run_output limits readings verdict words texts =
+abbrev pub run_output : Limits → Readings → Verdict → List Load → List (List ℕ)
+    → (List ℕ → Option (List ℕ)) → Option Output
+run_output limits readings verdict loads words texts =
     option_and_then
-    (opening_output (words_manner limits readings words) (words_script texts (command_words words)))
+    (opening_output (words_manner limits readings words) loads (words_script texts (command_words words)))
     (opening readings verdict words texts)
 
 -- what is written of it up to and with the answers to the lines whose line feed stands in these bytes of
 -- the script
-abbrev pub opening_fed : Manner → Opening → List ℕ → List ℕ
-opening_fed manner (ends output) taken = []
-opening_fed manner (opens notices s) taken =
-    first_text manner.format notices s ++ fed_text manner s taken
+abbrev pub opening_fed : Manner → List Load → Opening → List ℕ → List ℕ
+opening_fed manner loads (ends output) taken = []
+opening_fed manner loads (opens notices s) taken =
+    first_text manner.format notices s ++ fed_text manner (with_loads loads s) taken

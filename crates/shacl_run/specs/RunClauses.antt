@@ -1,5 +1,5 @@
 -- What a run promises, in terms of the output that is due.
-use Rattle.std.specs.Prelude.{◌≡◌, ◌≢◌, ℕ, ◌+◌, ◌<◌, ◌≤◌, List, [], ◌++◌, length}
+use Rattle.std.specs.Prelude.{◌≡◌, ◌≢◌, ℕ, ◌+◌, ◌<◌, ◌≤◌, true, List, [], ◌++◌, length}
 use Rattle.std.specs.Prelude.{Option, Some, None, IfSome, ◌⊎◌}
 use Rattle.shx_outside.specs.declared.flags.Flags.{Flags}
 use Rattle.shx_outside.specs.declared.role.Role.{Role}
@@ -17,6 +17,9 @@ use Rattle.report_write.specs.declared.answer.Answer.TheVariants.{OfShape}
 use Rattle.report_write.specs.Answers.{answer_text}
 use Rattle.shacl_run.specs.declared.status.Status.{Status}
 use Rattle.shacl_run.specs.declared.status.Status.TheVariants.{BadWords, InputFault, WriteFault, Refused}
+use Rattle.script_run.specs.Hosts.{ReadsShapesOut, TakesShapesWithin}
+use Rattle.script_run.specs.Load.{Load}
+use Rattle.shacl_run.specs.Loads.{AreLoaded, is_refused_by}
 use Rattle.shacl_run.specs.Outside.{Outside}
 use Rattle.shacl_run.specs.Run.{Output, IsOpening, run_output, opening, opening_fed, words_format}
 use Rattle.shacl_run.specs.Run.{words_manner, words_script}
@@ -54,14 +57,17 @@ abbrev pub LinesAreReadBy : Limits → Readings → Verdict → Option Asked →
 LinesAreReadBy limits readings verdict asked texts =
     LinesAreRead limits readings verdict (words_script texts asked)
 
--- the texts have a reading, and the shapes a verdict
-pub record IsRead (limits : Limits) (words : List (List ℕ)) (texts : List ℕ → Option (List ℕ)) : Type 0 where
+-- the texts have a reading, and the shapes a verdict; the lines have one, unless the pattern host refused a
+-- pattern, behind which none is read
+pub record IsRead (limits : Limits) (words : List (List ℕ)) (before after : Outside) : Type 0 where
   pub readings : Readings
-  pub shapes : ShapesAreReadBy limits readings (command_words words) texts
+  pub shapes : ShapesAreReadBy limits readings (command_words words) before.inputs.text
   pub verdict : Verdict
-  pub judged : AreJudged limits readings.shapes (words_shapes texts (command_words words)) verdict
-  pub data_text : DataIsReadBy limits readings verdict (command_words words) texts
-  pub lines : LinesAreReadBy limits readings verdict (command_words words) texts
+  pub judged : AreJudged limits readings.shapes (words_shapes before.inputs.text (command_words words))
+      verdict
+  pub data_text : DataIsReadBy limits readings verdict (command_words words) before.inputs.text
+  pub lines : (Rose before.patterns.faults after.patterns.faults → ⊥)
+      → LinesAreReadBy limits readings verdict (command_words words) before.inputs.text
 
 -- each pattern of the shapes text that the words name may be built
 abbrev pub PatternsAreAdmittedBy : Limits → Option Asked → (List ℕ → Option (List ℕ))
@@ -80,10 +86,10 @@ IsOpened before after role = Rose (before.opens role) (after.opens role)
 abbrev pub IsOpenedBy : InputState → InputState → Role → Type 0
 IsOpenedBy before after role = before.opens role < after.opens role
 
--- each text is opened at most once: the data text behind the shapes text, the script behind the data text,
--- and none where the words cannot be read
+-- the data text is opened behind the shapes text, and the script behind the data text, each at most once; and
+-- none where the words cannot be read
 pub record OpensInTurn (before after : InputState) (status : Status) : Type 0 where
-  pub once : (role : Role) → after.opens role ≤ before.opens role + 1
+  pub once : (role : Role) → role ≢ Shapes → after.opens role ≤ before.opens role + 1
   pub data_text : IsOpenedBy before after Data → IsOpened before after Shapes
   pub script : IsOpenedBy before after Script → IsOpened before after Data
   pub no_words : status ≡ BadWords → (role : Role) → after.opens role ≡ before.opens role
@@ -122,35 +128,46 @@ pub record StopsFed (fed : List ℕ → List ℕ) (script left : Option (List �
       × Grew before.held after.held (fed taken)
 
 -- where an input failed after the script was opened, the answers to the lines that were taken whole stand
--- written
-abbrev pub ScriptStops : Limits → Readings → Verdict → List (List ℕ) → Outside → Outside → Type 0
-ScriptStops limits readings verdict words before after =
+-- written, and none to a line whose text could not be read
+abbrev pub ScriptStops : Limits → Readings → Verdict → List Load → List (List ℕ) → Outside → Outside → Type 0
+ScriptStops limits readings verdict loads words before after =
     IfSome (opening readings verdict words before.inputs.text) (λ opening.
-    StopsFed (opening_fed (words_manner limits readings words) opening)
+    StopsFed (opening_fed (words_manner limits readings words) loads opening)
     (words_script before.inputs.text (command_words words))
     (after.inputs.rest Script) before.sink after.sink)
 
 -- of one output, which is the defined one where the texts are told that it depends on: where memory and the
--- outside serve it is written whole, and after a failure a front of it; where the script could not be read
--- on, up to the last line that was taken
-pub record WritesDue (limits : Limits) (readings : Readings) (verdict : Verdict) (words : List (List ℕ))
-    (before after : Outside) (status : Status) : Type 0 where
+-- outside serve it is written whole, and after a failure a front of it
+pub record WritesBy (limits : Limits) (readings : Readings) (verdict : Verdict) (loads : List Load)
+    (words : List (List ℕ)) (before after : Outside) (status : Status) : Type 0 where
   pub output : Output
-  pub due : IfSome (run_output limits readings verdict words before.inputs.text)
+  pub due : IfSome (run_output limits readings verdict loads words before.inputs.text)
       (λ defined. output ≡ defined)
   pub exact : IsAnswered status → WritesWhole output before after status
   pub prefix : IsCutShort status → WritesFront output before.sink after.sink status
+
+-- `told` is what came of the texts that the script loaded: of all of them, unless the run was cut short. What
+-- is written is due, whatever comes of the texts behind them; where an input failed within the script, up to
+-- the last line that was taken. The pattern host's count rose where a pattern was refused, and only there
+pub record WritesDue (limits : Limits) (readings : Readings) (verdict : Verdict) (words : List (List ℕ))
+    (before after : Outside) (status : Status) : Type 0 where
+  pub told : List Load
+  pub right : AreLoaded (IsCutShort status) limits readings verdict after.patterns.refused words
+      before.inputs.text told
+  pub writes : (rest : List Load)
+      → WritesBy limits readings verdict (told ++ rest) words before after status
+  pub patterns : RoseWhere (is_refused_by verdict told) before.patterns.faults after.patterns.faults
   pub script_stops : status ≡ InputFault → IsOpenedBy before.inputs after.inputs Script
-      → ScriptStops limits readings verdict words before after
+      → ScriptStops limits readings verdict told words before after
   pub opened : OpensOnly readings verdict words before.inputs after.inputs
 
--- the shapes come to one verdict, by which all is said; and the pattern host's count rose where the verdict
--- is that a pattern was refused, which is then the last that the host refused
+-- the shapes come to one verdict, by which all is said; where it is that a pattern was refused, the pattern
+-- host's count rose, and that pattern is the last that it refused
 pub record ByVerdict (limits : Limits) (shapes : TextReading) (text : Option (List ℕ))
     (before after : PatternState) (Says : Verdict → Type 0) : Type 0 where
   pub verdict : Verdict
   pub judged : AreJudged limits shapes text verdict
-  pub patterns : RoseWhere (refuses_pattern verdict) before.faults after.faults
+  pub patterns : refuses_pattern verdict ≡ true → Rose before.faults after.faults
   pub refused : IfSome text (λ bytes. IsRefusedIn limits shapes verdict after.refused)
   pub says : Says verdict
 
@@ -173,11 +190,12 @@ Writes limits readings words before after status =
 
 -- ---- what failed
 
--- the bytes are the line that tells of a shape whose pattern was refused
+-- the bytes end with the line that tells of a shape whose pattern was refused
 pub record TellsRefusal (format : Format) (bytes : List ℕ) : Type 0 where
+  pub front : List ℕ
   pub terms : List Term
   pub shape : ℕ
-  pub is : bytes ≡ answer_text format terms (OfShape PATTERN_REFUSED shape)
+  pub is : bytes ≡ front ++ answer_text format terms (OfShape PATTERN_REFUSED shape)
 
 -- whatever the texts are read as: bytes were put behind what the sink held; a failure comes only where its
 -- count rose, and otherwise no count rose
@@ -195,9 +213,10 @@ pub record HasCauses (words : List (List ℕ)) (before after : Outside) (status 
 
 -- ---- what was read
 
--- each text that was opened was read to its end
-pub record ReadsToEnd (before after : InputState) : Type 0 where
-  pub each : (role : Role) → IsOpenedBy before after role → IsAtEnd (after.rest role)
+-- each text that was opened was read to its end, but the last text of shapes where that is too long
+pub record ReadsToEnd (limits : Limits) (before after : InputState) : Type 0 where
+  pub each : (role : Role) → role ≢ Shapes → IsOpenedBy before after role → IsAtEnd (after.rest role)
+  pub shapes_text : IsOpenedBy before after Shapes → ReadsShapesOut limits.text after
 
 -- where the words name a script, it was opened
 abbrev pub ScriptIsOpened : Option (List ℕ) → InputState → InputState → Type 0
@@ -205,16 +224,16 @@ ScriptIsOpened None before after = Unit {0}
 ScriptIsOpened (Some name) before after = IsOpened before after Script
 
 -- every text that the words name was opened, and read to its end
-pub record ReadsAll (files : Files) (before after : InputState) : Type 0 where
+pub record ReadsAll (limits : Limits) (files : Files) (before after : InputState) : Type 0 where
   pub shapes_text : IsOpened before after Shapes
   pub data_text : IsOpened before after Data
   pub script : ScriptIsOpened files.script_file before after
-  pub to_end : ReadsToEnd before after
+  pub to_end : ReadsToEnd limits before after
 
--- no more than one byte past its limit was taken of any text that was opened
+-- no more than one byte past its limit was taken of the data text, of the script and of the text of shapes
+-- that was opened last
 pub record StaysWithin (limits : Limits) (before after : InputState) : Type 0 where
-  pub shapes_text : IsOpenedBy before after Shapes
-      → TakesWithin (after.whole Shapes) (after.rest Shapes) limits.text
+  pub shapes_text : IsOpenedBy before after Shapes → TakesShapesWithin limits.text after
   pub data_text : IsOpenedBy before after Data
       → TakesWithin (after.whole Data) (after.rest Data) limits.text
   pub script : IsOpenedBy before after Script
@@ -229,13 +248,13 @@ pub record IsRun (limits : Limits) (words : List (List ℕ)) (before after : Out
     pub writes : (readings : Readings)
         → ShapesAreReadBy limits readings (command_words words) before.inputs.text
         → Writes limits readings words before after status
-    pub read : IsAnswered status → IsRead limits words before.inputs.text
+    pub read : IsAnswered status → IsRead limits words before after
     -- each text was read to its end, where a report was given to its end
     pub read_to_end : IsReported status
-        → IfSome (command_words words) (λ asked. ReadsAll asked.files before.inputs after.inputs)
+        → IfSome (command_words words) (λ asked. ReadsAll limits asked.files before.inputs after.inputs)
     -- a failure has its cause
     pub causes : HasCauses words before after status
-    -- each text is opened once, in turn
+    -- the texts that the words name are opened in turn
     pub opened : OpensInTurn before.inputs after.inputs status
     -- no more is taken of a text than is needed to know that it is too long
     pub within : StaysWithin limits before.inputs after.inputs

@@ -1,5 +1,6 @@
 //! What follows from the promise of a run where nothing outside fails: laws, which do nothing when called.
-ghost use Rattle.std.specs.Prelude.{◌≡◌, ◌≢◌, ◌⊎◌, ℕ, List, false};
+ghost use Rattle.std.specs.Prelude.{◌≡◌, ◌≢◌, ◌⊎◌, ℕ, List, Option, Some, false};
+ghost use Rattle.shx_outside.specs.Outside.{FlaggedText};
 ghost use Rattle.command_words.specs.Words.{command_words};
 ghost use Rattle.shx_term.specs.declared.limits.Limits.{Limits as LimitsOf};
 ghost use Rattle.shx_outside.specs.OpenTexts.{OpenTexts, texts_told};
@@ -7,10 +8,14 @@ ghost use Rattle.shacl_run.specs.declared.status.Status.{Status as StatusOf};
 ghost use Rattle.shacl_run.specs.declared.status.Status.TheVariants.{InputFault, Memory, WriteFault};
 ghost use Rattle.shacl_run.specs.Complete.{HasNoPattern, HasRoomByAny, IsComplete, IsUndisturbed};
 ghost use Rattle.shacl_run.specs.Complete.{NothingFailed, WritesDefined};
+ghost use Rattle.script_run.specs.Load.{Load};
+ghost use Rattle.script_run.specs.Replies.{is_any_refused};
+ghost use Rattle.shacl_run.specs.Loads.{AreLoaded};
 ghost use Rattle.shacl_run.specs.Outside.{Outside};
 ghost use Rattle.shape_text.specs.ShapesReadings.{AreJudged};
 ghost use Rattle.shacl_run.specs.Readings.{Readings};
-ghost use Rattle.shacl_run.specs.RunClauses.{IsRun, ShapesAreReadBy, words_shapes};
+ghost use Rattle.shacl_run.specs.Run.{Output, run_output};
+ghost use Rattle.shacl_run.specs.RunClauses.{IsRun, LinesAreReadBy, ShapesAreReadBy, words_shapes};
 ghost use Rattle.shape_text.specs.Verdict.{Verdict, refuses_pattern};
 
 /// Where nothing disturbs a run, it wants memory, or the defined output stands written and the run ended with
@@ -37,12 +42,20 @@ pub fn honest_inputs_never_fail()
         → IsRun limits words before after status → status ≢ InputFault }
 {}
 
-/// Where no shape states a pattern, the shapes come to no verdict by which a pattern is refused.
+/// Where no shape states a pattern, the shapes come to no verdict by which a pattern is refused, and nor do
+/// those of a text that the script loads.
 pub fn no_pattern_is_never_refused()
-    ensures { (limits : LimitsOf) (words : List (List ℕ)) (before : Outside) (readings : Readings)
+    ensures shapes { (limits : LimitsOf) (words : List (List ℕ)) (before : Outside) (readings : Readings)
         → HasNoPattern limits readings words before → (verdict : Verdict)
         → AreJudged limits readings.shapes (words_shapes before.inputs.text (command_words words)) verdict
         → refuses_pattern verdict ≡ false }
+    ensures loads { (limits : LimitsOf) (words : List (List ℕ)) (before : Outside) (readings : Readings)
+        → HasNoPattern limits readings words before
+        → (verdict : Verdict) (last : Option FlaggedText) (loads : List Load)
+        → LinesAreReadBy limits readings verdict (command_words words) before.inputs.text
+        → (output : Output) → run_output limits readings verdict loads words before.inputs.text ≡ Some output
+        → AreLoaded ⊥ limits readings verdict last words before.inputs.text loads
+        → is_any_refused loads ≡ false }
 {}
 
 /// A sink that fails only where its room is used up (`Roomy`) does not fail where it has room for what is

@@ -26,20 +26,21 @@ use std::alloc::Global;
 pub fn prepare<I: Inputs, P: PatternHost>(
     alloc: Global,
     asked: &Asked<'_>,
+    base: &IriText,
     host: &mut I,
     patterns: &mut P,
     limits: &Limits,
     pool: Pool,
 ) -> Result<Validation, Unopened>
     requires limits { AreUsable limits.now }
-    requires absolute { IsAbsolute asked.now.base.now }
+    requires absolute { IsAbsolute base.now }
     requires shapes_admitted { I.admits host.old Shapes asked.now.shapes_file.now }
     requires data_admitted { I.admits host.old Data asked.now.data_file.now }
-    requires patterns_admitted { PatternsAreAdmitted limits.now asked.now.base.now
+    requires patterns_admitted { PatternsAreAdmitted limits.now base.now
         ((I.state host.old).text asked.now.shapes_file.now) (P.admits patterns.old) }
     requires fresh { pool.terms ≡ vocabulary }
     requires limit { pool.limit ≡ limits.now.terms }
-    ensures prepared { IsPrepared limits.now asked.now.format asked.now.base.now
+    ensures prepared { IsPrepared limits.now asked.now.format base.now
         ((I.state host.old).text asked.now.shapes_file.now) ((I.state host.old).text asked.now.data_file.now)
         (P.state patterns.old) (P.state patterns.new) (IsOpenedBy (I.state host.old) (I.state host.new) Data)
         result }
@@ -50,18 +51,18 @@ pub fn prepare<I: Inputs, P: PatternHost>(
     ensures within { PreparesWithin limits.now.text (I.state host.old) (I.state host.new) }
     ensures cause { UnopenedCause (I.state host.old).faults (I.state host.new).faults result }
     ensures admitted { StaysAdmitted (I.admits host.old) (I.admits host.new) }
+    ensures builds { StaysAdmitted (P.admits patterns.old) (P.admits patterns.new) }
     ensures texts { SameTexts (I.state host.old) (I.state host.new) }
 {
     // So the plan of the shapes may be asked of the data.
     plans_target_shapes_once();
-    let base = IriText::new(String::from_str(alloc, asked.base)?);
     let shapes_text = match read_within(alloc, host, Role::Shapes, asked.shapes_file, limits.text) {
         Ok(text) => text,
         Err(refusal) => return Err(Unopened::of(refusal, pool)),
     };
-    let accepted = judge(alloc, pool, shapes_text, &base, limits, patterns)?;
+    let accepted = judge(alloc, pool, shapes_text, base, limits, patterns)?;
     match read_within(alloc, host, Role::Data, asked.data_file, limits.text) {
-        Ok(text) => open_validation(alloc, accepted, text, &base, asked.format, limits),
+        Ok(text) => open_validation(alloc, accepted, text, base, asked.format, limits),
         Err(refusal) => Err(Unopened::of(refusal, accepted.pool)),
     }
 }

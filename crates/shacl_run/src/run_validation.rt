@@ -1,35 +1,38 @@
 //! The report of a validation, and then its script.
-ghost use Rattle.std.specs.Prelude.{◌≡◌, ◌≢◌, ◌+◌, ◌≤◌, ◌++◌, List, None, Some, length, map};
+ghost use Rattle.std.specs.Prelude.{◌≡◌, ◌≢◌, ◌⊎◌, ◌+◌, ◌≤◌, ◌++◌, ℕ, List, None, Some, length, map};
 ghost use Rattle.std.specs.Borrow.{Bor};
 ghost use Rattle.std.specs.Iterator.{Drains, IsFinite};
 ghost use Rattle.std.specs.Option.{option_map};
+ghost use Rattle.iri_resolve.specs.Resolution.{IsAbsolute};
 ghost use Rattle.comp_core.specs.declared.row.ResultRow.{ResultRow as row_type};
+ghost use Rattle.shx_outside.specs.Counted.{Rose};
 ghost use Rattle.shx_outside.specs.declared.role.Role.TheVariants.{Script};
-ghost use Rattle.shx_outside.specs.Outside.{PatternState};
-ghost use Rattle.shx_outside.specs.Told.{IsAtEnd, OthersStay};
+ghost use Rattle.shx_outside.specs.Told.{IsAtEnd};
 ghost use Rattle.shx_term.specs.Limits.{AreUsable};
 ghost use Rattle.shx_term.specs.declared.limits.Limits.{Limits as LimitsOf};
+ghost use Rattle.text_input.specs.Lines.{script_lines};
 ghost use Rattle.text_input.specs.TextRead.{TakesWithin};
-ghost use Rattle.shacl_run.specs.declared.status.Status.TheVariants.{InputFault};
-ghost use Rattle.shacl_run.specs.inner.Ends.{Ends};
 ghost use Rattle.report_write.specs.ReportTexts.{report_text};
 ghost use Rattle.shape_eval.specs.Planned.{plan_of};
+ghost use Rattle.shape_text.specs.Names.{HasNamesOf};
 ghost use Rattle.text_output.specs.declared.format.Format.{Format as FormatOf};
 ghost use Rattle.text_output.specs.Writes.{Writes};
-ghost use Rattle.shacl_run.specs.Outside.{outside};
-ghost use Rattle.shacl_run.specs.Run.{first_text, notice_text, opening_fed, script_text, validation_output};
-ghost use Rattle.shacl_run.specs.Run.Opening.{opens};
-ghost use Rattle.shacl_run.specs.RunClauses.{IsOpenedBy, ScriptIsOpened, StopsFed};
-ghost use Rattle.script_run.specs.ScriptState.{ScriptState};
-ghost use Rattle.script_run.specs.Work.{evaluating};
-ghost use Rattle.shacl_run.specs.inner.Serving.{HaveReadings, LinesAreReadAt, PutsReport};
-ghost use Rattle.script_run.specs.Stored.{IsScriptRun, IsValidation, Stands};
-ghost use Rattle.shacl_run.specs.Status.{IsAnswered, IsReported};
-ghost use Rattle.shacl_run.specs.inner.Stops.{end_status};
-ghost use Rattle.shacl_run.specs.Admits.{AdmitsScript};
-ghost use Rattle.script_run.specs.Manner.{Manner};
-ghost use Rattle.shape_text.specs.Names.{HasNamesOf};
 ghost use Rattle.ttl_meaning.specs.State.{State};
+ghost use Rattle.script_run.specs.Admitted.{AreAdmitted};
+ghost use Rattle.script_run.specs.Loaded.{library_of};
+ghost use Rattle.script_run.specs.Manner.{Manner};
+ghost use Rattle.script_run.specs.ScriptState.{ScriptState};
+ghost use Rattle.script_run.specs.Stored.{IsScriptRun, IsValidation, Stands};
+ghost use Rattle.script_run.specs.Work.{evaluating};
+ghost use Rattle.shacl_run.specs.Admits.{AdmitsScript};
+ghost use Rattle.shacl_run.specs.Outside.{outside};
+ghost use Rattle.shacl_run.specs.Run.{first_text, notice_text, script_text};
+ghost use Rattle.shacl_run.specs.RunClauses.{IsOpenedBy, ScriptIsOpened};
+ghost use Rattle.shacl_run.specs.Status.{IsAnswered, IsCutShort, IsReported};
+ghost use Rattle.shacl_run.specs.inner.Ends.{Ends, EndsByPattern};
+ghost use Rattle.shacl_run.specs.inner.Serving.{HaveReadings, LinesAreReadAt, PutsReport, RunsScript};
+ghost use Rattle.shacl_run.specs.inner.Serving.{ServesInputs};
+ghost use Rattle.shacl_run.specs.inner.Stops.{end_status};
 
 use crate::ending::status_of_rows;
 use crate::evaluation::report_of;
@@ -42,49 +45,55 @@ use report_write::{Answer, Format, add_answer, add_head, add_rows, add_tail};
 use script_run::{ScriptRun, Validation};
 use shape_eval::Plan;
 use shape_text::Stop;
-use shx_outside::{Inputs, Role, Sink};
-use shx_term::{Limits, Pieces, Pool, Steps};
+use shx_outside::{Inputs, PatternHost, Role, Sink};
+use shx_term::{IriText, Limits, Pieces, Pool, Steps, TermKeys};
 use std::alloc::Global;
 use std::sync::ledger::Ledger;
 use text_output::{WriteFault, Writer};
 
 /// Writes the report, and then answers the script where the words name one. Only for a script more is kept
 /// of an evaluation than its results.
-pub fn run_validation<I: Inputs, O: Sink, K: Ledger, L: Ledger>(
+pub fn run_validation<I: Inputs, O: Sink, P: PatternHost, K: Ledger, L: Ledger>(
     alloc: Global,
     validation: Validation,
     script: Option<&str>,
     host: &mut I,
     out: &mut O,
+    patterns: &mut P,
+    base: IriText,
+    keys: TermKeys,
     limits: &Limits,
     nested: &mut Steps<K>,
     steps: &mut Steps<L>,
 ) -> Result<Status, Stop>
     requires stands { Stands validation }
     requires limits { AreUsable limits.now }
+    requires absolute { IsAbsolute base }
     requires admitted { AdmitsScript (I.admits host.old) (option_map (λ name. name.now) script) }
-    ensures ends { (manner : Manner) (s : ScriptState) (patterns : PatternState) → manner.limits ≡ limits.now
+    requires loads { AreAdmitted limits.now (library_of base (I.state host.old))
+        (I.admits host.old Role.Shapes) (P.admits patterns.old) (option_map (script_lines limits.now.script)
+        (script_text (I.state host.old).text (option_map (λ name. name.now) script))) }
+    ensures serves { (manner : Manner) (s : ScriptState) → manner.limits ≡ limits.now
         → IsValidation manner.limits manner.format s validation
         → LinesAreReadAt manner s limits.now.script
         (script_text (I.state host.old).text (option_map (λ name. name.now) script.entry))
-        → Ends (option_map (validation_output manner validation.passed_over s)
-        (script_text (I.state host.old).text (option_map (λ name. name.now) script.entry)))
+        → RunsScript manner (library_of base (I.state host.old)) validation.passed_over s
+        (script_text (I.state host.old).text (option_map (λ name. name.now) script.entry))
         (end_status result)
-        (outside (I.state host.old) (O.state out.old) patterns nested.old steps.old)
-        (outside (I.state host.new) (O.state out.new) patterns nested.new steps.new) }
-    ensures causes { (limits : LimitsOf) (s : ScriptState) (patterns : PatternState)
+        (outside (I.state host.old) (O.state out.old) (P.state patterns.old) nested.old steps.old)
+        (outside (I.state host.new) (O.state out.new) (P.state patterns.new) nested.new steps.new) }
+    ensures causes { (limits : LimitsOf) (s : ScriptState)
         → IsValidation limits validation.format s validation → Ends None (end_status result)
-        (outside (I.state host.old) (O.state out.old) patterns nested.old steps.old)
-        (outside (I.state host.new) (O.state out.new) patterns nested.new steps.new) }
-    ensures fed { (manner : Manner) (s : ScriptState) → manner.limits ≡ limits.now
-        → IsValidation manner.limits manner.format s validation
-        → LinesAreReadAt manner s limits.now.script
-        (script_text (I.state host.old).text (option_map (λ name. name.now) script.entry))
-        → end_status result ≡ InputFault → IsOpenedBy (I.state host.old) (I.state host.new) Script
-        → StopsFed (opening_fed manner (opens validation.passed_over s))
-        (script_text (I.state host.old).text (option_map (λ name. name.now) script.entry))
-        ((I.state host.new).rest Script) (O.state out.old) (O.state out.new) }
-    ensures read { IsAnswered (end_status result) → (end : State) → HasNamesOf end validation.document
+        (outside (I.state host.old) (O.state out.old) (P.state patterns.old) nested.old steps.old)
+        (outside (I.state host.new) (O.state out.new) (P.state patterns.new) nested.new steps.new) }
+    ensures patterns { EndsByPattern validation.format (end_status result)
+        (outside (I.state host.old) (O.state out.old) (P.state patterns.old) nested.old steps.old)
+        (outside (I.state host.new) (O.state out.new) (P.state patterns.new) nested.new steps.new)
+        ⊎ IsCutShort (end_status result) }
+    ensures refusals { (P.state patterns.old).faults ≤ (P.state patterns.new).faults }
+    ensures read { IsAnswered (end_status result)
+        → (Rose (P.state patterns.old).faults (P.state patterns.new).faults → ⊥)
+        → (end : State) → HasNamesOf end validation.document
         → HaveReadings limits.now end limits.now.script
         (script_text (I.state host.old).text (option_map (λ name. name.now) script.entry)) }
     ensures read_to_end { IsReported (end_status result)
@@ -94,47 +103,57 @@ pub fn run_validation<I: Inputs, O: Sink, K: Ledger, L: Ledger>(
     ensures within { IsOpenedBy (I.state host.old) (I.state host.new) Script
         → TakesWithin ((I.state host.new).whole Script) ((I.state host.new).rest Script) limits.now.script }
     ensures once { (I.state host.new).opens Script ≤ (I.state host.old).opens Script + 1 }
-    ensures others { OthersStay Script (I.state host.old) (I.state host.new) }
+    ensures inputs { ServesInputs limits.now (I.state host.old) (I.state host.new) (end_status result) }
     ensures words { end_status result ≢ Status.BadWords }
 {
     match script {
-        Some(name) => run_script(alloc, validation, name, host, out, limits, nested, steps),
+        Some(name) => run_script(
+            alloc, validation, name, host, out, patterns, base, keys, limits, nested, steps,
+        ),
         None => put_report(alloc, &validation, out, nested, steps),
     }
 }
 
 // Writes the report, and then answers the script of this name.
-fn run_script<I: Inputs, O: Sink, K: Ledger, L: Ledger>(
+fn run_script<I: Inputs, O: Sink, P: PatternHost, K: Ledger, L: Ledger>(
     alloc: Global,
     validation: Validation,
     name: &str,
     host: &mut I,
     out: &mut O,
+    patterns: &mut P,
+    base: IriText,
+    keys: TermKeys,
     limits: &Limits,
     nested: &mut Steps<K>,
     steps: &mut Steps<L>,
 ) -> Result<Status, Stop>
     requires stands { Stands validation }
     requires limits { AreUsable limits.now }
+    requires absolute { IsAbsolute base }
     requires admitted { I.admits host.old Script name.now }
-    ensures ends { (manner : Manner) (s : ScriptState) (patterns : PatternState) → manner.limits ≡ limits.now
+    requires loads { AreAdmitted limits.now (library_of base (I.state host.old))
+        (I.admits host.old Role.Shapes) (P.admits patterns.old)
+        (option_map (script_lines limits.now.script) ((I.state host.old).text name.now)) }
+    ensures serves { (manner : Manner) (s : ScriptState) → manner.limits ≡ limits.now
         → IsValidation manner.limits manner.format s validation
         → LinesAreReadAt manner s limits.now.script ((I.state host.old).text name.now)
-        → Ends (option_map (validation_output manner validation.passed_over s)
-        ((I.state host.old).text name.now)) (end_status result)
-        (outside (I.state host.old) (O.state out.old) patterns nested.old steps.old)
-        (outside (I.state host.new) (O.state out.new) patterns nested.new steps.new) }
-    ensures causes { (limits : LimitsOf) (s : ScriptState) (patterns : PatternState)
+        → RunsScript manner (library_of base (I.state host.old)) validation.passed_over s
+        ((I.state host.old).text name.now) (end_status result)
+        (outside (I.state host.old) (O.state out.old) (P.state patterns.old) nested.old steps.old)
+        (outside (I.state host.new) (O.state out.new) (P.state patterns.new) nested.new steps.new) }
+    ensures causes { (limits : LimitsOf) (s : ScriptState)
         → IsValidation limits validation.format s validation → Ends None (end_status result)
-        (outside (I.state host.old) (O.state out.old) patterns nested.old steps.old)
-        (outside (I.state host.new) (O.state out.new) patterns nested.new steps.new) }
-    ensures fed { (manner : Manner) (s : ScriptState) → manner.limits ≡ limits.now
-        → IsValidation manner.limits manner.format s validation
-        → LinesAreReadAt manner s limits.now.script ((I.state host.old).text name.now)
-        → end_status result ≡ InputFault → IsOpenedBy (I.state host.old) (I.state host.new) Script
-        → StopsFed (opening_fed manner (opens validation.passed_over s)) ((I.state host.old).text name.now)
-        ((I.state host.new).rest Script) (O.state out.old) (O.state out.new) }
-    ensures read { IsAnswered (end_status result) → (end : State) → HasNamesOf end validation.document
+        (outside (I.state host.old) (O.state out.old) (P.state patterns.old) nested.old steps.old)
+        (outside (I.state host.new) (O.state out.new) (P.state patterns.new) nested.new steps.new) }
+    ensures patterns { EndsByPattern validation.format (end_status result)
+        (outside (I.state host.old) (O.state out.old) (P.state patterns.old) nested.old steps.old)
+        (outside (I.state host.new) (O.state out.new) (P.state patterns.new) nested.new steps.new)
+        ⊎ IsCutShort (end_status result) }
+    ensures refusals { (P.state patterns.old).faults ≤ (P.state patterns.new).faults }
+    ensures read { IsAnswered (end_status result)
+        → (Rose (P.state patterns.old).faults (P.state patterns.new).faults → ⊥)
+        → (end : State) → HasNamesOf end validation.document
         → HaveReadings limits.now end limits.now.script ((I.state host.old).text name.now) }
     ensures read_to_end { IsReported (end_status result)
         → IsOpenedBy (I.state host.old) (I.state host.new) Script → IsAtEnd ((I.state host.new).rest Script) }
@@ -143,14 +162,23 @@ fn run_script<I: Inputs, O: Sink, K: Ledger, L: Ledger>(
     ensures within { IsOpenedBy (I.state host.old) (I.state host.new) Script
         → TakesWithin ((I.state host.new).whole Script) ((I.state host.new).rest Script) limits.now.script }
     ensures once { (I.state host.new).opens Script ≤ (I.state host.old).opens Script + 1 }
-    ensures others { OthersStay Script (I.state host.old) (I.state host.new) }
+    ensures inputs { ServesInputs limits.now (I.state host.old) (I.state host.new) (end_status result) }
     ensures words { end_status result ≢ Status.BadWords }
 {
     let passed_over = validation.passed_over;
-    let mut script = ScriptRun::open(alloc, validation, limits, nested, steps)?;
+    let mut script = ScriptRun::open(alloc, validation, base, keys, limits, nested, steps)?;
     write_current(passed_over, &script, out)?;
     host.open(Role::Script, name)?;
-    serve(alloc, &mut script, host, out, limits, nested, steps)
+    serve(
+        alloc,
+        &mut script,
+        host,
+        out,
+        patterns,
+        limits,
+        nested,
+        steps,
+    )
 }
 
 // Writes the report behind its notice, and answers how the run ends with it.
@@ -188,9 +216,10 @@ fn write_current<O: Sink>(
     script: &ScriptRun,
     out: &mut O,
 ) -> Result<(), WriteFault>
-    ensures { (limits : LimitsOf) (format : FormatOf) (s : ScriptState)
+    ensures first { (limits : LimitsOf) (format : FormatOf) (s : ScriptState)
         → IsScriptRun limits format s script.now
         → Writes (O.state out.old) (O.state out.new) (first_text format passed_over s) result }
+    ensures puts { (text : List ℕ) × Writes (O.state out.old) (O.state out.new) text result }
 {
     // The graph may be stored in another order than the script's.
     same_graphs_answer_alike();

@@ -4,6 +4,7 @@ ghost use Rattle.shx_term.specs.Limits.{AreUsable};
 ghost use Rattle.report_write.specs.declared.answer.Answer.TheVariants.{Usage};
 ghost use Rattle.shx_term.specs.Vocabulary.{vocabulary};
 ghost use Rattle.shacl_run.specs.declared.status.Status.TheVariants.{BadWords, InputFault};
+ghost use Rattle.shacl_run.specs.Loads.{LoadsAreAdmitted};
 ghost use Rattle.shacl_run.specs.Outside.{Outside, outside};
 ghost use Rattle.shacl_run.specs.Readings.{Readings};
 ghost use Rattle.shacl_run.specs.Run.{answer_output, words_format};
@@ -26,7 +27,7 @@ use command_words::{Asked, read_words, word_texts};
 use report_write::{Answer, Format, write_answer};
 use shape_text::{Stop, Unopened};
 use shx_outside::{Inputs, PatternHost, Sink};
-use shx_term::{Limits, Pool, Steps, TermKeys, Text};
+use shx_term::{IriText, Limits, Pool, Steps, TermKeys, Text};
 use std::alloc::Global;
 use std::sync::ledger::Ledger;
 
@@ -55,6 +56,8 @@ pub fn run<H: Inputs, O: Sink, P: PatternHost, K: Ledger, L: Ledger>(
     requires admitted { AdmitsFiles (H.admits host.old) (command_words words.now) }
     requires patterns { PatternsAreAdmittedBy limits.now (command_words words.now) (H.state host.old).text
         (P.admits patterns.old) }
+    requires loads { LoadsAreAdmitted limits.now (command_words words.now) (H.state host.old).text
+        (H.admits host.old) (P.admits patterns.old) }
     ensures { IsRun limits.now words.now
         (outside (H.state host.old) (O.state out.old) (P.state patterns.old) nested.old steps.old)
         (outside (H.state host.new) (O.state out.new) (P.state patterns.new) nested.new steps.new) result }
@@ -82,6 +85,8 @@ fn run_words<H: Inputs, O: Sink, P: PatternHost, K: Ledger, L: Ledger>(
     requires admitted { AdmitsFiles (H.admits host.old) (command_words words.now) }
     requires patterns { PatternsAreAdmittedBy limits.now (command_words words.now) (H.state host.old).text
         (P.admits patterns.old) }
+    requires loads { LoadsAreAdmitted limits.now (command_words words.now) (H.state host.old).text
+        (H.admits host.old) (P.admits patterns.old) }
     ensures runs { (readings : Readings)
         → ShapesAreReadBy limits.now readings (command_words words.now) (H.state host.old).text
         → RunsWords limits.now readings words.now
@@ -95,9 +100,11 @@ fn run_words<H: Inputs, O: Sink, P: PatternHost, K: Ledger, L: Ledger>(
         (outside (H.state host.old) (O.state out.old) (P.state patterns.old) nested.old steps.old)
         (outside (H.state host.new) (O.state out.new) (P.state patterns.new) nested.new steps.new)
         ⊎ IsCutShort (end_status result) }
-    ensures read { IsAnswered (end_status result) → IsRead limits.now words.now (H.state host.old).text }
+    ensures read { IsAnswered (end_status result) → IsRead limits.now words.now
+        (outside (H.state host.old) (O.state out.old) (P.state patterns.old) nested.old steps.old)
+        (outside (H.state host.new) (O.state out.new) (P.state patterns.new) nested.new steps.new) }
     ensures read_to_end { IsReported (end_status result) → IfSome (command_words words.now)
-        (λ asked. ReadsAll asked.files (H.state host.old) (H.state host.new)) }
+        (λ asked. ReadsAll limits.now asked.files (H.state host.old) (H.state host.new)) }
     ensures opened { OpensInTurn (H.state host.old) (H.state host.new) (end_status result) }
     ensures within { StaysWithin limits.now (H.state host.old) (H.state host.new) }
 {
@@ -105,7 +112,7 @@ fn run_words<H: Inputs, O: Sink, P: PatternHost, K: Ledger, L: Ledger>(
     let texts = word_texts(alloc, words)?;
     match read_words(alloc, &texts)? {
         Some(asked) => run_files(
-            alloc, &asked, host, out, patterns, limits, pool, nested, steps,
+            alloc, &asked, host, out, patterns, limits, pool, keys, nested, steps,
         ),
         None => refuse_words(&pool, out),
     }
@@ -130,6 +137,7 @@ fn run_files<H: Inputs, O: Sink, P: PatternHost, K: Ledger, L: Ledger>(
     patterns: &mut P,
     limits: &Limits,
     pool: Pool,
+    keys: TermKeys,
     nested: &mut Steps<K>,
     steps: &mut Steps<L>,
 ) -> Result<Status, Stop>
@@ -138,6 +146,8 @@ fn run_files<H: Inputs, O: Sink, P: PatternHost, K: Ledger, L: Ledger>(
     requires admitted { AdmitsFiles (H.admits host.old) (Some (asked_of asked.now)) }
     requires patterns { PatternsAreAdmittedBy limits.now (Some (asked_of asked.now)) (H.state host.old).text
         (P.admits patterns.old) }
+    requires loads { LoadsAreAdmitted limits.now (Some (asked_of asked.now)) (H.state host.old).text
+        (H.admits host.old) (P.admits patterns.old) }
     requires fresh { pool.terms ≡ vocabulary }
     requires limit { pool.limit ≡ limits.now.terms }
     ensures runs { (readings : Readings)
@@ -153,14 +163,16 @@ fn run_files<H: Inputs, O: Sink, P: PatternHost, K: Ledger, L: Ledger>(
         (outside (H.state host.old) (O.state out.old) (P.state patterns.old) nested.old steps.old)
         (outside (H.state host.new) (O.state out.new) (P.state patterns.new) nested.new steps.new)
         ⊎ IsCutShort (end_status result) }
-    ensures read { IsAnswered (end_status result)
-        → FilesAreRead limits.now (asked_of asked.now) (H.state host.old).text }
+    ensures read { IsAnswered (end_status result) → FilesAreRead limits.now (asked_of asked.now)
+        (outside (H.state host.old) (O.state out.old) (P.state patterns.old) nested.old steps.old)
+        (outside (H.state host.new) (O.state out.new) (P.state patterns.new) nested.new steps.new) }
     ensures read_to_end { IsReported (end_status result)
-        → ReadsAll (asked_of asked.now).files (H.state host.old) (H.state host.new) }
+        → ReadsAll limits.now (asked_of asked.now).files (H.state host.old) (H.state host.new) }
     ensures opened { OpensInTurn (H.state host.old) (H.state host.new) (end_status result) }
     ensures within { StaysWithin limits.now (H.state host.old) (H.state host.new) }
 {
-    match prepare(alloc, asked, host, patterns, limits, pool) {
+    let base = IriText::new(String::from_str(alloc, asked.base)?);
+    match prepare(alloc, asked, &base, host, patterns, limits, pool) {
         Ok(validation) => {
             run_validation(
                 alloc,
@@ -168,6 +180,9 @@ fn run_files<H: Inputs, O: Sink, P: PatternHost, K: Ledger, L: Ledger>(
                 asked.script_file,
                 host,
                 out,
+                patterns,
+                base,
+                keys,
                 limits,
                 nested,
                 steps,

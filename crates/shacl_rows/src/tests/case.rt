@@ -5,12 +5,13 @@ use row_tools::{RowFault, number};
 use shx_term::Limits;
 
 // The marks of the parts of a block, behind `== `.
-const MARKS: [&str; 10] = [
+const MARKS: [&str; 11] = [
     "words\n",
     "limits\n",
     "outside\n",
     "prefixes\n",
     "shapes\n",
+    "more\n",
     "data\n",
     "script\n",
     "output\n",
@@ -38,10 +39,11 @@ const LIMITS: [&str; 12] = [
 ///
 /// It is written as a block of text, in parts that begin with marks: `== run NAME`, `== words` (one a line),
 /// `== limits` and `== outside` (a name and a number a line), `== prefixes` (what the shapes and the data
-/// begin with), `== shapes`, `== data`, `== script`, `== output` (or `== front`, where a proper front of it
-/// is due) and `== status N`. A part that a block leaves out is that of the block that its table shares, and
-/// is else empty. A text that ends in `$` has no line feed at its end, and U+FFFF in it stands for the byte
-/// 255. A block with another mark or another name cannot be read.
+/// begin with), `== shapes`, `== more` (another text of shapes, of this name), `== data`, `== script`,
+/// `== output` (or `== front`, where a proper front of it is due) and `== status N`. A part that a block
+/// leaves out is that of the block that its table shares, and is else empty. A text that ends in `$` has no
+/// line feed at its end, and U+FFFF in it stands for the byte 255. A block with another mark or another name
+/// cannot be read.
 #[derive(Clone, Copy)]
 pub(super) struct Case<'a> {
     pub words: &'a str,
@@ -49,6 +51,7 @@ pub(super) struct Case<'a> {
     pub outside: &'a str,
     pub prefixes: &'a str,
     pub shapes: &'a str,
+    pub more: &'a str,
     pub data: &'a str,
     pub script: &'a str,
     pub output: &'a str,
@@ -71,6 +74,7 @@ impl<'a> Case<'a> {
             outside: part(block, shared, "== outside\n"),
             prefixes: part(block, shared, "== prefixes\n"),
             shapes: part(block, shared, "== shapes\n"),
+            more: part(block, shared, "== more\n"),
             data: part(block, shared, "== data\n"),
             script: part(block, shared, "== script\n"),
             output: front.unwrap_or(part(block, shared, "== output\n")),

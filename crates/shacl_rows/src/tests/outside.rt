@@ -78,6 +78,7 @@ impl Outside {
 pub(super) fn files_of(alloc: Global, case: &Case) -> Result<Vec<NamedText>, Memory> {
     let mut files = Vec::new(alloc);
     files.push(named(alloc, "shapes", case.prefixes, case.shapes)?)?;
+    files.push(named(alloc, "more", case.prefixes, case.more)?)?;
     files.push(named(alloc, "data", case.prefixes, case.data)?)?;
     files.push(named(alloc, "script", "", case.script)?)?;
     Ok(files)

@@ -1,5 +1,5 @@
 -- How the parts of a run end.
-use Rattle.std.specs.Prelude.{◌≡◌, ◌≢◌, ℕ, List, [], ◌++◌, ◌⊎◌, Option, Some, length, IfSome}
+use Rattle.std.specs.Prelude.{◌≡◌, ◌≢◌, ℕ, Bool, List, [], ◌++◌, ◌⊎◌, Option, Some, length, IfSome}
 use Rattle.shx_outside.specs.Counted.{Rose}
 use Rattle.shx_outside.specs.Outside.{SinkState}
 use Rattle.shx_outside.specs.Told.{Grew, Fell}
@@ -11,9 +11,11 @@ use Rattle.text_output.specs.Writes.{Put}
 use Rattle.shacl_run.specs.declared.status.Status.{Status}
 use Rattle.shacl_run.specs.declared.status.Status.TheVariants.{InputFault, WriteFault}
 use Rattle.shacl_run.specs.Outside.{Outside, counts}
-use Rattle.shacl_run.specs.Run.{Output, refused}
+use Rattle.shape_text.specs.Verdict.{RoseWhere}
+use Rattle.shacl_run.specs.Run.{Output, behind, refused}
 use Rattle.shacl_run.specs.Status.{IsAnswered, IsCutShort, IsReported}
-use Rattle.script_run.specs.Work.{NoneFell, and_then}
+use Rattle.script_run.specs.Load.{Load}
+use Rattle.script_run.specs.Work.{NoneFell, and_then, no_work}
 
 -- the bytes put, the status and the work are those that are due, where these are told; no counter falls
 pub record PutsWhole (due : Option Output) (status : Status) (before after : Outside) : Type 0 where
@@ -45,9 +47,22 @@ pub record Ends (due : Option Output) (status : Status) (before after : Outside)
   pub front : IsCutShort status → PutsFront due status before.sink after.sink
   pub causes : EndCauses status before after
 
--- the count of refused patterns stays, or the run ends with the line that tells of one
+-- the count of refused patterns stays, or the run ends with the line that tells of one, behind what it wrote
+-- before
 abbrev pub EndsByPattern : Format → Status → Outside → Outside → Type 0
 EndsByPattern format status before after =
     (after.patterns.faults ≡ before.patterns.faults)
-    ⊎ ((terms : List Term) × (shape : ℕ)
-    × Ends (Some (refused format terms (OfShape PATTERN_REFUSED shape))) status before after)
+    ⊎ ((front : List ℕ) × (terms : List Term) × (shape : ℕ)
+    × Ends (Some (behind front no_work (refused format terms (OfShape PATTERN_REFUSED shape)))) status before
+    after)
+
+-- a part of a run ends as is due, whatever comes of the texts that are loaded behind its end: `told` is what
+-- came of those before, of which all is right. Where an input failed, it stops as it is to. The pattern
+-- host's count rose where one of them was refused for a pattern, and only there
+pub record EndsBy (Due : List Load → Option Output) (Right Stops : List Load → Type 0)
+    (is_refused : List Load → Bool) (status : Status) (before after : Outside) : Type 0 where
+  pub told : List Load
+  pub right : Right told
+  pub run_ends : (rest : List Load) → Ends (Due (told ++ rest)) status before after
+  pub patterns : RoseWhere (is_refused told) before.patterns.faults after.patterns.faults
+  pub stops : status ≡ InputFault → Stops told

@@ -1,5 +1,5 @@
 -- What preparing a run gives, whatever its script is.
-use Rattle.std.specs.Prelude.{◌≡◌, ℕ, ◌+◌, ◌≤◌, ◌⊎◌, List, Option, IfSome, Result, Ok, Err}
+use Rattle.std.specs.Prelude.{◌≡◌, ℕ, ◌+◌, ◌≤◌, ◌⊎◌, false, List, Option, IfSome, OnOk, Result, Ok, Err}
 use Rattle.shx_outside.specs.declared.role.Role.{Role}
 use Rattle.shx_outside.specs.declared.role.Role.TheVariants.{Shapes, Data, Script}
 use Rattle.shx_outside.specs.Outside.{InputState, PatternState}
@@ -20,10 +20,11 @@ use Rattle.shacl_run.specs.Run.{texts_opening, refused}
 use Rattle.shacl_run.specs.Run.Opening.{ends, opens}
 use Rattle.shacl_run.specs.Readings.{Readings, DataIsRead}
 use Rattle.shape_text.specs.TextReadings.{TextReading, States}
-use Rattle.shape_text.specs.ShapesReadings.{AreJudged, HavePlan, ShapesAreRead}
-use Rattle.shacl_run.specs.RunClauses.{ByVerdict, IsOpened, IsOpenedBy}
+use Rattle.shape_text.specs.ShapesReadings.{AreJudged, HavePlan, IsRefusedIn, ShapesAreRead}
+use Rattle.shacl_run.specs.RunClauses.{IsOpened, IsOpenedBy}
+use Rattle.script_run.specs.Hosts.{TakesShapesWithin}
 use Rattle.script_run.specs.ScriptState.{ScriptState}
-use Rattle.shape_text.specs.Verdict.{Verdict, plans}
+use Rattle.shape_text.specs.Verdict.{RoseWhere, Verdict, plans, refuses_pattern}
 use Rattle.script_run.specs.Stored.{IsValidation}
 
 -- the validation is what the two texts open, behind a notice
@@ -75,20 +76,32 @@ pub record AreRead (limits : Limits) (base : List ℕ) (shapes data_text : Optio
   pub data_read : DataIsRead limits base readings verdict data_text
   pub names_read : HasNamesRead readings.data_text verdict prepared
 
--- what the two texts come to by a verdict was prepared, and the data text was opened only for a plan
+-- what the two texts come to by a verdict was prepared, and the data text was opened only for a plan; where a
+-- validation is opened, no pattern was refused
 pub record PreparesBy (limits : Limits) (format : Format) (base : List ℕ) (readings : Readings)
     (shapes data_text : Option (List ℕ)) (DataIsOpened : Type 0) (prepared : Result Validation Unopened)
     (verdict : Verdict) : Type 0 where
   pub due : DataIsRead limits base readings verdict data_text
       → Prepares limits format readings verdict shapes data_text prepared
   pub planned : DataIsOpened → IfSome shapes (λ text. HavePlan readings.shapes verdict)
+  pub built : OnOk prepared (refuses_pattern verdict ≡ false)
+
+-- the shapes come to one verdict, by which all is said; and the pattern host's count rose where the verdict
+-- is that a pattern was refused, which is then the last that the host refused
+pub record JudgedBy (limits : Limits) (shapes : TextReading) (text : Option (List ℕ))
+    (before after : PatternState) (Says : Verdict → Type 0) : Type 0 where
+  pub verdict : Verdict
+  pub judged : AreJudged limits shapes text verdict
+  pub patterns : RoseWhere (refuses_pattern verdict) before.faults after.faults
+  pub refused : IfSome text (λ bytes. IsRefusedIn limits shapes verdict after.refused)
+  pub says : Says verdict
 
 -- unless it was cut short, the run opens what the two texts come to, or refuses them as they are to be
 pub record IsPrepared (limits : Limits) (format : Format) (base : List ℕ) (shapes data_text : Option (List ℕ))
     (before after : PatternState) (DataIsOpened : Type 0) (prepared : Result Validation Unopened)
     : Type 0 where
   pub due : (IsCut prepared → ⊥) → (readings : Readings) → ShapesAreRead limits base readings.shapes shapes
-      → ByVerdict limits readings.shapes shapes before after
+      → JudgedBy limits readings.shapes shapes before after
       (PreparesBy limits format base readings shapes data_text DataIsOpened prepared)
   pub read : (IsCut prepared → ⊥) → AreRead limits base shapes data_text prepared
 
@@ -112,6 +125,5 @@ pub record PreparesWithin (limit : ℕ) (before after : InputState) : Type 0 whe
   pub once : (role : Role) → after.opens role ≤ before.opens role + 1
   pub in_turn : IsOpenedBy before after Data → IsOpened before after Shapes
   pub no_script : after.opens Script ≡ before.opens Script
-  pub shapes_within : IsOpenedBy before after Shapes
-      → TakesWithin (after.whole Shapes) (after.rest Shapes) limit
+  pub shapes_within : TakesShapesWithin limit after
   pub data_within : IsOpenedBy before after Data → TakesWithin (after.whole Data) (after.rest Data) limit

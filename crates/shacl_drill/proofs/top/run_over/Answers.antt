@@ -3,7 +3,7 @@ use Rattle.shx_outside.specs.OpenTexts.{bytes_named, texts_told}
 use Rattle.shx_outside.specs.declared.named_text.NamedText.{NamedText}
 use Rattle.shx_term.specs.declared.limits.Limits.{Limits}
 use Rattle.command_words.specs.Words.{command_words}
-use Rattle.shacl_run.proofs.AdmittedLemmas.{all_admitted}
+use Rattle.shacl_run.proofs.AdmittedLemmas.{all_admitted, all_loads_admitted}
 use Rattle.shacl_run.specs.declared.status.Status.{Status}
 use Rattle.shacl_run.specs.Outside.{Outside}
 use Rattle.shacl_run.specs.RunClauses.{IsRun}
@@ -19,6 +19,11 @@ run_moved {m = m} {ws = ws} {before = before} {after = after} {status = status} 
 pub run-requires-clause-patterns : goal.run-requires-clause-patterns
 run-requires-clause-patterns g c =
     all_admitted c.program-limits.result _ c.requires.patterns (command_words c.deref.result.now) _
+
+pub run-requires-clause-loads : goal.run-requires-clause-loads
+run-requires-clause-loads g c =
+    all_loads_admitted c.program-limits.result (λ role name. Unit {0}) _ (λ name. tt) c.requires.patterns
+    (command_words c.deref.result.now) _
 
 pub returns : goal.returns
 returns g c =

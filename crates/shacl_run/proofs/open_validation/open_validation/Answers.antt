@@ -32,6 +32,7 @@ returns-clause-opened c =
             made = refl;
             line = refl;
             refused = refl;
+            halted = refl;
           };
           limits_are = record {
             triples = made.triple_limit;

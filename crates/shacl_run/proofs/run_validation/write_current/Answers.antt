@@ -23,8 +23,13 @@ write_first-requires g c = λ k. (
   ),
 )
 
-pub returns : goal.returns
-returns g c = λ limits format s is.
+pub returns-clause-puts : goal.returns-clause-puts
+returns-clause-puts g c =
+    let (items, drained, written) = c.write_first.ensures in
+    (_, written)
+
+pub returns-clause-first : goal.returns-clause-first
+returns-clause-first g c = λ limits format s is.
     let (items, drained, written) = c.write_first.ensures in
     let script = c.args.script.now in
     let engine = script.engine in

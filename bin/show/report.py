@@ -10,7 +10,7 @@ TERM = rf"(?:{IRI}|_:[^ ]+|{LITERAL})"
 RESULT = re.compile(rf"(?:result|detail) (\w+) (\w+|{IRI}) ({TERM}) ({TERM}) ([^ ]+) ({TERM}|-)")
 HEAD = re.compile(r"report conforms=(true|false) results=(\d+)")
 MESSAGE = re.compile(rf"message ({LITERAL})")
-OK = re.compile(r"ok (changed|unchanged) evaluated (\d+)|ok (begun|queued|abandoned)")
+OK = re.compile(r"ok (changed|unchanged|shapes) evaluated (\d+)|ok (begun|queued|abandoned)")
 COUNT = re.compile(r"count triples=(\d+) pairs=(\d+) results=(\d+)")
 REFUSED = re.compile(r"refused line (\d+): (\d+) (\w+)(?: at (\d+))?")
 SLICE = re.compile(r"slice triples=(\d+)")

@@ -142,7 +142,8 @@ def ok_line(part):
     if part.evaluated is None:
         return {"begun": "a group is open", "queued": "waits in the group",
                 "abandoned": "the group is given up"}[part.said]
-    return f"{part.said}, {many(part.evaluated, 'pair')} evaluated"
+    said = "other shapes" if part.said == "shapes" else part.said
+    return f"{said}, {many(part.evaluated, 'pair')} evaluated"
 
 
 def block_of(part, number, texts):

@@ -12,6 +12,7 @@
 //! | `tests/shapes.rt` | lines that load other shapes, where the outside fails or a limit is met |
 //! | `tests/groups.rt` | groups and changes that are taken back, at their limits and at those of the graph |
 //! | `tests/failures.rt` | each call of the inputs and each put fails in turn |
+//! | `tests/mixed.rt` | the same where the script has lines of each kind |
 //! | `tests/honest.rt` | a run over inputs that never fail, and a sink with room for what is due |
 //! | `tests/order.rt` | when texts are opened and answered, and patterns built, which no contract says |
 //!

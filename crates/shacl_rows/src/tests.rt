@@ -3,6 +3,7 @@ mod failures;
 mod groups;
 mod honest;
 mod limits;
+mod mixed;
 mod order;
 mod outside;
 mod runs;

@@ -11,6 +11,7 @@ pub mod NumberLemmas
 pub mod PartLemmas
 pub mod PlaceLemmas
 pub mod RecalledLemmas
+pub mod ReportLemmas
 pub mod ShapeLemmas
 pub mod TargetLemmas
 pub mod ToldLemmas

@@ -1,5 +1,5 @@
 //! What is true of results and target nodes over any graph, as contracts of functions that do nothing.
-ghost use Rattle.std.specs.Prelude.{◌≡◌, ◌<◌, ℕ, List, length, Contains};
+ghost use Rattle.std.specs.Prelude.{◌≡◌, ◌<◌, ℕ, List, [], length, All, Contains};
 ghost use Rattle.shx_term.specs.declared.triple.Triple.{Triple};
 ghost use Rattle.graph_view.specs.declared.key.Key.{Key};
 ghost use Rattle.graph_view.specs.Graph.{Graph, AllKnown, HasAlso, IsWithout};
@@ -11,8 +11,9 @@ ghost use Rattle.shape_eval.specs.Laws.{NestedAreBelow, NestedAreClosed, NestedA
 ghost use Rattle.shape_eval.specs.Laws.{NestedDependOnReads, NestedReadsAreRead};
 ghost use Rattle.shape_eval.specs.Laws.{PairReadsHaveTerms, ResultsHaveTerms, TargetReadsHaveTerms};
 ghost use Rattle.shape_eval.specs.Laws.{TargetsDependOnReads};
-ghost use Rattle.shape_eval.specs.Plan.{IsKnownPlan, RefersLower};
-ghost use Rattle.shape_eval.specs.Results.{pair_reads};
+ghost use Rattle.shape_eval.specs.Plan.{IsKnownPlan, Planned, RefersLower};
+ghost use Rattle.shape_eval.specs.Report.{pairs, report};
+ghost use Rattle.shape_eval.specs.Results.{pair_reads, results};
 
 use crate::Constraint;
 use crate::answering::answers_follow;
@@ -91,4 +92,12 @@ pub fn results_have_terms()
 pub fn reads_have_terms()
     ensures pairs { PairReadsHaveTerms }
     ensures targets { TargetReadsHaveTerms }
+{}
+
+/// A report is empty exactly where each of its pairs conforms: the shape has no result at the focus node.
+pub fn a_report_is_empty_where_all_conform()
+    ensures empty { (plan : Planned) (g : Graph) → report plan g ≡ []
+        → All (λ pair. results plan.shapes g pair ≡ []) (pairs plan g) }
+    ensures conform { (plan : Planned) (g : Graph)
+        → All (λ pair. results plan.shapes g pair ≡ []) (pairs plan g) → report plan g ≡ [] }
 {}

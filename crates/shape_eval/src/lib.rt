@@ -15,7 +15,7 @@
 //! | `told.rt` | what is told of pairs while one is evaluated |
 //! | `answers.rt` | `Answers`: answers that are remembered, found by hash |
 //! | `known.rt`, `matchers.rt` | `Known`: what one evaluation finds and the next knows |
-//! | `laws.rt` | results and target nodes depend on what is read for them alone; their numbers have terms |
+//! | `laws.rt` | results and target nodes depend on their reads alone; reports without results |
 //!
 //! It stands on the four crates of components, on `path_eval` for value nodes and instances, and on
 //! `shape_order` for what it is to refer to something. Start with `plan.rt` and `pairs.rt`;
@@ -44,8 +44,9 @@ pub use comp_core::PairAnswer;
 pub use constraint::Constraint;
 pub use known::Known;
 pub use laws::{
-    edits_beside_a_pair, levels_do_not_matter, nested_pairs_are_read, nested_pairs_stand_below,
-    reads_have_terms, results_depend_on_reads, results_have_terms, targets_depend_on_reads,
+    a_report_is_empty_where_all_conform, edits_beside_a_pair, levels_do_not_matter,
+    nested_pairs_are_read, nested_pairs_stand_below, reads_have_terms, results_depend_on_reads,
+    results_have_terms, targets_depend_on_reads,
 };
 pub use pairs::eval_pair;
 pub use plan::Plan;

@@ -1,5 +1,5 @@
 //! sh:pattern as a component: it knows a matcher from one check to the next.
-ghost use Rattle.std.specs.Prelude.{◌≡◌, [], ◌++◌, IfOk, OnOk};
+ghost use Rattle.std.specs.Prelude.{◌≡◌, [], ◌++◌, OnOk, Some};
 ghost use Rattle.graph_view.specs.Graph.{HasTerms};
 ghost use Rattle.graph_view.specs.Valid.{IsValidView};
 ghost use Rattle.comp_core.specs.Laws.{Agreement, AsksValues};
@@ -14,23 +14,22 @@ use shx_outside::PatternMatcher;
 use shx_term::{Id, Memory};
 use std::alloc::Global;
 
-// What looks for a pattern: the matcher that is known, if it is of this pattern.
-fn matcher_of<'p>(
+// Sees to it that what is known looks for a pattern: it stays where it does. It stands where it is, since a
+// matcher is large, with all that it learned.
+fn look_for<'p>(
     alloc: Global,
     pattern: &'p shx_outside::Pattern,
-    known: Option<PatternMatcher<'p>>,
-) -> Result<PatternMatcher<'p>, Memory>
-    ensures { IfOk result (λ matcher. matcher ≡ pattern.now) }
+    known: &mut Option<PatternMatcher<'p>>,
+) -> Result<(), Memory>
+    ensures { OnOk result (known.new ≡ Some pattern.now) }
 {
-    match known {
-        Some(matcher) => {
-            if matcher.is_of(pattern) {
-                return Ok(matcher);
-            }
-            pattern.matcher(alloc)
+    if let Some(matcher) = known {
+        if matcher.is_of(pattern) {
+            return Ok(());
         }
-        None => pattern.matcher(alloc),
     }
+    *known = Some(pattern.matcher(alloc)?);
+    Ok(())
 }
 
 impl<'p> Component<'p> for Pattern {
@@ -72,9 +71,11 @@ impl<'p> Component<'p> for Pattern {
             ++ pattern_hits self.now (V.graph view.now) at values.now) }
         ensures reads { OnOk result (C.Noted.notes reads.old reads.new []) }
     {
-        let mut matcher = matcher_of(alloc, &self.built, known.take())?;
-        check_texts(alloc, view, &mut matcher, at, values, out)?;
-        *known = Some(matcher);
+        look_for(alloc, &self.built, known)?;
+        let Some(matcher) = known else {
+            unreachable!();
+        };
+        check_texts(alloc, view, matcher, at, values, out)?;
         Ok(())
     }
 

@@ -1,11 +1,13 @@
--- What is known of the classes above classes.
-use Rattle.std.specs.Prelude.{ℕ, List, All}
+-- What is known of the classes above classes, and of the node that was asked about last.
+use Rattle.std.specs.Prelude.{ℕ, List, All, IfSome}
 use Rattle.shx_term.specs.declared.vocabulary.TheConstants.{RDFS_SUB_CLASS_OF}
 use Rattle.shx_term.specs.Members.{SameMembers}
 use Rattle.graph_view.specs.declared.key.Key.{Key}
 use Rattle.graph_view.specs.Graph.{Graph}
 use Rattle.path_eval.specs.declared.direction.Direction.TheVariants.{Forward}
 use Rattle.path_eval.specs.declared.superclasses.Superclasses.{Superclasses}
+use Rattle.path_eval.specs.declared.wider.Wider.{Wider}
+use Rattle.path_eval.specs.Instances.{instance_route}
 use Rattle.path_eval.specs.Route.{Route, along, any_times}
 use Rattle.path_eval.specs.Values.{nodes_reached, path_reads}
 
@@ -13,12 +15,25 @@ use Rattle.path_eval.specs.Values.{nodes_reached, path_reads}
 abbrev pub superclass_route : Route
 superclass_route = any_times (along RDFS_SUB_CLASS_OF)
 
--- the classes above a class, and the keys that are read on the way to them
-pub record AreWider (g : Graph) (class : ℕ) (found : List ℕ) (read : List Key) : Type 0 where
-  pub classes : SameMembers found (nodes_reached g Forward superclass_route class)
-  pub keys : SameMembers read (path_reads g Forward superclass_route class)
+-- what a path reaches from x, and the keys that are read on the way there
+pub record AreReached (g : Graph) (route : Route) (x : ℕ) (found : List ℕ) (read : List Key) : Type 0 where
+  pub classes : SameMembers found (nodes_reached g Forward route x)
+  pub keys : SameMembers read (path_reads g Forward route x)
 
--- what is known is right of the graph
-abbrev pub AreSuperclassesOf : Superclasses → Graph → Type 0
-AreSuperclassesOf known g =
-    All (λ entry. AreWider g entry.0 entry.1.classes.keys entry.1.reads) known.found.entries
+-- the classes above a class
+abbrev pub AreWider : Graph → ℕ → Wider → Type 0
+AreWider g class wider = AreReached g superclass_route class wider.classes.keys wider.reads
+
+-- the classes of a node
+abbrev pub AreClassesOf : Graph → ℕ → Wider → Type 0
+AreClassesOf g node all = AreReached g instance_route node all.classes.keys all.reads
+
+-- of each class, the classes above it
+abbrev pub AreAllWider : Graph → List (ℕ × Wider) → Type 0
+AreAllWider g entries = All (λ entry. AreWider g entry.0 entry.1) entries
+
+-- what is known is right of the graph: what stands above the classes, and the classes of the last node, where
+-- they are kept
+pub record AreSuperclassesOf (known : Superclasses) (g : Graph) : Type 0 where
+  pub above : AreAllWider g known.found.entries
+  pub last : IfSome known.last.kept (λ all. AreClassesOf g known.last.node all)

@@ -1,4 +1,5 @@
 -- Words of contracts inside the crate, and the laws that its types cite; no caller needs them.
+pub mod Climbed
 pub mod Course
 pub mod HeldStates
 pub mod Laid

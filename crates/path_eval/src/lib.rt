@@ -7,6 +7,7 @@
 //! | `path_values.rt` | `values`: the nodes that a path leads to from a node, and the keys that were read |
 //! | `instance_values.rt` | SHACL instances: the classes of a node, the instances of a class, and the test |
 //! | `superclasses.rt` | `Superclasses`: the classes above a class, found once, and the test by them |
+//! | `wider.rt` | the search for what is above a class, which takes over what is known of others |
 //! | `direction.rt` | `Direction`: a path is followed forward or backward |
 //! | `edge.rt` | `Edge` and `State`: places of a path, and nodes at them |
 //! | `lay.rt` | a path laid as edges between two places |
@@ -40,6 +41,7 @@ mod rows;
 mod search;
 mod states;
 mod superclasses;
+mod wider;
 
 pub use direction::Direction;
 pub use instance_laws::{

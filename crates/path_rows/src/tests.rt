@@ -3,4 +3,5 @@ mod graphs;
 mod instances;
 mod paths;
 mod rows;
+mod superclasses;
 mod values;

@@ -13,8 +13,8 @@ pub(super) fn node(letter: &str) -> Result<Id, RowFault> {
     }
 }
 
-// What stands in a cell; `-` is for nothing.
-fn given(cell: &str) -> Result<&str, RowFault> {
+/// What stands in a cell; `-` is for nothing.
+pub(super) fn given(cell: &str) -> Result<&str, RowFault> {
     match cell {
         "" => Err(RowFault::Unread),
         "-" => Ok(""),

@@ -16,6 +16,11 @@ many: apy apx apc apb dpx
 odd: apb pqb
 types: aTb bCc cCd dCb eTe
 kinds: aTb aTc bCd cCd dCf eTf gTb
+clique: gTb hTc iTd jTe kTf bCc bCd bCe bCf cCb cCd cCe cCf dCb dCc dCe dCf eCb eCc eCd eCf fCb fCc fCd fCe
+chain: aTb gTd bCc cCd dCe eCf
+diamond: aTb gTc hTe iTd bCc bCd cCe dCe eCf
+fan: aTb kTc lTd mTe nTf oTg bCc bCd bCe bCf bCg cCh dCh eCh fCh gCh hCi iCj
+six: aTb aTc aTd aTe aTf aTg iTb iTc iTd iTe iTf jTb kTb kTc kTd kTe bCh
 ";
 
 // The terms of the letters from `z` down to `a`, so that the higher the number, the lower the term.

@@ -1,6 +1,7 @@
 -- Members that are added to those that were seen.
-use Rattle.std.specs.Prelude.{◌≡◌, ℕ, ◌+◌, ◌<◌, true, false, List, [], ◌∷◌, ◌++◌, map, flat_map, take, length}
+use Rattle.std.specs.Prelude.{◌≡◌, ℕ, Bool, ◌+◌, ◌<◌, true, false, List, [], ◌∷◌, ◌++◌, map, flat_map, take, length}
 use Rattle.std.specs.Prelude.{if◌then◌else◌, ◌==◌}
+use Rattle.std.specs.Cmp.{IsEquivalence}
 use Rattle.std.specs.List.{list_any}
 use Rattle.std.proofs.Common.{refl, sym, ap, ◌∙◌, subst, inl, inr, get_or, append_assoc, append-nil}
 use Rattle.std.proofs.lemmas.Grind.{flat_map-append}
@@ -16,23 +17,27 @@ use Rattle.path_eval.specs.declared.edge.State.{State}
 use Rattle.path_eval.specs.inner.Reached.{Joins}
 use Rattle.path_eval.specs.inner.StateLaws.{same_state, same_state_equiv, same_state_exact}
 
--- an insertion adds the one state
-pub Joins-insert : (seen : List State) (t : State) → Joins seen (t ∷ []) (insert_key same_state seen t)
-Joins-insert seen t =
-    let same = λ (u : State). Contains-insert same_state same_state_equiv same_state_exact seen t u in
-    let added = elim (list_any (same_state t) seen) as
-    (λ b. (more : List State) × ((if b then seen else seen ++ t ∷ []) ≡ seen ++ more)) [
+-- an insertion adds the one member
+pub Joins-entered : {X : Type 0} (same : X → X → Bool) → IsEquivalence same
+    → ((x y : X) → same x y ≡ true → x ≡ y) → (seen : List X) (x : X) → Joins seen (x ∷ []) (insert_key same seen x)
+Joins-entered {X} same laws exact seen x =
+    let told = λ (y : X). Contains-insert same laws exact seen x y in
+    let added = elim (list_any (same x) seen) as
+    (λ b. (more : List X) × ((if b then seen else seen ++ x ∷ []) ≡ seen ++ more)) [
       | true ↦ ([], sym (append-nil seen))
-      | false ↦ (t ∷ [], refl)
+      | false ↦ (x ∷ [], refl)
     ] in
     record {
       rest = added.0;
       begins = added.1;
-      each = λ u. (
-        λ c. elim ((same u).0 c) [ inl held ↦ inl held | inr e ↦ inr ((Contains-one t u).1 e) ],
-        λ h. (same u).1 (elim h [ inl held ↦ inl held | inr one ↦ inr ((Contains-one t u).0 one) ]),
+      each = λ y. (
+        λ c. elim ((told y).0 c) [ inl held ↦ inl held | inr e ↦ inr ((Contains-one x y).1 e) ],
+        λ h. (told y).1 (elim h [ inl held ↦ inl held | inr one ↦ inr ((Contains-one x y).0 one) ]),
       );
     }
+
+pub Joins-insert : (seen : List State) (t : State) → Joins seen (t ∷ []) (insert_key same_state seen t)
+Joins-insert seen t = Joins-entered same_state same_state_equiv same_state_exact seen t
 
 module _ {X : Type 0} where
   pub Joins-none : (seen : List X) → Joins seen [] seen
@@ -64,6 +69,13 @@ module _ {X : Type 0} where
       ]),
     );
   }
+
+  -- a step of a loop that adds one element after the other
+  pub Joins-take_one : (xs : List X) (i : ℕ) (d : X) → i < length xs → {old mid new : List X}
+      → Joins old (take i xs) mid → Joins mid (get_or xs i d ∷ []) new → Joins old (take (i + 1) xs) new
+  Joins-take_one xs i d inside {old} {mid} {new} before step =
+      subst (λ ys. Joins old ys new) (sym (take_more xs i d inside))
+      (Joins-then (take i xs) (get_or xs i d ∷ []) before step)
 
 module _ {A X : Type 0} where
   -- of one element more, what is made of it is more

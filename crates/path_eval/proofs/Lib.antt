@@ -21,3 +21,4 @@ pub mod SubLemmas
 pub mod SuperclassLemmas
 pub mod ThroughLemmas
 pub mod ValueLemmas
+pub mod WiderLemmas

@@ -10,22 +10,23 @@ use Rattle.std.proofs.lemmas.Bool.Decides.{Decides-like, same_from_decides}
 use Rattle.std.proofs.lemmas.List.Elements.{All-cons, All-head, All-tail, All-nil, All-contains}
 use Rattle.std.proofs.lemmas.List.Folds.{list_any-append}
 use Rattle.std.proofs.lemmas.Map.Views.{Contains-from_lookup}
-use Rattle.indexmap.specs.IndexMap.{get, insert_entry}
+use Rattle.indexmap.specs.IndexMap.{insert_entry}
 use Rattle.shx_term.specs.Members.{Adds, SameMembers}
 use Rattle.shx_term.specs.declared.vocabulary.TheConstants.{RDF_TYPE}
 use Rattle.shx_term.proofs.IdOrderLemmas.{in_term_order_lists}
 use Rattle.shx_term.proofs.MemberLemmas.{Contains-test, flat_map_agree, none_in_empty}
-use Rattle.shx_term.proofs.SetLemmas.{SameMembers-is, SameMembers-parts, SameMembers-sym, SameMembers-then}
+use Rattle.shx_term.proofs.SetLemmas.{Adds-same, Adds-then, SameMembers-is, SameMembers-parts, SameMembers-sym}
+use Rattle.shx_term.proofs.SetLemmas.{SameMembers-then}
 use Rattle.graph_view.specs.declared.key.Key.{Key}
 use Rattle.graph_view.specs.Graph.{Graph}
 use Rattle.path_eval.specs.declared.direction.Direction.TheVariants.{Forward}
-use Rattle.path_eval.specs.declared.superclasses.Superclasses.{Superclasses}
-use Rattle.path_eval.specs.declared.superclasses.Wider.{Wider}
+use Rattle.path_eval.specs.declared.wider.Wider.{Wider}
 use Rattle.path_eval.specs.Instances.{instance_route, is_instance}
 use Rattle.path_eval.specs.Relation.{step_key}
-use Rattle.path_eval.specs.Superclasses.{AreSuperclassesOf, AreWider, superclass_route}
+use Rattle.path_eval.specs.Superclasses.{AreAllWider, AreClassesOf, AreWider, superclass_route}
 use Rattle.path_eval.specs.Values.{nodes_reached, path_reads}
 use Rattle.path_eval.specs.Way.{stay, step_to, way}
+use Rattle.path_eval.specs.inner.Reached.{Joins}
 use Rattle.path_eval.proofs.JoinLemmas.{flat_map-more}
 
 -- what is added to nothing
@@ -36,6 +37,11 @@ SameMembers-added new more adds = record {
     λ c. (adds.each x).1 (inr c),
   );
 }
+
+-- what joins others adds what has their members
+pub Joins-adds : {X : Type 0} (xs ys : List X) → SameMembers xs ys → {old new : List X} → Joins old xs new
+    → Adds old new ys
+Joins-adds xs ys same joins = Adds-same xs ys same (record { each = joins.each })
 
 -- ---- entries of a map
 
@@ -57,12 +63,11 @@ module _ {W : Type 0} (P : ℕ × W → Type 0) where
 
 -- an entry is right of a graph
 abbrev pub IsRight : Graph → ℕ × Wider → Type 0
-IsRight g entry = AreWider g entry.0 entry.1.classes.keys entry.1.reads
+IsRight g entry = AreWider g entry.0 entry.1
 
-pub found_wider : (g : Graph) (known : Superclasses) → AreSuperclassesOf known g → (class : ℕ) (wider : Wider)
-    → get nat_eq known.found class ≡ Some wider → AreWider g class wider.classes.keys wider.reads
-found_wider g known right class wider found =
-    All-found (IsRight g) known.found.entries class wider right found
+pub found_wider : (g : Graph) (es : List (ℕ × Wider)) → AreAllWider g es → (class : ℕ) (wider : Wider)
+    → lookup (nat_eq class) es ≡ Some wider → AreWider g class wider
+found_wider g es right class wider found = All-found (IsRight g) es class wider right found
 
 -- ---- tests of members
 
@@ -122,12 +127,30 @@ module _ (g : Graph) (node : ℕ) where
         sym (ap (λ keys. reads_above z ++ keys) (reads_nothing (reached z)) ∙ append-nil (reads_above z)))
         ∙ ap (flat_map both) are)
 
-    pub instance_any : (class : ℕ) → list_any (nat_eq class) (flat_map above types) ≡ is_instance g node class
-    instance_any class =
+    pub instance_classes : SameMembers (flat_map above types) (nodes_reached g Forward instance_route node)
+    instance_classes =
         let there = in_term_order_lists g.terms (flat_map whole (step_to g Forward RDF_TYPE node)) in
-        any_alike class (flat_map above types) (nodes_reached g Forward instance_route node)
-        (SameMembers-then (SameMembers-parts above whole types (λ z c. above_whole z))
+        SameMembers-then (SameMembers-parts above whole types (λ z c. above_whole z))
         (SameMembers-then
         (SameMembers-is (flat_map whole types) (flat_map whole (step_to g Forward RDF_TYPE node))
         (ap (flat_map whole) are))
-        (SameMembers-sym (record { each = there.each }))))
+        (SameMembers-sym (record { each = there.each })))
+
+    pub instance_any : (class : ℕ) → list_any (nat_eq class) (flat_map above types) ≡ is_instance g node class
+    instance_any class =
+        any_alike class (flat_map above types) (nodes_reached g Forward instance_route node) instance_classes
+
+    -- what is gathered from the types of a node are its classes
+    pub gathered : (all : Wider) (first : List Key) → Adds [] first (step_key Forward RDF_TYPE node ∷ [])
+        → Adds [] all.classes.keys (flat_map above types) → Adds first all.reads (flat_map reads_above types)
+        → AreClassesOf g node all
+    gathered all first key classes keys = record {
+      classes = SameMembers-then (SameMembers-added all.classes.keys (flat_map above types) classes)
+          instance_classes;
+      keys =
+          SameMembers-then
+          (SameMembers-added all.reads (step_key Forward RDF_TYPE node ∷ flat_map reads_above types)
+          (Adds-then (step_key Forward RDF_TYPE node ∷ []) (flat_map reads_above types) key keys))
+          (SameMembers-is (step_key Forward RDF_TYPE node ∷ flat_map reads_above types)
+          (path_reads g Forward instance_route node) instance_reads);
+    }

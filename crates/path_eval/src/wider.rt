@@ -1,11 +1,11 @@
 //! Classes with what was read on the way to them, and the search for what is above a class, which takes over
 //! what is known of others.
-ghost use Rattle.std.specs.Prelude.{◌≡◌, ◌↔◌, ℕ, [], ◌∷◌, Contains, IfOk, IsTrue, OnOk, nat_eq};
+ghost use Rattle.std.specs.Prelude.{◌≡◌, ◌↔◌, [], ◌∷◌, Contains, IfOk, IsTrue, OnOk, nat_eq};
 ghost use Rattle.std.specs.List.{list_any};
 ghost use Rattle.shx_term.specs.Members.{Adds};
-ghost use Rattle.graph_view.specs.Graph.{Graph, AllKnown};
+ghost use Rattle.graph_view.specs.Graph.{AllKnown};
 ghost use Rattle.path_eval.specs.Superclasses.{AreAllWider, AreWider};
-ghost use Rattle.path_eval.specs.inner.Climbed.{Follows, Grows, IsAbove, Meets, class_key};
+ghost use Rattle.path_eval.specs.inner.Climbed.{Follows, Meets, TakesOver, class_key};
 ghost use Rattle.path_eval.specs.inner.Reached.{Joins};
 
 use crate::Direction;
@@ -91,13 +91,10 @@ impl Climb {
         self.wider.reads.has(&Key::Out(class, RDFS_SUB_CLASS_OF))
     }
 
-    // Takes over what is above a class, unless such classes overlap too much: in all it takes no more than
-    // twice what is found, and what is looked up.
+    // Takes over what is known of a class. What overlaps too much is left to be looked up: in all no more is
+    // taken over than twice what is found, and as much as is looked up.
     fn take_over(&mut self, known: &Wider) -> Result<(), Memory>
-        ensures { (g : Graph) → AllKnown g → (class from : ℕ) → AreWider g class known.now
-            → IsAbove g from class
-            → OnOk result (Grows g from self.old.wider.classes.keys self.old.wider.reads
-            self.new.wider.classes.keys self.new.wider.reads) }
+        ensures { OnOk result (TakesOver known.now self.old.wider self.new.wider) }
     {
         let more = known.classes.len();
         let most = more.max(self.wider.classes.len()).saturating_mul(2);
@@ -106,7 +103,8 @@ impl Climb {
             return Ok(());
         }
         self.taken = taken;
-        self.wider.add_all(known)
+        self.wider.add_all(known)?;
+        Ok(())
     }
 
     // Adds a class that was met. Where it is known, it takes over what is above it.

@@ -7,7 +7,7 @@ use Rattle.graph_view.specs.Graph.{Graph, AllKnown}
 use Rattle.path_eval.specs.declared.wider.Wider.{Wider}
 use Rattle.path_eval.specs.Relation.{PathRelates}
 use Rattle.path_eval.specs.Route.{along}
-use Rattle.path_eval.specs.Superclasses.{AreAllWider, superclass_route}
+use Rattle.path_eval.specs.Superclasses.{AreAllWider, AreWider, superclass_route}
 
 -- y stands directly above x
 abbrev pub IsNext : Graph → ℕ → ℕ → Type 0
@@ -35,18 +35,28 @@ pub record Grows (g : Graph) (from : ℕ) (met : List ℕ) (read : List Key) (me
   pub rest : List ℕ
   pub begins : met' ≡ met ++ rest
   pub keeps : (k : Key) → Contains read k → Contains read' k
-  pub met : (y : ℕ) → Contains met' y → Contains met y ⊎ IsAbove g from y
-  pub read : (k : Key) → Contains read' k → Contains read k ⊎ IsFollowed g from met' k
+  pub only : (y : ℕ) → Contains met' y → Contains met y ⊎ IsAbove g from y
+  pub followed : (k : Key) → Contains read' k → Contains read k ⊎ IsFollowed g from met' k
 
--- classes were met; whatever graph the known entries are right of, and of whatever class these are above,
--- nothing is met and read but what is above it
+abbrev pub GrowsTo : Graph → ℕ → Wider → Wider → Type 0
+GrowsTo g from old new = Grows g from old.classes.keys old.reads new.classes.keys new.reads
+
+-- what was met stays met; if what is known is right of a class in a graph, and the class is above another, no
+-- more is met than what is above that
+pub record TakesOver (known old new : Wider) : Type 0 where
+  pub held : (y : ℕ) → Contains old.classes.keys y → Contains new.classes.keys y
+  pub grows : (g : Graph) → AllKnown g → (class from : ℕ) → AreWider g class known → IsAbove g from class
+      → GrowsTo g from old new
+
+-- classes were met; if what is known is right of a graph, and these are above another, no more is met than
+-- what is above that
 pub record Meets (known : List (ℕ × Wider)) (classes : List ℕ) (old new : Wider) : Type 0 where
   pub here : (y : ℕ) → Contains classes y → Contains new.classes.keys y
+  pub held : (y : ℕ) → Contains old.classes.keys y → Contains new.classes.keys y
   pub grows : (g : Graph) → AllKnown g → AreAllWider g known → (from : ℕ)
-      → ((y : ℕ) → Contains classes y → IsAbove g from y)
-      → Grows g from old.classes.keys old.reads new.classes.keys new.reads
+      → ((y : ℕ) → Contains classes y → IsAbove g from y) → GrowsTo g from old new
 
--- a class was followed
+-- a class was looked up, and what is above it was met
 pub record Follows (g : Graph) (class : ℕ) (old new : Wider) : Type 0 where
-  pub grows : Grows g class old.classes.keys old.reads new.classes.keys new.reads
+  pub grows : GrowsTo g class old new
   pub read : Contains new.reads (class_key class)

@@ -1,6 +1,10 @@
 //! Whether a node is an instance, by what was found for others, one question a line: a graph by its name; what
 //! is asked before, `ab` for a node a and a class b; the question, in the same way, and its answer; the keys that
 //! are read, and those of them that are looked up for it, since the others are known from before.
+ghost use Rattle.std.specs.Prelude.{IfOk};
+ghost use Rattle.graph_view.specs.ListGraph.{plain_graph};
+ghost use Rattle.path_eval.specs.Superclasses.{AreSuperclassesOf};
+
 use super::cells::{given, keys};
 use super::graphs::{graph, number};
 use due_view::DueView;
@@ -61,7 +65,10 @@ fn ask<V: GraphView, N: Notes>(
     known: &mut Superclasses,
     word: &str,
     reads: &mut N,
-) -> Result<bool, RowFault> {
+) -> Result<bool, RowFault>
+    requires known { AreSuperclassesOf known.old (V.graph view.now) }
+    ensures known { AreSuperclassesOf known.new (V.graph view.now) }
+{
     let [tested, class] = word.as_bytes() else {
         return Err(RowFault::Unread);
     };
@@ -70,7 +77,9 @@ fn ask<V: GraphView, N: Notes>(
 }
 
 // What is known once these were asked.
-fn asked(alloc: Global, graph: &ListGraph, words: &str) -> Result<Superclasses, RowFault> {
+fn asked(alloc: Global, graph: &ListGraph, words: &str) -> Result<Superclasses, RowFault>
+    ensures { IfOk result (λ known. AreSuperclassesOf known (plain_graph graph.now)) }
+{
     let mut known = Superclasses::new(alloc);
     for word in given(words)?.split_whitespace() {
         ask(alloc, graph, &mut known, word, &mut Unnoted::new(alloc))?;

@@ -1,61 +1,48 @@
-use Rattle.std.specs.Prelude.{◌∷◌, [], flat_map, take}
-use Rattle.std.proofs.Common.{refl, subst, ◌∙◌}
-use Rattle.std.proofs.lemmas.List.{take_all}
+use Rattle.std.specs.Prelude.{◌≡◌, nat_eq, [], ◌∷◌, flat_map}
+use Rattle.std.specs.List.{list_any}
+use Rattle.std.proofs.Common.{subst, ◌∙◌}
+use Rattle.std.proofs.lemmas.Result.{IfOk-weaker, on_ok_weaker}
 use Rattle.shx_term.specs.declared.vocabulary.TheConstants.{RDF_TYPE}
 use Rattle.path_eval.specs.declared.direction.Direction.TheVariants.{Forward}
+use Rattle.path_eval.specs.Instances.{instance_route, is_instance}
 use Rattle.path_eval.specs.Relation.{step_key}
 use Rattle.path_eval.specs.Superclasses.{superclass_route}
 use Rattle.path_eval.specs.Values.{nodes_reached, path_reads}
-use Rattle.path_eval.proofs.JoinLemmas.{notes-take_list}
-use Rattle.path_eval.proofs.SuperclassLemmas.{any_more, instance_any, instance_reads}
+use Rattle.path_eval.proofs.SuperclassLemmas.{any_alike, instance_any, instance_reads}
 use Rattle.path_eval.proofs.superclasses.Superclasses.is_instance.Goals as goal
 
-pub loop-kind-init : goal.loop-kind-init
-loop-kind-init g c = record {
-  known = c.requires.known;
-  is = refl;
-  reads = g.met.N.Notes.laws.none c.step.new.reads;
-}
-
-pub is_wider-requires : goal.is_wider-requires
-is_wider-requires g c = record { known = c.loop-kind.invariant.known }
-
-pub loop-kind-preserved : goal.loop-kind-preserved
-loop-kind-preserved g c =
+pub returns-in-Some-clause-is : goal.returns-in-Some-clause-is
+returns-in-Some-clause-is g c =
     let graph = g.V.GraphView.graph c.args.view.now in
-    let items = c.deref-kind-items.result.now in
-    let at = c.loop-kind.kind-index in
-    record {
-      known = c.is_wider.ensures.known;
-      is = any_more c.args.class (nodes_reached graph Forward superclass_route) items at _
-          c.loop-kind-test.true c.loop-kind.is c.in_ok-wider.wider c.loop-kind.invariant.is
-          c.in_ok-wider.ensures.is;
-      reads = notes-take_list g.met.N.Notes.laws (path_reads graph Forward superclass_route) items at _
-          c.loop-kind-test.true c.loop-kind.invariant.reads c.in_ok-wider.ensures.reads;
-    }
-
-pub returns-clause-known : goal.returns-clause-known
-returns-clause-known g c = c.loop-kind.invariant.known
+    let all = c.in-Some.all.now in
+    let class = c.args.class in
+    let right = c.in-Some.ensures graph c.requires.known in
+    IfOk-weaker c.tell.result (λ is. is ≡ list_any (nat_eq class) all.classes.keys)
+    (λ is. is ≡ is_instance graph c.args.node class)
+    (λ is told. told
+    ∙ any_alike class all.classes.keys (nodes_reached graph Forward instance_route c.args.node) right.classes)
+    c.tell.ensures.is
 
 pub returns-clause-is : goal.returns-clause-is
 returns-clause-is g c =
-    let items = c.deref-kind-items.result.now in
-    let at = c.loop-kind.kind-index in
-    c.loop-kind.invariant.is
-    ∙ instance_any (g.V.GraphView.graph c.args.view.now) c.args.node (take at items)
-    (take_all at items c.loop-kind-test.false ∙ c.deref-kind-items.ensures.value
-    ∙ c.in_ok-types.ensures.found)
-    c.args.class
+    let graph = g.V.GraphView.graph c.args.view.now in
+    let types = c.deref-2.result.now in
+    let class = c.args.class in
+    IfOk-weaker c.is_of_any.result
+    (λ is. is ≡ list_any (nat_eq class) (flat_map (nodes_reached graph Forward superclass_route) types))
+    (λ is. is ≡ is_instance graph c.args.node class)
+    (λ is told. told
+    ∙ instance_any graph c.args.node types (c.deref-2.ensures.value ∙ c.in_ok-types.ensures.found) class)
+    c.is_of_any.ensures.is
 
 pub returns-clause-reads : goal.returns-clause-reads
 returns-clause-reads g c =
     let graph = g.V.GraphView.graph c.args.view.now in
-    let items = c.deref-kind-items.result.now in
-    let at = c.loop-kind.kind-index in
+    let types = c.deref-2.result.now in
     let keys = step_key Forward RDF_TYPE c.args.node ∷ [] in
-    let more = flat_map (path_reads graph Forward superclass_route) (take at items) in
-    subst (g.N.Notes.notes c.args.reads.now c.loop-kind.reads)
-    (instance_reads graph c.args.node (take at items)
-    (take_all at items c.loop-kind-test.false ∙ c.deref-kind-items.ensures.value
-    ∙ c.in_ok-types.ensures.found))
-    (g.met.N.Notes.laws.then keys more c.in_ok-types.ensures.reads c.loop-kind.invariant.reads)
+    let more = flat_map (path_reads graph Forward superclass_route) types in
+    on_ok_weaker c.is_of_any.result
+    (λ noted. subst (g.N.Notes.notes c.args.reads.now c.is_of_any.new.reads)
+    (instance_reads graph c.args.node types (c.deref-2.ensures.value ∙ c.in_ok-types.ensures.found))
+    (g.met.N.Notes.laws.then keys more c.in_ok-types.ensures.reads noted))
+    c.is_of_any.ensures.reads

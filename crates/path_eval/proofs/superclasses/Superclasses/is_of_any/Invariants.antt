@@ -3,12 +3,12 @@ use Rattle.std.specs.List.{list_any}
 use Rattle.path_eval.specs.declared.direction.Direction.TheVariants.{Forward}
 use Rattle.path_eval.specs.Superclasses.{AreSuperclassesOf, superclass_route}
 use Rattle.path_eval.specs.Values.{nodes_reached, path_reads}
-use Rattle.path_eval.proofs.superclasses.Superclasses.is_instance.Given as goal
+use Rattle.path_eval.proofs.superclasses.Superclasses.is_of_any.Given as goal
 
 abbrev pub invariant-loop-kind : goal.invariant-loop-kind
 invariant-loop-kind g l =
     let graph = g.V.GraphView.graph l.view in
-    let done = take l.kind-index l.kind-items in
+    let done = take l.kind-index l.types in
     record {
       known : AreSuperclassesOf l.self graph;
       is : l.is ≡ list_any (nat_eq l.class) (flat_map (nodes_reached graph Forward superclass_route) done);

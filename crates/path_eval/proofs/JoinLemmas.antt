@@ -1,6 +1,6 @@
 -- Members that are added to those that were seen.
-use Rattle.std.specs.Prelude.{◌≡◌, ℕ, Bool, ◌+◌, ◌<◌, true, false, List, [], ◌∷◌, ◌++◌, map, flat_map, take, length}
-use Rattle.std.specs.Prelude.{if◌then◌else◌, ◌==◌}
+use Rattle.std.specs.Prelude.{◌≡◌, ℕ, Bool, ◌+◌, ◌<◌, true, false, List, [], ◌∷◌, ◌++◌, map, flat_map, take}
+use Rattle.std.specs.Prelude.{length, if◌then◌else◌, ◌==◌}
 use Rattle.std.specs.Cmp.{IsEquivalence}
 use Rattle.std.specs.List.{list_any}
 use Rattle.std.proofs.Common.{refl, sym, ap, ◌∙◌, subst, inl, inr, get_or, append_assoc, append-nil}
@@ -19,7 +19,8 @@ use Rattle.path_eval.specs.inner.StateLaws.{same_state, same_state_equiv, same_s
 
 -- an insertion adds the one member
 pub Joins-entered : {X : Type 0} (same : X → X → Bool) → IsEquivalence same
-    → ((x y : X) → same x y ≡ true → x ≡ y) → (seen : List X) (x : X) → Joins seen (x ∷ []) (insert_key same seen x)
+    → ((x y : X) → same x y ≡ true → x ≡ y) → (seen : List X) (x : X)
+    → Joins seen (x ∷ []) (insert_key same seen x)
 Joins-entered {X} same laws exact seen x =
     let told = λ (y : X). Contains-insert same laws exact seen x y in
     let added = elim (list_any (same x) seen) as

@@ -15,8 +15,8 @@ use Rattle.shx_term.specs.Members.{Adds, SameMembers}
 use Rattle.shx_term.specs.declared.vocabulary.TheConstants.{RDF_TYPE}
 use Rattle.shx_term.proofs.IdOrderLemmas.{in_term_order_lists}
 use Rattle.shx_term.proofs.MemberLemmas.{Contains-test, flat_map_agree, none_in_empty}
-use Rattle.shx_term.proofs.SetLemmas.{Adds-same, Adds-then, SameMembers-is, SameMembers-parts, SameMembers-sym}
-use Rattle.shx_term.proofs.SetLemmas.{SameMembers-then}
+use Rattle.shx_term.proofs.SetLemmas.{Adds-same, Adds-then, SameMembers-is, SameMembers-parts}
+use Rattle.shx_term.proofs.SetLemmas.{SameMembers-sym, SameMembers-then}
 use Rattle.graph_view.specs.declared.key.Key.{Key}
 use Rattle.graph_view.specs.Graph.{Graph}
 use Rattle.path_eval.specs.declared.direction.Direction.TheVariants.{Forward}

@@ -6,7 +6,8 @@ use Rattle.std.specs.List.{list_any}
 use Rattle.std.proofs.Common.{refl, sym, ap, ◌∙◌, subst, inl, inr, get_or, arith, append_assoc, append-nil}
 use Rattle.std.proofs.lemmas.Bool.{eqb-true}
 use Rattle.std.proofs.lemmas.List.{take_all, take_more, take-append-le, length-append, get_or_default}
-use Rattle.std.proofs.lemmas.List.Elements.{Contains-append_left, Contains-append_right, Contains-append_cases}
+use Rattle.std.proofs.lemmas.List.Elements.{Contains-append_left, Contains-append_right}
+use Rattle.std.proofs.lemmas.List.Elements.{Contains-append_cases}
 use Rattle.indexmap.specs.IndexSet.{insert_key}
 use Rattle.shx_term.specs.Members.{Adds}
 use Rattle.shx_term.specs.declared.vocabulary.TheConstants.{RDFS_SUB_CLASS_OF}
@@ -219,11 +220,13 @@ pub Follows-read : (g : Graph) (class : ℕ) (old : Wider) → Contains old.read
     → Follows g class old old
 Follows-read g class old c = record { grows = Grows-none g class old.classes.keys old.reads; read = c }
 
-module _ (g : Graph) (all : AllKnown g) (known : List (ℕ × Wider)) (right : AreAllWider g known) (class : ℕ) where
+module _ (g : Graph) (all : AllKnown g) (known : List (ℕ × Wider)) (right : AreAllWider g known)
+    (class : ℕ) where
   pub Follows-met : (old mid new : Wider) (above : List ℕ) → above ≡ step_to g Forward RDFS_SUB_CLASS_OF class
       → mid.classes.keys ≡ old.classes.keys → Adds old.reads mid.reads (class_key class ∷ [])
       → Meets known above mid new → Follows g class old new
   Follows-met old mid new above are same adds meets =
+      let key = class_key class in
       let next = λ (y : ℕ). Contains-objects_of g class RDFS_SUB_CLASS_OF y in
       let grown = meets.grows g all right class
       (λ y c. above_next g class y ((next y).0 (subst (λ ys. Contains ys y) are c))) in
@@ -241,7 +244,7 @@ module _ (g : Graph) (all : AllKnown g) (known : List (ℕ × Wider)) (right : A
               | inl e ↦ inl e
               | inr one ↦ inr (record {
                 class = class;
-                is = (Contains-one (class_key class) k).0 one;
+                is = (Contains-one key k).0 one;
                 above = above_itself g class;
                 next = λ y n. meets.here y (subst (λ ys. Contains ys y) (sym are) ((next y).1 n));
               })
@@ -249,8 +252,7 @@ module _ (g : Graph) (all : AllKnown g) (known : List (ℕ × Wider)) (right : A
             | inr f ↦ inr f
           ];
         };
-        read = grown.keeps (class_key class)
-            ((adds.each (class_key class)).1 (inr ((Contains-one (class_key class) (class_key class)).1 refl)));
+        read = grown.keeps key ((adds.each key).1 (inr ((Contains-one key key).1 refl)));
       }
 
 -- ---- the whole search
@@ -325,7 +327,8 @@ module _ (g : Graph) (class : ℕ) where
 
   -- once all is followed, it is what stands above the class
   module _ (all : AllKnown g) (wider : Wider) (at : ℕ)
-      (climbed : Climbed g class wider.classes.keys wider.reads at) (done : length wider.classes.keys ≤ at) where
+      (climbed : Climbed g class wider.classes.keys wider.reads at)
+      (done : length wider.classes.keys ≤ at) where
     abbrev met : List ℕ
     met = wider.classes.keys
 

@@ -7,6 +7,7 @@
 //! | `path_values.rt` | `values`: the nodes that a path leads to from a node, and the keys that were read |
 //! | `instance_values.rt` | SHACL instances: the classes of a node, the instances of a class, and the test |
 //! | `superclasses.rt` | `Superclasses`: the classes above a class, found once, and the test by them |
+//! | `last_node.rt` | the node of many types that is asked about again and again, whose classes are kept |
 //! | `wider.rt` | the search for what is above a class, which takes over what is known of others |
 //! | `direction.rt` | `Direction`: a path is followed forward or backward |
 //! | `edge.rt` | `Edge` and `State`: places of a path, and nodes at them |
@@ -31,6 +32,7 @@ mod edge;
 mod held;
 mod instance_laws;
 mod instance_values;
+mod last_node;
 mod laws;
 mod lay;
 mod path;

@@ -1,18 +1,18 @@
 //! The classes above a class, found once, and those of the node that is asked again and again.
-ghost use Rattle.std.specs.Prelude.{◌≡◌, flat_map, IfOk, IfSome, IsSome, OnOk, nat_eq};
+ghost use Rattle.std.specs.Prelude.{◌≡◌, flat_map, IfOk, IsSome, OnOk, nat_eq};
 ghost use Rattle.std.specs.List.{list_any};
 ghost use Rattle.indexmap.specs.IndexMap.{get};
-ghost use Rattle.shx_term.specs.Members.{Adds};
-ghost use Rattle.graph_view.specs.Graph.{Graph, objects_of};
+ghost use Rattle.graph_view.specs.Graph.{Graph};
 ghost use Rattle.path_eval.specs.declared.direction.Direction.{Direction};
 ghost use Rattle.path_eval.specs.Instances.{instance_route, is_instance};
-ghost use Rattle.path_eval.specs.Superclasses.{AreClassesOf, AreSuperclassesOf, superclass_route};
+ghost use Rattle.path_eval.specs.Superclasses.{AreSuperclassesOf, superclass_route};
 ghost use Rattle.path_eval.specs.Values.{nodes_reached, path_reads};
 
 use crate::Direction;
+use crate::last_node::{FEW, Last};
 use crate::search::step;
 use crate::wider::{Wider, wider_than};
-use graph_view::{GraphView, Key, Notes};
+use graph_view::{GraphView, Notes};
 use indexmap::IndexMap;
 use shx_term::vocabulary::RDF_TYPE;
 use shx_term::{Id, Memory};
@@ -21,25 +21,13 @@ use std::alloc::Global;
 // How many classes may be known in all, each as often as it stands above another.
 const MOST: usize = 1_000_000;
 
-// A node of more types than these has its classes kept once it was asked about as often in a row.
-const FEW: usize = 4;
-
 /// Of classes that were asked about, the classes above them, with what was read to find these. They are right
 /// of one graph.
 #[derive(Drop)]
 pub struct Superclasses {
-    found: IndexMap<Id, Wider>,
+    pub(crate) found: IndexMap<Id, Wider>,
     known: usize,
-    last: Last,
-}
-
-/// The node of many types that was asked about last: how often in a row, and its classes once they are kept.
-/// Each class is there once, so that they are no more than the graph has terms.
-#[derive(Drop)]
-struct Last {
-    node: Id,
-    asked: usize,
-    kept: Option<Wider>,
+    pub(crate) last: Last,
 }
 
 impl Superclasses {
@@ -50,11 +38,7 @@ impl Superclasses {
         Superclasses {
             found: IndexMap::new(alloc),
             known: 0,
-            last: Last {
-                node: 0,
-                asked: 0,
-                kept: None,
-            },
+            last: Last::new(),
         }
     }
 
@@ -83,17 +67,6 @@ impl Superclasses {
             self.ask_again(alloc, view, node, &types)?;
         }
         self.is_of_any(alloc, view, &types, class, reads)
-    }
-
-    // The classes of a node, where they are kept.
-    fn kept_of(&self, node: Id) -> Option<&Wider>
-        ensures { (g : Graph) → AreSuperclassesOf self.now g
-            → IfSome result (λ all. AreClassesOf g node all.now) }
-    {
-        if self.last.node != node {
-            return None;
-        }
-        self.last.kept.as_ref()
     }
 
     // Whether a class is one of some types, or is above one.
@@ -143,8 +116,13 @@ impl Superclasses {
         }
     }
 
-    // Sees to it that what is above a class is known.
-    fn find<V: GraphView>(&mut self, alloc: Global, view: &V, class: Id) -> Result<(), Memory>
+    /// Sees to it that what is above a class is known.
+    pub(crate) fn find<V: GraphView>(
+        &mut self,
+        alloc: Global,
+        view: &V,
+        class: Id,
+    ) -> Result<(), Memory>
         requires known { AreSuperclassesOf self.old (V.graph view.now) }
         ensures known { AreSuperclassesOf self.new (V.graph view.now) }
         ensures found { OnOk result (IsSome (get nat_eq self.new.found class)) }
@@ -169,80 +147,5 @@ impl Superclasses {
             return;
         }
         self.known = known;
-    }
-
-    // How often in a row a node of many types was asked about.
-    fn asked_before(&self, node: Id) -> usize {
-        if self.last.node == node {
-            self.last.asked
-        } else {
-            0
-        }
-    }
-
-    // Counts how often a node of these types is asked about in a row, and keeps its classes once that is often.
-    fn ask_again<V: GraphView>(
-        &mut self,
-        alloc: Global,
-        view: &V,
-        node: Id,
-        types: &[Id],
-    ) -> Result<(), Memory>
-        requires known { AreSuperclassesOf self.old (V.graph view.now) }
-        requires types { types.now ≡ objects_of (V.graph view.now) node RDF_TYPE }
-        ensures known { AreSuperclassesOf self.new (V.graph view.now) }
-    {
-        let asked = self.asked_before(node).saturating_add(1);
-        let kept = None;
-        self.last = Last { node, asked, kept };
-        if asked <= FEW {
-            return Ok(());
-        }
-        let kept = Some(self.all_of(alloc, view, node, types)?);
-        self.last = Last { node, asked, kept };
-        Ok(())
-    }
-
-    // The classes of a node of these types.
-    fn all_of<V: GraphView>(
-        &mut self,
-        alloc: Global,
-        view: &V,
-        node: Id,
-        types: &[Id],
-    ) -> Result<Wider, Memory>
-        requires known { AreSuperclassesOf self.old (V.graph view.now) }
-        requires types { types.now ≡ objects_of (V.graph view.now) node RDF_TYPE }
-        ensures known { AreSuperclassesOf self.new (V.graph view.now) }
-        ensures all { IfOk result (λ all. AreClassesOf (V.graph view.now) node all) }
-    {
-        let mut all = Wider::new(alloc);
-        all.reads.add(Key::Out(node, RDF_TYPE))?;
-        for kind in types {
-            self.add_above(alloc, view, *kind, &mut all)?;
-        }
-        Ok(all)
-    }
-
-    // Adds a class, and those above it, to others.
-    fn add_above<V: GraphView>(
-        &mut self,
-        alloc: Global,
-        view: &V,
-        class: Id,
-        all: &mut Wider,
-    ) -> Result<(), Memory>
-        requires known { AreSuperclassesOf self.old (V.graph view.now) }
-        ensures known { AreSuperclassesOf self.new (V.graph view.now) }
-        ensures classes { OnOk result (Adds all.old.classes.keys all.new.classes.keys
-            (nodes_reached (V.graph view.now) Direction.Forward superclass_route class)) }
-        ensures reads { OnOk result (Adds all.old.reads all.new.reads
-            (path_reads (V.graph view.now) Direction.Forward superclass_route class)) }
-    {
-        self.find(alloc, view, class)?;
-        match self.found.get(&class) {
-            Some(wider) => all.add_all(wider),
-            None => unreachable!(),
-        }
     }
 }

@@ -1,6 +1,6 @@
-//! Whether a node is an instance, by what was found for others, one question a line: a graph by its name; what
-//! is asked before, `ab` for a node a and a class b; the question, in the same way, and its answer; the keys that
-//! are read, and those of them that are looked up for it, since the others are known from before.
+//! Whether a node is an instance, by what was found for others, one question a line: a graph by its name;
+//! what is asked before, `ab` for a node a and a class b; the question, in the same way, and its answer; the
+//! keys that are read, and those of them that are looked up for it, since the others are known from before.
 ghost use Rattle.std.specs.Prelude.{IfOk};
 ghost use Rattle.graph_view.specs.ListGraph.{plain_graph};
 ghost use Rattle.path_eval.specs.Superclasses.{AreSuperclassesOf};
@@ -111,7 +111,7 @@ fn is_answered(
     is_answer(is, answer)
 }
 
-// Whether the row's question has its answer, reads its keys, and looks nothing up but those that are not known.
+// Whether the row's question has its answer, reads its keys, and looks up none but those that it may.
 fn is_as_said(alloc: Global, row: &str) -> Result<bool, RowFault> {
     let (name, before, question, read) = in_four(row, " : ")?;
     let graph = graph(alloc, name)?;

@@ -21,6 +21,7 @@ loop-at-preserved g c =
 pub returns : goal.returns
 returns g c =
     let graph = g.V.GraphView.graph c.args.view.now in
+    let wider = c.loop-at.climb.wider in
     subst (AreWider graph c.args.class) (sym c.into_wider.ensures)
-    (Climbed-all graph c.args.class c.pool.ensures.known c.loop-at.climb.wider c.loop-at.at c.loop-at.invariant
+    (Climbed-all graph c.args.class c.pool.ensures.known wider c.loop-at.at c.loop-at.invariant
     (omega (arith, c.loop-at-test.false, ap length c.as_slice.ensures.keys)))

@@ -17,10 +17,10 @@ returns-in-Some-clause-is g c =
     let all = c.in-Some.all.now in
     let class = c.args.class in
     let right = c.in-Some.ensures graph c.requires.known in
-    IfOk-weaker c.tell.result (λ is. is ≡ list_any (nat_eq class) all.classes.keys)
-    (λ is. is ≡ is_instance graph c.args.node class)
-    (λ is told. told
-    ∙ any_alike class all.classes.keys (nodes_reached graph Forward instance_route c.args.node) right.classes)
+    let test = is_instance graph c.args.node class in
+    IfOk-weaker c.tell.result (λ is. is ≡ list_any (nat_eq class) all.classes.keys) (λ is. is ≡ test)
+    (λ is told. ◌∙◌ {c = test} told
+    (any_alike class all.classes.keys (nodes_reached graph Forward instance_route c.args.node) right.classes))
     c.tell.ensures.is
 
 pub returns-clause-is : goal.returns-clause-is
@@ -28,11 +28,12 @@ returns-clause-is g c =
     let graph = g.V.GraphView.graph c.args.view.now in
     let types = c.deref-2.result.now in
     let class = c.args.class in
+    let test = is_instance graph c.args.node class in
     IfOk-weaker c.is_of_any.result
     (λ is. is ≡ list_any (nat_eq class) (flat_map (nodes_reached graph Forward superclass_route) types))
-    (λ is. is ≡ is_instance graph c.args.node class)
-    (λ is told. told
-    ∙ instance_any graph c.args.node types (c.deref-2.ensures.value ∙ c.in_ok-types.ensures.found) class)
+    (λ is. is ≡ test)
+    (λ is told. ◌∙◌ {c = test} told
+    (instance_any graph c.args.node types (c.deref-2.ensures.value ∙ c.in_ok-types.ensures.found) class))
     c.is_of_any.ensures.is
 
 pub returns-clause-reads : goal.returns-clause-reads

@@ -34,6 +34,10 @@ AreAllWider g entries = All (λ entry. AreWider g entry.0 entry.1) entries
 
 -- what is known is right of the graph: what stands above the classes, and the classes of the last node, where
 -- they are kept
-pub record AreSuperclassesOf (known : Superclasses) (g : Graph) : Type 0 where
+pub record IsRightOf (known : Superclasses) (g : Graph) : Type 0 where
   pub above : AreAllWider g known.found.entries
   pub last : IfSome known.last.kept (λ all. AreClassesOf g known.last.node all)
+
+-- the same as a word that who calls passes on, and never takes apart
+unfoldable pub AreSuperclassesOf : Superclasses → Graph → Type 0
+AreSuperclassesOf known g = IsRightOf known g

@@ -3,7 +3,7 @@ ghost use Rattle.std.specs.Prelude.{◌≡◌, IfOk, IfSome, None, OnOk};
 ghost use Rattle.shx_term.specs.Members.{Adds};
 ghost use Rattle.graph_view.specs.Graph.{Graph, objects_of};
 ghost use Rattle.path_eval.specs.declared.direction.Direction.{Direction};
-ghost use Rattle.path_eval.specs.Superclasses.{AreClassesOf, AreSuperclassesOf, superclass_route};
+ghost use Rattle.path_eval.specs.Superclasses.{AreClassesOf, IsRightOf, superclass_route};
 ghost use Rattle.path_eval.specs.Values.{nodes_reached, path_reads};
 
 use crate::Superclasses;
@@ -47,7 +47,7 @@ impl Last {
 impl Superclasses {
     /// The classes of a node, where they are kept.
     pub(crate) fn kept_of(&self, node: Id) -> Option<&Wider>
-        ensures { (g : Graph) → AreSuperclassesOf self.now g
+        ensures { (g : Graph) → IsRightOf self.now g
             → IfSome result (λ all. AreClassesOf g node all.now) }
     {
         if self.last.node != node {
@@ -65,9 +65,9 @@ impl Superclasses {
         node: Id,
         types: &[Id],
     ) -> Result<(), Memory>
-        requires known { AreSuperclassesOf self.old (V.graph view.now) }
+        requires known { IsRightOf self.old (V.graph view.now) }
         requires types { types.now ≡ objects_of (V.graph view.now) node RDF_TYPE }
-        ensures known { AreSuperclassesOf self.new (V.graph view.now) }
+        ensures known { IsRightOf self.new (V.graph view.now) }
     {
         let asked = self.last.asked_before(node).saturating_add(1);
         let kept = None;
@@ -88,9 +88,9 @@ impl Superclasses {
         node: Id,
         types: &[Id],
     ) -> Result<Wider, Memory>
-        requires known { AreSuperclassesOf self.old (V.graph view.now) }
+        requires known { IsRightOf self.old (V.graph view.now) }
         requires types { types.now ≡ objects_of (V.graph view.now) node RDF_TYPE }
-        ensures known { AreSuperclassesOf self.new (V.graph view.now) }
+        ensures known { IsRightOf self.new (V.graph view.now) }
         ensures all { IfOk result (λ all. AreClassesOf (V.graph view.now) node all) }
     {
         let mut all = Wider::new(alloc);
@@ -109,8 +109,8 @@ impl Superclasses {
         class: Id,
         all: &mut Wider,
     ) -> Result<(), Memory>
-        requires known { AreSuperclassesOf self.old (V.graph view.now) }
-        ensures known { AreSuperclassesOf self.new (V.graph view.now) }
+        requires known { IsRightOf self.old (V.graph view.now) }
+        ensures known { IsRightOf self.new (V.graph view.now) }
         ensures classes { OnOk result (Adds all.old.classes.keys all.new.classes.keys
             (nodes_reached (V.graph view.now) Direction.Forward superclass_route class)) }
         ensures reads { OnOk result (Adds all.old.reads all.new.reads

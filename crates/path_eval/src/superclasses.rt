@@ -5,7 +5,7 @@ ghost use Rattle.indexmap.specs.IndexMap.{get};
 ghost use Rattle.graph_view.specs.Graph.{Graph};
 ghost use Rattle.path_eval.specs.declared.direction.Direction.{Direction};
 ghost use Rattle.path_eval.specs.Instances.{instance_route, is_instance};
-ghost use Rattle.path_eval.specs.Superclasses.{AreSuperclassesOf, superclass_route};
+ghost use Rattle.path_eval.specs.Superclasses.{AreSuperclassesOf, IsRightOf, superclass_route};
 ghost use Rattle.path_eval.specs.Values.{nodes_reached, path_reads};
 
 use crate::Direction;
@@ -59,6 +59,24 @@ impl Superclasses {
         ensures reads { OnOk result (N.notes reads.old reads.new
             (path_reads (V.graph view.now) Direction.Forward instance_route node)) }
     {
+        self.is_of_class(alloc, view, node, class, reads)
+    }
+
+    // The same, over what is known as it is taken apart.
+    fn is_of_class<V: GraphView, N: Notes>(
+        &mut self,
+        alloc: Global,
+        view: &V,
+        node: Id,
+        class: Id,
+        reads: &mut N,
+    ) -> Result<bool, Memory>
+        requires known { IsRightOf self.old (V.graph view.now) }
+        ensures known { IsRightOf self.new (V.graph view.now) }
+        ensures is { IfOk result (λ is. is ≡ is_instance (V.graph view.now) node class) }
+        ensures reads { OnOk result (N.notes reads.old reads.new
+            (path_reads (V.graph view.now) Direction.Forward instance_route node)) }
+    {
         if let Some(all) = self.kept_of(node) {
             return all.tell(class, reads);
         }
@@ -78,8 +96,8 @@ impl Superclasses {
         class: Id,
         reads: &mut N,
     ) -> Result<bool, Memory>
-        requires known { AreSuperclassesOf self.old (V.graph view.now) }
-        ensures known { AreSuperclassesOf self.new (V.graph view.now) }
+        requires known { IsRightOf self.old (V.graph view.now) }
+        ensures known { IsRightOf self.new (V.graph view.now) }
         ensures is { IfOk result (λ is. is ≡ list_any (nat_eq class)
             (flat_map (nodes_reached (V.graph view.now) Direction.Forward superclass_route) types.now)) }
         ensures reads { OnOk result (N.notes reads.old reads.new
@@ -102,8 +120,8 @@ impl Superclasses {
         class: Id,
         reads: &mut N,
     ) -> Result<bool, Memory>
-        requires known { AreSuperclassesOf self.old (V.graph view.now) }
-        ensures known { AreSuperclassesOf self.new (V.graph view.now) }
+        requires known { IsRightOf self.old (V.graph view.now) }
+        ensures known { IsRightOf self.new (V.graph view.now) }
         ensures is { IfOk result (λ is. is ≡ list_any (nat_eq class)
             (nodes_reached (V.graph view.now) Direction.Forward superclass_route kind)) }
         ensures reads { OnOk result (N.notes reads.old reads.new
@@ -123,8 +141,8 @@ impl Superclasses {
         view: &V,
         class: Id,
     ) -> Result<(), Memory>
-        requires known { AreSuperclassesOf self.old (V.graph view.now) }
-        ensures known { AreSuperclassesOf self.new (V.graph view.now) }
+        requires known { IsRightOf self.old (V.graph view.now) }
+        ensures known { IsRightOf self.new (V.graph view.now) }
         ensures found { OnOk result (IsSome (get nat_eq self.new.found class)) }
     {
         if self.found.contains_key(&class) {
@@ -138,7 +156,7 @@ impl Superclasses {
 
     // Counts so many classes more, and forgets the others where they are too many together.
     fn make_room(&mut self, more: usize)
-        ensures { (g : Graph) → AreSuperclassesOf self.old g → AreSuperclassesOf self.new g }
+        ensures { (g : Graph) → IsRightOf self.old g → IsRightOf self.new g }
     {
         let known = self.known.saturating_add(more);
         if known > MOST {

@@ -1,7 +1,7 @@
 use Rattle.std.specs.Prelude.{flat_map, take}
 use Rattle.shx_term.specs.Members.{Adds}
 use Rattle.path_eval.specs.declared.direction.Direction.TheVariants.{Forward}
-use Rattle.path_eval.specs.Superclasses.{AreSuperclassesOf, superclass_route}
+use Rattle.path_eval.specs.Superclasses.{IsRightOf, superclass_route}
 use Rattle.path_eval.specs.Values.{nodes_reached, path_reads}
 use Rattle.path_eval.proofs.superclasses.Superclasses.all_of.Given as goal
 
@@ -10,7 +10,7 @@ invariant-loop-kind g l =
     let graph = g.V.GraphView.graph l.view in
     let done = take l.kind-index l.types in
     record {
-      known : AreSuperclassesOf l.self graph;
+      known : IsRightOf l.self graph;
       classes : Adds l.initial.all.classes.keys l.all.classes.keys
           (flat_map (nodes_reached graph Forward superclass_route) done);
       reads : Adds l.initial.all.reads l.all.reads

@@ -161,7 +161,7 @@ impl Climb {
 }
 
 /// A class, and the classes of which it is a subclass, in however many steps. Each is looked up once at most,
-/// and none that is above a known class which was taken over.
+/// and not at all once a known class below it was taken over.
 pub(crate) fn wider_than<V: GraphView>(
     alloc: Global,
     view: &V,

@@ -1,7 +1,5 @@
 mod cells;
-mod graphs;
-mod instances;
 mod paths;
+mod questions;
 mod rows;
 mod superclasses;
-mod values;

@@ -1,0 +1,133 @@
+use super::cells::{are_nodes, graph, keys, node};
+use super::paths::path;
+use super::rows::{PAIRS, QUESTIONS};
+use due_view::DueView;
+use graph_view::{ListGraph, Reads};
+use path_eval::{
+    Path, a_type_tells_of_its_node_alone, classes, edits_beside_a_path, equal_paths_have_one_route,
+    instances, instances_are_told, instances_depend_on_their_reads, is_instance,
+    paths_depend_on_their_reads, paths_lead_to_what_they_relate, values,
+};
+use row_tools::{RowFault, all_met, cut, in_four, in_three};
+use shx_term::Id;
+use std::alloc::Global;
+use std::test::Fail;
+
+// Where a copy of a path leads, if it is equal.
+fn copy_values(
+    alloc: Global,
+    view: &DueView<ListGraph>,
+    path: &Path,
+    start: Id,
+    reads: &mut Reads,
+) -> Result<Vec<Id>, RowFault> {
+    let copy = path.copy(alloc)?;
+    if copy != *path {
+        return Err(RowFault::Unread);
+    }
+    Ok(values(alloc, view, &copy, start, reads)?)
+}
+
+// The classes of a node, the instances of a class, or where a path leads.
+fn found(
+    alloc: Global,
+    view: &DueView<ListGraph>,
+    asked: &str,
+    of: Id,
+    reads: &mut Reads,
+) -> Result<Vec<Id>, RowFault> {
+    match asked {
+        "classes" => Ok(classes(alloc, view, of, reads)?),
+        "instances" => Ok(instances(alloc, view, of, reads)?),
+        marks => copy_values(alloc, view, &path(alloc, marks)?, of, reads),
+    }
+}
+
+fn is_of_class(
+    alloc: Global,
+    view: &DueView<ListGraph>,
+    words: &str,
+    answer: &str,
+    reads: &mut Reads,
+) -> Result<bool, RowFault> {
+    let (tested, class) = cut(words, " ")?;
+    let is = is_instance(alloc, view, node(tested)?, node(class)?, reads)?;
+    Ok(answer == if is { "yes" } else { "no" })
+}
+
+// Whether the question has the answer.
+fn has_answer(
+    alloc: Global,
+    view: &DueView<ListGraph>,
+    question: &str,
+    answer: &str,
+    reads: &mut Reads,
+) -> Result<bool, RowFault> {
+    let (asked, of) = cut(question, " ")?;
+    if asked == "is" {
+        return is_of_class(alloc, view, of, answer, reads);
+    }
+    let found = found(alloc, view, asked, node(of)?, reads)?;
+    Ok(are_nodes(&found, answer))
+}
+
+// Whether it has, and all keys that are due were looked up, and no others.
+fn is_answered(
+    alloc: Global,
+    graph: &ListGraph,
+    question: &str,
+    answer: &str,
+    due: &Reads,
+) -> Result<bool, RowFault> {
+    let view = DueView::new(graph, due);
+    let mut reads = Reads::new(alloc);
+    Ok(has_answer(alloc, &view, question, answer, &mut reads)? && view.are_read(&reads))
+}
+
+// The same of a graph by its triples.
+fn is_answered_in(
+    alloc: Global,
+    triples: &str,
+    question: &str,
+    answer: &str,
+    due: &Reads,
+) -> Result<bool, RowFault> {
+    is_answered(alloc, &graph(alloc, triples)?, question, answer, due)
+}
+
+// Whether a row's question has its answer, and its keys are looked up.
+fn is_as_said(alloc: Global, row: &str) -> Result<bool, RowFault> {
+    let (triples, question, answer, read) = in_four(row, " : ")?;
+    is_answered_in(alloc, triples, question, answer, &keys(alloc, read)?)
+}
+
+#[test]
+fn questions_have_their_answers(rt: HostRuntime) -> Result<(), Fail> {
+    all_met(rt.alloc(), QUESTIONS, is_as_said)
+}
+
+fn is_same(alloc: Global, first: &Path, second: &str) -> Result<bool, RowFault> {
+    Ok(*first == path(alloc, second)?)
+}
+
+fn are_same_as_said(alloc: Global, row: &str) -> Result<bool, RowFault> {
+    let (first, second, said) = in_three(row, " : ")?;
+    let same = is_same(alloc, &path(alloc, first)?, second)?;
+    Ok(said == if same { "same" } else { "other" })
+}
+
+#[test]
+fn paths_are_equal_as_said(rt: HostRuntime) -> Result<(), Fail> {
+    all_met(rt.alloc(), PAIRS, are_same_as_said)
+}
+
+#[test]
+fn laws_are_at_hand() {
+    paths_lead_to_what_they_relate();
+    paths_depend_on_their_reads();
+    edits_beside_a_path();
+    equal_paths_have_one_route();
+    instances_are_told();
+    instances_depend_on_their_reads();
+    a_type_tells_of_its_node_alone();
+}

@@ -1,3 +1,4 @@
+mod claims;
 mod literals;
-mod made;
+mod rows;
 mod terms;

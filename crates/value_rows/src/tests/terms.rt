@@ -1,17 +1,14 @@
-//! Terms: which is less than which, and counts against them.
+//! Which of two terms is less than the other, and counts against terms. Wide literals are not compared.
 ghost use Rattle.std.specs.Prelude.{◌≡◌, false};
 ghost use Rattle.shx_term.specs.ValidTriples.{IsNotWide};
+ghost use Rattle.shx_term.specs.WideLiterals.{is_wide};
 
-mod counts;
-mod orders;
-
-use super::made::term_of;
-use row_tools::{RowFault, all_met, cut, in_four};
-use shx_term::Term;
+use row_tools::{RowFault, term};
+use shx_term::{Literal, Term};
 use std::alloc::Global;
-use std::test::Fail;
 use value_space::{
-    ReadLiteral, is_fewer, is_fewer_read, is_less, is_less_eq, is_more, is_more_read, wide,
+    ReadLiteral, is_fewer, is_fewer_read, is_less, is_less_eq, is_more, is_more_read, less,
+    less_eq, wide,
 };
 
 fn is_wide(term: &Term) -> bool
@@ -23,8 +20,8 @@ fn is_wide(term: &Term) -> bool
     }
 }
 
-// How a term that was read compares with another, asked in both directions.
-fn order_name(a: &Option<ReadLiteral>, b: &Option<ReadLiteral>) -> &'static str {
+// How two terms that were read compare, asked in both directions.
+fn order_of_terms(a: &Option<ReadLiteral>, b: &Option<ReadLiteral>) -> &'static str {
     match (
         is_less(a, b),
         is_less_eq(a, b),
@@ -34,30 +31,55 @@ fn order_name(a: &Option<ReadLiteral>, b: &Option<ReadLiteral>) -> &'static str 
         (true, true, false, false) => "less",
         (false, true, false, true) => "equal",
         (false, false, true, true) => "greater",
-        (false, false, false, false) => "none",
+        (false, false, false, false) => "apart",
         _ => "at odds",
     }
 }
 
-fn how_they_compare(a: &Term, b: &Term) -> &'static str {
-    if is_wide(a) || is_wide(b) {
-        return "wide";
+fn order_name(less: Option<bool>, less_eq: Option<bool>) -> &'static str {
+    match (less, less_eq) {
+        (None, None) => "apart",
+        (Some(true), Some(true)) => "less",
+        (Some(false), Some(true)) => "equal",
+        (Some(false), Some(false)) => "greater",
+        _ => "at odds",
     }
-    order_name(&ReadLiteral::of_term(a), &ReadLiteral::of_term(b))
 }
 
-// Whether a row's terms compare as the row says.
-fn has_order(alloc: Global, row: &str) -> Result<bool, RowFault> {
-    let (a, kind_a, b, rest) = in_four(row, "|")?;
-    let (kind_b, order) = cut(rest, "|")?;
-    let first = term_of(alloc, a, kind_a)?;
-    let second = term_of(alloc, b, kind_b)?;
-    Ok(how_they_compare(&first, &second) == order)
+// Whether two literals compare so, at once and once they were read.
+fn is_order(a: &Literal, b: &Literal, order: &str) -> bool
+    requires a { is_wide a.now ≡ false }
+    requires b { is_wide b.now ≡ false }
+{
+    let (first, second) = (ReadLiteral::of(a), ReadLiteral::of(b));
+    order_name(less(a, b), less_eq(a, b)) == order
+        && order_name(first.less(&second), first.less_eq(&second)) == order
 }
 
-#[test]
-fn terms_compare(rt: HostRuntime) -> Result<(), Fail> {
-    all_met(rt.alloc(), orders::TERMS, has_order)
+// Whether two terms compare so, and where both are literals, these do.
+fn compare_so(a: &Term, b: &Term, order: &str) -> bool {
+    if is_wide(a) || is_wide(b) {
+        return false;
+    }
+    if order_of_terms(&ReadLiteral::of_term(a), &ReadLiteral::of_term(b)) != order {
+        return false;
+    }
+    match (a, b) {
+        (Term::Lit(a), Term::Lit(b)) => is_order(a, b, order),
+        _ => true,
+    }
+}
+
+/// Whether the terms of two words compare so.
+pub(super) fn are_in_order(
+    alloc: Global,
+    first: &str,
+    order: &str,
+    second: &str,
+) -> Result<bool, RowFault> {
+    let first = term(alloc, first)?;
+    let second = term(alloc, second)?;
+    Ok(compare_so(&first, &second, order))
 }
 
 fn count_name(fewer: bool, more: bool) -> &'static str {
@@ -69,30 +91,25 @@ fn count_name(fewer: bool, more: bool) -> &'static str {
     }
 }
 
-// How a count compares with a term, and with the same term once it was read.
-fn how_many(count: usize, bound: &Term) -> (&'static str, &'static str) {
+// Whether a count compares so with a term, and with the same term once it was read.
+fn counts_so(count: usize, bound: &Term, answer: &str) -> bool {
     if is_wide(bound) {
-        return ("wide", "wide");
+        return answer == "wide";
     }
     let read = ReadLiteral::of_term(bound);
-    (
-        count_name(is_fewer(count, bound), is_more(count, bound)),
-        count_name(is_fewer_read(count, &read), is_more_read(count, &read)),
-    )
+    count_name(is_fewer(count, bound), is_more(count, bound)) == answer
+        && count_name(is_fewer_read(count, &read), is_more_read(count, &read)) == answer
 }
 
-// Whether a row's count compares with its term as the row says.
-fn is_counted(alloc: Global, row: &str) -> Result<bool, RowFault> {
-    let (count, form, kind, answer) = in_four(row, "|")?;
+/// Whether a count compares so with the term of a word.
+pub(super) fn is_counted(
+    alloc: Global,
+    count: &str,
+    answer: &str,
+    word: &str,
+) -> Result<bool, RowFault> {
     let Ok(count) = count.parse::<usize>() else {
         return Err(RowFault::Unread);
     };
-    let bound = term_of(alloc, form, kind)?;
-    let (at_once, by_read) = how_many(count, &bound);
-    Ok(at_once == answer && by_read == answer)
-}
-
-#[test]
-fn counts_compare(rt: HostRuntime) -> Result<(), Fail> {
-    all_met(rt.alloc(), counts::COUNTS, is_counted)
+    Ok(counts_so(count, &term(alloc, word)?, answer))
 }

@@ -62,6 +62,17 @@ loop-shape-preserved g c =
           l.invariant.nested added.nested;
     }
 
+pub returns-clause-steps : goal.returns-clause-steps
+returns-clause-steps g c =
+    let shapes = (plan_of c.args.plan.now).shapes in
+    let graph = g.V.GraphView.graph c.args.view.now in
+    let l = c.loop-shape in
+    let at : ℕ → List Pair = λ n. map (at_shape n) (target_nodes shapes graph n) in
+    l.invariant.steps
+    ∙ ap (λ (ns : List ℕ). c.args.steps.now + length (flat_map at ns))
+    (take_all l.shape-index c.targeted-shape-items.result.now c.loop-shape-test.false
+    ∙ c.targeted-shape-items.ensures.targeted)
+
 pub returns-clause-nested : goal.returns-clause-nested
 returns-clause-nested g c =
     let shapes = (plan_of c.args.plan.now).shapes in

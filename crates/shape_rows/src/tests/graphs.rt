@@ -1,10 +1,11 @@
-//! Graphs, made of texts.
+//! Graphs, made of texts, and limits.
+ghost use Rattle.std.specs.Prelude.{◌≤◌, IfOk};
 
 use super::names::local_name;
 use graph_view::{GraphEdit, GraphView, ListGraph, StoreFault};
-use row_tools::{RowFault, cut, in_three, iri, labelled, literal, vocabulary_pool};
+use row_tools::{RowFault, cut, in_three, iri, labelled, term, vocabulary_pool};
 use shx_term::vocabulary::vocabulary_rows;
-use shx_term::{Id, Scope, Term, Triple, XSD_STRING};
+use shx_term::{Id, Limits, Scope, Term, Triple};
 use std::alloc::Global;
 
 // The number of a term of the vocabulary by its local name.
@@ -17,25 +18,22 @@ fn local_number(name: &str) -> Option<Id> {
     None
 }
 
-fn term(alloc: Global, name: &str) -> Result<Term, RowFault> {
+fn term_of(alloc: Global, name: &str) -> Result<Term, RowFault> {
     if let Some(label) = name.strip_prefix('_') {
         return Ok(labelled(alloc, Scope::Shapes, label)?);
     }
-    if let Some(lexical) = name.strip_prefix('\'') {
-        return Ok(Term::Lit(literal(alloc, lexical, XSD_STRING)?));
-    }
     if name.len() != 1 {
-        return Err(RowFault::Unread);
+        return term(alloc, name);
     }
     Ok(iri(alloc, name)?)
 }
 
-/// The number of a term by its name: `_a` is a blank node, `'a` a literal, `nil` and other local names
-/// are of the vocabulary, and any other letter is an IRI.
+/// The number of a term by its name: `_a` is a blank node, `'a'` and `'1'^^integer` are literals, `nil` and
+/// other local names are of the vocabulary, and a letter alone is an IRI.
 pub(super) fn number(alloc: Global, graph: &mut ListGraph, name: &str) -> Result<Id, RowFault> {
     match local_number(name) {
         Some(id) => Ok(id),
-        None => Ok(graph.enter(&term(alloc, name)?)?),
+        None => Ok(graph.enter(&term_of(alloc, name)?)?),
     }
 }
 
@@ -59,7 +57,7 @@ fn state(alloc: Global, graph: &mut ListGraph, s: &str, p: &str, o: &str) -> Res
 }
 
 // A statement of a subject, a predicate and an object; `_a cell x _b` states both rdf:first and rdf:rest.
-fn state_all(alloc: Global, graph: &mut ListGraph, statement: &str) -> Result<(), RowFault> {
+fn state_one(alloc: Global, graph: &mut ListGraph, statement: &str) -> Result<(), RowFault> {
     let (subject, predicate, object) = in_three(statement, " ")?;
     if predicate != "cell" {
         return state(alloc, graph, subject, predicate, object);
@@ -69,14 +67,35 @@ fn state_all(alloc: Global, graph: &mut ListGraph, statement: &str) -> Result<()
     state(alloc, graph, subject, "rest", rest)
 }
 
-/// The graph of a text of statements with commas between them; `-` stands for none.
-pub(super) fn graph(alloc: Global, text: &str) -> Result<ListGraph, RowFault> {
-    let pool = vocabulary_pool(alloc, 100)?;
-    let mut graph = ListGraph::new(alloc, pool, 100);
+fn state_all(alloc: Global, graph: &mut ListGraph, text: &str) -> Result<(), RowFault> {
     if text != "-" {
         for statement in text.split(", ") {
-            state_all(alloc, &mut graph, statement)?;
+            state_one(alloc, graph, statement)?;
         }
     }
-    Ok(graph)
+    Ok(())
+}
+
+/// The graph of a text of statements with commas between them; `-` stands for none.
+pub(super) fn graph(alloc: Global, text: &str) -> Result<ListGraph, RowFault> {
+    let mut graph = ListGraph::new(alloc, vocabulary_pool(alloc, 100)?, 100);
+    match state_all(alloc, &mut graph, text) {
+        Ok(()) => Ok(graph),
+        Err(fault) => Err(fault),
+    }
+}
+
+/// The limits of the program, but for those on shapes, and on the depth and the parts of a path: `1 64 4096`.
+pub(super) fn limits_of(numbers: &str) -> Result<Limits, RowFault>
+    ensures { IfOk result (λ limits. limits.path_depth ≤ 64) }
+{
+    let (shapes, depth, parts) = in_three(numbers, " ")?;
+    let mut limits = Limits::program();
+    limits.shapes = row_tools::number(shapes)?;
+    limits.path_depth = row_tools::number(depth)?;
+    limits.path_parts = row_tools::number(parts)?;
+    if limits.path_depth > 64 {
+        return Err(RowFault::Unread);
+    }
+    Ok(limits)
 }

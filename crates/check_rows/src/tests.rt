@@ -1,9 +1,0 @@
-mod accepted;
-mod answers;
-mod faults;
-mod limits;
-mod names;
-mod plans;
-mod rows;
-mod tables;
-mod worked;

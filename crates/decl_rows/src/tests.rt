@@ -1,5 +1,0 @@
-mod declarations;
-mod lists;
-mod made;
-mod names;
-mod paths;

@@ -1,0 +1,10 @@
+mod asked;
+mod declarations;
+mod due;
+mod faults;
+mod graphs;
+mod hosts;
+mod lists;
+mod names;
+mod paths;
+mod plans;

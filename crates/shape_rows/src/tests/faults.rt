@@ -49,6 +49,7 @@ fault 9 0 4096 | a class c, a path q, a path p = TooManyValues a path q
 fault 9 0 4096 | a class c, a path p, b in 'x' = PathTooDeep a path p
 fault 9 64 1 | a class c, a path _b, _b inversePath p = PathTooDeep a path _b
 fault 9 64 2 | a class c, a path _b, _b inversePath p = accepted
+fault 9 64 2 | a class c, a path _l, _l cell p _m, _m cell q nil, a property b, b path p = PathTooDeep a path _l
 fault 9 64 1 | a class c, a path p, a property b, b path p, a property _d, _d path q = accepted
 ";
 

@@ -34,6 +34,9 @@ path _a 9 1 2 | _a inversePath 'x' = TooDeep
 path _a 9 2 1 | _a inversePath 'x' = TooDeep
 path _a 9 2 9 | _a inversePath _b, _b inversePath 'x' = TooDeep
 path _a 9 2 9 | _a inversePath _b, _b inversePath 'x', _b o p = Broken
+path _a 9 1 9 | _a zeroOrMorePath 'x' = TooDeep
+path _a 9 2 9 | _a oneOrMorePath _b, _b zeroOrOnePath p = TooDeep
+path _a 9 3 9 | _a oneOrMorePath _b, _b zeroOrOnePath p = +?p
 path _a 9 2 3 | _a cell p _b, _b cell q nil = (p/q)
 path _a 9 1 3 | _a cell p _b, _b cell q nil = TooDeep
 path _a 9 2 2 | _a cell p _b, _b cell q nil = TooDeep
@@ -47,6 +50,10 @@ path _a 9 3 4 | _a cell _x _b, _b cell p nil, _x cell q _y, _y cell r nil = TooD
 path _a 9 2 5 | _a cell _x _b, _b cell p nil, _x cell q _y, _y cell r nil = TooDeep
 path _a 9 3 5 | _a cell _x _b, _b cell _x nil, _x inversePath p = (^p/^p)
 path _a 9 3 4 | _a cell _x _b, _b cell _x nil, _x inversePath p = TooDeep
+path _a 9 9 7 | _a alternativePath _l, _l cell _b _m, _m cell _b nil, _b alternativePath _k, _k cell p _n, \
+_n cell q nil = ((p|q)|(p|q))
+path _a 9 9 6 | _a alternativePath _l, _l cell _b _m, _m cell _b nil, _b alternativePath _k, _k cell p _n, \
+_n cell q nil = TooDeep
 path _a 9 2 9 | _a cell 'x' _b, _b cell _x nil, _x inversePath p = Broken
 path _a 9 2 9 | _a cell _x _b, _b cell 'x' nil, _x inversePath p = TooDeep
 path _a 9 9 3 | _a cell p _b, _b cell 'x' nil = Broken

@@ -7,10 +7,12 @@ before the data is opened, the data before the script, and a line is answered be
 """
 
 import errno
+import fcntl
 import os
 import pty
 import resource
 import select
+import termios
 import time
 import tty
 from contextlib import contextmanager, suppress
@@ -96,16 +98,25 @@ def answered(run, lines):
     return put
 
 
-def send(writer, *pieces):
-    """Writes into a pipe, as long as there is a reader."""
+def waited(run, is_so):
+    """Waits until something is so, and tells whether it came to that while the run went on."""
+    end = time.monotonic() + PATIENCE
+    while run.poll() is None and time.monotonic() < end:
+        if is_so():
+            return True
+        time.sleep(0.0001)
+    return False
+
+
+def send(writer, text):
+    """Writes into a pipe, where there is a reader."""
     with suppress(BrokenPipeError):
-        for piece in pieces:
-            writer.write(piece)
+        writer.write(text)
 
 
-def ending(run, writer, *pieces, before=b''):
-    """How a run ends once these pieces were the last."""
-    send(writer, *pieces)
+def ending(run, writer, text=b'', before=b''):
+    """How a run ends once this text was the last."""
+    send(writer, text)
     writer.close()
     return rest(run, before)
 
@@ -160,14 +171,22 @@ def texts_end_early(program):
             yield is_whole(f'an early end of the {place} behind {text[-9:]!r}', found, due.encode(), status)
 
 
+def is_taken(writer):
+    """Whether all that was written into a pipe is read."""
+    return not any(fcntl.ioctl(writer, termios.FIONREAD, bytes(4)))
+
+
 def texts_come_slowly(program):
-    """Each text comes byte by byte, some characters in pieces."""
+    """Each text comes byte by byte, each when the one before it is read; some characters have two."""
     files = texts.files(SHAPES.replace('e:S', 'e:ß'), DATA, 'insert e:a e:p "ä" .\n')
     due = (REPORT.replace('/S>', '/ß>') + 'ok changed evaluated 1\n').encode()
     for place in THREE:
         with piped(program, files, place) as (_, run, writer):
-            found = ending(run, writer, *(bytes([byte]) for byte in files[place]))
-            yield is_whole(f'the {place} byte by byte', found, due, 1)
+            for byte in files[place]:
+                send(writer, bytes([byte]))
+                if not waited(run, lambda: is_taken(writer)):
+                    break
+            yield is_whole(f'the {place} byte by byte', ending(run, writer), due, 1)
 
 
 # ---- a terminal
@@ -187,9 +206,7 @@ def terminal_is_hung_up(program):
             put = answered(run, 2)
             typed.write(b'count\ncou')
             put += answered(run, 1)
-            end = time.monotonic() + PATIENCE
-            while run.poll() is None and not is_asleep(run) and time.monotonic() < end:
-                time.sleep(0.001)
+            waited(run, lambda: is_asleep(run))
             os.close(theirs)
             typed.close()
             found = rest(run, put)

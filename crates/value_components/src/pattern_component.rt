@@ -28,6 +28,17 @@ fn look_for<'p>(
             return Ok(());
         }
     }
+    make_matcher(alloc, pattern, known)
+}
+
+// A function of its own: the place for a new matcher would be cleared at each call of its caller.
+fn make_matcher<'p>(
+    alloc: Global,
+    pattern: &'p shx_outside::Pattern,
+    known: &mut Option<PatternMatcher<'p>>,
+) -> Result<(), Memory>
+    ensures { OnOk result (known.new ≡ Some pattern.now) }
+{
     *known = Some(pattern.matcher(alloc)?);
     Ok(())
 }

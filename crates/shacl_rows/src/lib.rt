@@ -15,9 +15,10 @@
 //! | `tests/mixed.rt` | the same where the script has lines of each kind |
 //! | `tests/honest.rt` | a run over inputs that never fail, and a sink with room for what is due |
 //! | `tests/order.rt` | when texts are opened and answered, and patterns built, which no contract says |
+//! | `tests/words.rt` | words of a command line, and what they ask for |
 //!
-//! It stands on `shacl_run`, on `shx_outside` and `shx_term` for the forms in memory and the limits, and on
-//! `row_tools`. Start with `tests/case.rt` and `tests/limits.rt`.
+//! It stands on `shacl_run`, on `shx_outside` and `shx_term` for the forms in memory and the limits, on
+//! `command_words` and `text_output`, and on `row_tools`. Start with `tests/case.rt` and `tests/limits.rt`.
 #![tactic(auto)]
 
 #[cfg(test)]

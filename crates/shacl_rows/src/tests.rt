@@ -9,3 +9,4 @@ mod outside;
 mod runs;
 mod scripts;
 mod shapes;
+mod words;

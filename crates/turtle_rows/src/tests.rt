@@ -1,2 +1,6 @@
-mod meanings;
+mod documents;
+mod lines;
+mod outcomes;
+mod seen;
+mod terms;
 mod tokens;

@@ -2,21 +2,16 @@ mod rows;
 
 ghost use Rattle.ttl_tokens.specs.Unescaped.{IsGiven};
 
-use row_tools::{RowFault, all_met, cut};
+use super::outcomes::is_as_said;
+use super::seen::add_number;
+use row_tools::{RowFault, all_met};
 use std::alloc::{AllocError, Global};
 use std::test::Fail;
-use ttl_tokens::{Lookahead, Token, TokenKind, next_token_after};
+use ttl_tokens::{Lookahead, Token, TokenKind, next_token, next_token_after, unescape};
 
-/// A text with white space in place of the signs for it.
-pub(super) fn text_of(alloc: Global, text: &str) -> Result<String, AllocError> {
-    let text = text.replace(alloc, "␊", "\n")?;
-    let text = text.as_str().replace(alloc, "␍", "\r")?;
-    text.as_str().replace(alloc, "␉", "\t")
-}
-
-// The tokens of a text, each by its kind and its own text, up to the end or to a place where none begins.
-fn tokens_of(alloc: Global, text: &str) -> Result<String, AllocError> {
-    let mut found = String::new(alloc);
+/// Adds the tokens of a text, each by its kind and its own text, up to the end or to a place where none
+/// begins.
+pub(super) fn add_tokens(alloc: Global, text: &str, out: &mut Vec<u8>) -> Result<(), AllocError> {
     let mut at = 0;
     let mut ahead = Lookahead::new();
     for _ in 0..40 {
@@ -25,57 +20,33 @@ fn tokens_of(alloc: Global, text: &str) -> Result<String, AllocError> {
                 if token.kind == TokenKind::End {
                     break;
                 }
-                add_token(alloc, &mut found, text, &token)?;
+                add_token(alloc, text, &token, out)?;
                 at = token.end;
             }
-            Err(none) => {
-                let place = format!(in alloc; "none at {}", none.at)?;
-                found.push_str(place.as_str())?;
-                break;
-            }
+            Err(none) => return add_number(alloc, "none at ", none.at as u64, out),
         }
     }
-    Ok(found)
+    Ok(())
 }
 
-fn add_token(alloc: Global, found: &mut String, text: &str, token: &Token) -> Result<(), AllocError>
+fn add_token(alloc: Global, text: &str, token: &Token, out: &mut Vec<u8>) -> Result<(), AllocError>
     requires { IsGiven text.now token.now }
 {
     let piece = &text[token.start..token.end];
-    let kind = format!(in alloc; "{:?} {piece}|", token.kind)?;
-    found.push_str(kind.as_str())
+    let shown = format!(in alloc; "{:?} {piece}|", token.kind)?;
+    out.extend_from_slice(shown.as_str().as_bytes())
 }
 
-// Whether the row's text has the row's tokens.
-fn has_tokens(alloc: Global, row: &str) -> Result<bool, RowFault> {
-    let (text, due) = cut(row, "→")?;
-    let text = text_of(alloc, text)?;
-    let found = tokens_of(alloc, text.as_str())?;
-    let due = text_of(alloc, due)?;
-    Ok(found.as_str() == due.as_str())
-}
-
-#[test]
-fn splits(rt: HostRuntime) -> Result<(), Fail> {
-    all_met(rt.alloc(), rows::SPLITS, has_tokens)
+/// Adds what the first token of a text stands for.
+pub(super) fn add_meaning(alloc: Global, text: &str, out: &mut Vec<u8>) -> Result<(), RowFault> {
+    let Ok(token) = next_token(text, 0) else {
+        return Err(RowFault::Unread);
+    };
+    let meaning = unescape(alloc, text, &token)?;
+    Ok(out.extend_from_slice(meaning.as_str().as_bytes())?)
 }
 
 #[test]
-fn names_and_words(rt: HostRuntime) -> Result<(), Fail> {
-    all_met(rt.alloc(), rows::NAMES, has_tokens)
-}
-
-#[test]
-fn numbers(rt: HostRuntime) -> Result<(), Fail> {
-    all_met(rt.alloc(), rows::NUMBERS, has_tokens)
-}
-
-#[test]
-fn strings_and_references(rt: HostRuntime) -> Result<(), Fail> {
-    all_met(rt.alloc(), rows::QUOTED, has_tokens)
-}
-
-#[test]
-fn white_space_and_comments(rt: HostRuntime) -> Result<(), Fail> {
-    all_met(rt.alloc(), rows::BLANKS, has_tokens)
+fn texts_have_their_tokens(rt: HostRuntime) -> Result<(), Fail> {
+    all_met(rt.alloc(), rows::ROWS, is_as_said)
 }

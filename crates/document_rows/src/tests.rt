@@ -1,6 +1,0 @@
-mod accepted;
-mod limits;
-mod one_term;
-mod pools;
-mod refused;
-mod seen;

@@ -1,6 +1,0 @@
-mod bytes;
-mod forms;
-mod seen;
-mod terms;
-mod told;
-mod words;

@@ -1,0 +1,5 @@
+use Rattle.std.proofs.lemmas.Str.{IsCharBoundary-start}
+use Rattle.turtle_rows.proofs.tests.tokens.add_meaning.Goals as goal
+
+pub next_token-requires-clause-boundary : goal.next_token-requires-clause-boundary
+next_token-requires-clause-boundary c = IsCharBoundary-start c.args.text.now c.utf8.text

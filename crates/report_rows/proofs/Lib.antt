@@ -1,2 +1,1 @@
 pub mod BareLemmas
-pub mod PairLemmas

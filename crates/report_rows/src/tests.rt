@@ -1,11 +1,7 @@
 mod answers;
 mod paths;
 mod plans;
-mod readings;
 mod reports;
 mod results;
 mod rows;
-mod shape_answers;
 mod slices;
-mod terms;
-mod turtle_rows;

@@ -1,6 +1,6 @@
 use super::cells::{are_nodes, graph, keys, node};
 use super::paths::path;
-use super::rows::{PAIRS, QUESTIONS};
+use super::rows::QUESTIONS;
 use due_view::DueView;
 use graph_view::{ListGraph, Reads};
 use path_eval::{
@@ -8,7 +8,7 @@ use path_eval::{
     instances, instances_are_told, instances_depend_on_their_reads, is_instance,
     paths_depend_on_their_reads, paths_lead_to_what_they_relate, values,
 };
-use row_tools::{RowFault, all_met, cut, in_four, in_three};
+use row_tools::{RowFault, all_met, cut, in_four};
 use shx_term::Id;
 use std::alloc::Global;
 use std::test::Fail;
@@ -47,12 +47,23 @@ fn is_of_class(
     alloc: Global,
     view: &DueView<ListGraph>,
     words: &str,
-    answer: &str,
     reads: &mut Reads,
 ) -> Result<bool, RowFault> {
     let (tested, class) = cut(words, " ")?;
-    let is = is_instance(alloc, view, node(tested)?, node(class)?, reads)?;
-    Ok(answer == if is { "yes" } else { "no" })
+    Ok(is_instance(alloc, view, node(tested)?, node(class)?, reads)?)
+}
+
+fn is_same(alloc: Global, first: &Path, second: &str) -> Result<bool, RowFault> {
+    Ok(*first == path(alloc, second)?)
+}
+
+fn are_same(alloc: Global, words: &str) -> Result<bool, RowFault> {
+    let (first, second) = cut(words, " ")?;
+    is_same(alloc, &path(alloc, first)?, second)
+}
+
+fn is_said(is: bool, answer: &str) -> bool {
+    answer == if is { "yes" } else { "no" }
 }
 
 // Whether the question has the answer.
@@ -64,11 +75,11 @@ fn has_answer(
     reads: &mut Reads,
 ) -> Result<bool, RowFault> {
     let (asked, of) = cut(question, " ")?;
-    if asked == "is" {
-        return is_of_class(alloc, view, of, answer, reads);
+    match asked {
+        "is" => Ok(is_said(is_of_class(alloc, view, of, reads)?, answer)),
+        "same" => Ok(is_said(are_same(alloc, of)?, answer)),
+        _ => Ok(are_nodes(&found(alloc, view, asked, node(of)?, reads)?, answer)),
     }
-    let found = found(alloc, view, asked, node(of)?, reads)?;
-    Ok(are_nodes(&found, answer))
 }
 
 // Whether it has, and all keys that are due were looked up, and no others.
@@ -104,21 +115,6 @@ fn is_as_said(alloc: Global, row: &str) -> Result<bool, RowFault> {
 #[test]
 fn questions_have_their_answers(rt: HostRuntime) -> Result<(), Fail> {
     all_met(rt.alloc(), QUESTIONS, is_as_said)
-}
-
-fn is_same(alloc: Global, first: &Path, second: &str) -> Result<bool, RowFault> {
-    Ok(*first == path(alloc, second)?)
-}
-
-fn are_same_as_said(alloc: Global, row: &str) -> Result<bool, RowFault> {
-    let (first, second, said) = in_three(row, " : ")?;
-    let same = is_same(alloc, &path(alloc, first)?, second)?;
-    Ok(said == if same { "same" } else { "other" })
-}
-
-#[test]
-fn paths_are_equal_as_said(rt: HostRuntime) -> Result<(), Fail> {
-    all_met(rt.alloc(), PAIRS, are_same_as_said)
 }
 
 #[test]

@@ -1,12 +1,12 @@
-//! The tables. A triple is written by its letters, `apb`, and a key by those that it asks about, `ap?` for
+//! The table. A triple is written by its letters, `apb`, and a key by those that it asks about, `ap?` for
 //! the objects and `?pb` for the subjects. A path has each mark behind what it takes: `^`, `*`, `+` and `?`
 //! take the last path, and `/` and `|` all that stand before them; `0` is the alternative of no members, and
 //! `1` the sequence of no parts. `-` is for none.
 
 /// Questions, one a line: the triples of a graph; the classes of a node, the instances of a class, whether a
-/// node is an instance of a class, or where a path leads from a node; the answer, in the order of terms; and
-/// the keys that are looked up. For a test of an instance these are all that `classes` looks up, also where
-/// the class is found at once.
+/// node is an instance of a class, where a path leads from a node, or whether two paths are the same; the
+/// answer, in the order of terms; and the keys that are looked up. For a test of an instance these are all
+/// that `classes` looks up, also where the class is found at once.
 pub(super) const QUESTIONS: &str = "== classes and instances
 aTb bCc cCd dCb eTe : classes a : bcd : aT? bC? cC? dC?
 aTb bCc cCd dCb eTe : classes b : - : bT?
@@ -54,17 +54,15 @@ apb bpc cpd : p0/ b : - : bp?
 apb bpc cpd : 0p/^ b : - : ?pb
 apb bpc cpd : p0/^ b : - : -
 apb bpc cpd : p0| b : c : bp?
-";
-
-/// Two paths, and whether they are the same.
-pub(super) const PAIRS: &str = "p : p : same
-p : q : other
-p^^ : p : other
-pq/ : qp/ : other
-pq| : pq/ : other
-1 : 1 : same
-1 : 0 : other
-p* : p+ : other
-pq/* : pq/* : same
-pq/* : pp/* : other
+== paths that say the same, or not
+- : same p p : yes : -
+- : same p q : no : -
+- : same p^^ p : no : -
+- : same pq/ qp/ : no : -
+- : same pq| pq/ : no : -
+- : same 1 1 : yes : -
+- : same 1 0 : no : -
+- : same p* p+ : no : -
+- : same pq/* pq/* : yes : -
+- : same pq/* pp/* : no : -
 ";

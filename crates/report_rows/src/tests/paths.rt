@@ -1,65 +1,28 @@
 use super::rows::PATHS;
-use super::terms::{all_terms, id_of, spelled_out};
 use path_eval::Path;
 use report_write::add_path;
-use row_tools::{RowFault, all_met, in_three, number};
+use row_tools::{RowFault, all_met, in_three, vocabulary_pool};
 use shx_outside::MemorySink;
 use shx_term::Pool;
+use shx_term::vocabulary::{RDF_TYPE, VOCABULARY_LEN};
 use std::alloc::Global;
 use std::test::Fail;
 use text_output::{Format, Writer};
 
-// The last of the paths, around which the mark stands.
-fn marked(alloc: Global, paths: &mut Vec<Path>, mark: &str) -> Result<Path, RowFault> {
-    let Some(last) = paths.pop() else {
-        return Err(RowFault::Unread);
-    };
-    let inner = Box::new(alloc, last)?;
-    Ok(match mark {
-        "^" => Path::Inverse(inner),
-        "*" => Path::ZeroOrMore(inner),
-        "+" => Path::OneOrMore(inner),
-        _ => Path::ZeroOrOne(inner),
-    })
+fn one(alloc: Global) -> Result<Vec<Path>, RowFault> {
+    Ok(vec![in alloc; Path::Pred(RDF_TYPE)]?)
 }
 
-// So many of the paths, from the end.
-fn last_of(paths: &mut Vec<Path>, count: &str) -> Result<Vec<Path>, RowFault> {
-    let count = number(count)? as usize;
-    if count > paths.len() {
-        return Err(RowFault::Unread);
-    }
-    Ok(paths.split_off(paths.len() - count)?)
-}
-
-fn next_path(
-    alloc: Global,
-    pool: &Pool,
-    paths: &mut Vec<Path>,
-    word: &str,
-) -> Result<Path, RowFault> {
-    if matches!(word, "^" | "*" | "+" | "?") {
-        return marked(alloc, paths, word);
-    }
-    if let Some(count) = word.strip_prefix('/') {
-        return Ok(Path::Seq(last_of(paths, count)?));
-    }
-    if let Some(count) = word.strip_prefix('|') {
-        return Ok(Path::Alt(last_of(paths, count)?));
-    }
-    Ok(Path::Pred(id_of(alloc, pool, word)?))
-}
-
-// The path of some words.
-fn path_of(alloc: Global, pool: &Pool, words: &str) -> Result<Path, RowFault> {
-    let mut paths = Vec::new(alloc);
-    for word in words.split_whitespace() {
-        let path = next_path(alloc, pool, &mut paths, word)?;
-        paths.push(path)?;
-    }
-    match paths.pop() {
-        Some(path) => Ok(path),
-        None => Err(RowFault::Unread),
+// The path of a mark.
+fn path_of(alloc: Global, mark: &str) -> Result<Path, RowFault> {
+    match mark {
+        "p" => Ok(Path::Pred(RDF_TYPE)),
+        "^" => Ok(Path::Inverse(Box::new(alloc, Path::Pred(RDF_TYPE))?)),
+        "/p" => Ok(Path::Seq(one(alloc)?)),
+        "|p" => Ok(Path::Alt(one(alloc)?)),
+        "/" => Ok(Path::Seq(Vec::new(alloc))),
+        "|" => Ok(Path::Alt(Vec::new(alloc))),
+        _ => Err(RowFault::Unread),
     }
 }
 
@@ -71,16 +34,18 @@ fn is_put(alloc: Global, path: &Path, pool: &Pool, format: Format, text: &str) -
     writer.finish().is_ok() && sink.bytes() == text.as_bytes()
 }
 
+fn is_put_in_both(alloc: Global, path: &Path, lines: &str, turtle: &str) -> Result<bool, RowFault> {
+    let pool = vocabulary_pool(alloc, VOCABULARY_LEN)?;
+    Ok(
+        is_put(alloc, path, &pool, Format::Lines, lines)
+            && is_put(alloc, path, &pool, Format::Turtle, turtle),
+    )
+}
+
 // Whether the path of a row is put as the row says.
 fn is_as_said(alloc: Global, row: &str) -> Result<bool, RowFault> {
-    let row = spelled_out(alloc, row)?;
-    let (words, lines, turtle) = in_three(&row, " : ")?;
-    let pool = all_terms(alloc)?;
-    let path = path_of(alloc, &pool, words)?;
-    Ok(
-        is_put(alloc, &path, &pool, Format::Lines, lines)
-            && is_put(alloc, &path, &pool, Format::Turtle, turtle),
-    )
+    let (mark, lines, turtle) = in_three(row, " : ")?;
+    is_put_in_both(alloc, &path_of(alloc, mark)?, lines, turtle)
 }
 
 #[test]

@@ -1,61 +1,78 @@
-//! Results of lines: the number of the component, the focus node, the value, the predicate and the number of
-//! the shape. `-` is for none. Behind a result stand, each behind ` < `, those on which it rests.
-use super::terms::id_of;
-use comp_core::{Details, ResultRow};
-use row_tools::{RowFault, cut, in_four, number};
-use shx_term::{Id, Pool};
+//! Results of shape 0, of no component, and of no shape.
+use comp_core::kinds::{CLOSED, MIN_COUNT, NODE};
+use comp_core::{DetailRow, Details, ResultRow};
+use shx_term::Memory;
+use shx_term::vocabulary::{RDF_NIL, RDF_TYPE, SH_IN, SH_NODE_SHAPE};
 use std::alloc::Global;
 
-fn optional(alloc: Global, pool: &Pool, word: &str) -> Result<Option<Id>, RowFault> {
-    match word {
-        "-" => Ok(None),
-        _ => Ok(Some(id_of(alloc, pool, word)?)),
-    }
+const FOUND: [DetailRow; 4] = [
+    DetailRow {
+        focus: RDF_NIL,
+        value: None,
+        predicate: None,
+        shape: 0,
+        kind: MIN_COUNT,
+    },
+    DetailRow {
+        focus: SH_NODE_SHAPE,
+        value: Some(RDF_NIL),
+        predicate: None,
+        shape: 0,
+        kind: NODE,
+    },
+    DetailRow {
+        focus: SH_NODE_SHAPE,
+        value: Some(SH_IN),
+        predicate: None,
+        shape: 0,
+        kind: 30,
+    },
+    DetailRow {
+        focus: SH_NODE_SHAPE,
+        value: None,
+        predicate: None,
+        shape: 1,
+        kind: MIN_COUNT,
+    },
+];
+
+// On which that of sh:node rests.
+const BELOW: DetailRow = DetailRow {
+    focus: RDF_NIL,
+    value: Some(SH_IN),
+    predicate: Some(RDF_TYPE),
+    shape: 0,
+    kind: CLOSED,
+};
+
+fn plain(alloc: Global, row: DetailRow) -> Result<ResultRow, Memory> {
+    ResultRow::plain(
+        alloc,
+        row.focus,
+        row.value,
+        row.predicate,
+        row.shape,
+        row.kind,
+    )
 }
 
-fn plain_of(alloc: Global, pool: &Pool, words: &str) -> Result<ResultRow, RowFault> {
-    let (kind, focus, value, rest) = in_four(words, " ")?;
-    let (predicate, shape) = cut(rest, " ")?;
-    let Ok(kind) = u8::try_from(number(kind)?) else {
-        return Err(RowFault::Unread);
-    };
-    let focus = id_of(alloc, pool, focus)?;
-    let value = optional(alloc, pool, value)?;
-    let predicate = optional(alloc, pool, predicate)?;
-    let shape = number(shape)?;
-    Ok(ResultRow::plain(alloc, focus, value, predicate, shape, kind)?)
+fn details(alloc: Global) -> Result<Details, Memory> {
+    Details::of(alloc, &[plain(alloc, BELOW)?])
 }
 
-// Those on which a result rests, each behind ` < `.
-fn details_of(alloc: Global, pool: &Pool, words: &str) -> Result<Details, RowFault> {
-    let mut rows = Vec::new(alloc);
-    for words in words.split(" < ") {
-        rows.push(plain_of(alloc, pool, words)?)?;
+fn result(alloc: Global, row: DetailRow) -> Result<ResultRow, Memory> {
+    let mut result = plain(alloc, row)?;
+    if row.kind == NODE {
+        result.details = details(alloc)?;
     }
-    Ok(Details::of(alloc, &rows)?)
+    Ok(result)
 }
 
-fn result_of(alloc: Global, pool: &Pool, line: &str) -> Result<ResultRow, RowFault> {
-    let Some((words, details)) = line.split_once(" < ") else {
-        return plain_of(alloc, pool, line);
-    };
-    let mut row = plain_of(alloc, pool, words)?;
-    row.details = details_of(alloc, pool, details)?;
-    Ok(row)
-}
-
-/// The results of these lines.
-pub(super) fn results_of(
-    alloc: Global,
-    pool: &Pool,
-    lines: &str,
-) -> Result<Vec<ResultRow>, RowFault> {
-    let mut rows = Vec::new(alloc);
-    if lines == "-" {
-        return Ok(rows);
+/// These results.
+pub(super) fn results(alloc: Global) -> Result<Vec<ResultRow>, Memory> {
+    let mut results = Vec::new(alloc);
+    for row in FOUND {
+        results.push(result(alloc, row)?)?;
     }
-    for line in lines.split('\n') {
-        rows.push(result_of(alloc, pool, line)?)?;
-    }
-    Ok(rows)
+    Ok(results)
 }

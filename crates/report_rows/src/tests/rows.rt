@@ -1,208 +1,127 @@
-//! Reports, block by block: what the block shows; three shapes; the results; and the text that is put, in
-//! which `{a}` is the IRI `http://e/a`, and `{xsd:date}` one of XML Schema.
+//! The tables. Terms are those of the vocabulary.
 
-pub(super) const REPORTS: &str = r#"no results
-e:S sh:Violation e:p -
-e:T sh:Violation - -
-e:U sh:Violation - -
-| -
-| report conforms=true results=0
-
-persons, as in the Recommendation
-shapes#1 sh:Violation e:ssn -
-shapes#2 sh:Violation e:worksFor -
-e:PersonShape sh:Violation - -
-| 12 e:Alice '987-65-432A' - 0
-5 e:Bob - - 0
-1 e:Calvin e:UntypedCompany - 1
-27 e:Calvin '1971-07-07'^^date e:birthDate 2
+/// The report of the results in `results.rt`, block by block: the format and the text.
+pub(super) const REPORTS: &str = r#"lines
 | report conforms=false results=4
-result Pattern Violation _:t-1 {Alice} {ssn} "987-65-432A"
-result MaxCount Violation _:t-1 {Bob} {ssn} -
-result Class Violation _:t-2 {Calvin} {worksFor} {UntypedCompany}
-result Closed Violation {PersonShape} {Calvin} {birthDate} "1971-07-07"^^{xsd:date}
+result MinCount Violation <http://www.w3.org/ns/shacl#NodeShape> <http://www.w3.org/1999/02/22-rdf-syntax-ns#nil> <http://www.w3.org/1999/02/22-rdf-syntax-ns#first> -
+message <http://www.w3.org/ns/shacl#in>
+result Node Violation <http://www.w3.org/ns/shacl#NodeShape> <http://www.w3.org/ns/shacl#NodeShape> <http://www.w3.org/1999/02/22-rdf-syntax-ns#first> <http://www.w3.org/1999/02/22-rdf-syntax-ns#nil>
+message <http://www.w3.org/ns/shacl#in>
+detail Closed Violation <http://www.w3.org/ns/shacl#NodeShape> <http://www.w3.org/1999/02/22-rdf-syntax-ns#nil> <http://www.w3.org/1999/02/22-rdf-syntax-ns#type> <http://www.w3.org/ns/shacl#in>
+result  Violation <http://www.w3.org/ns/shacl#NodeShape> <http://www.w3.org/ns/shacl#NodeShape> <http://www.w3.org/1999/02/22-rdf-syntax-ns#first> <http://www.w3.org/ns/shacl#in>
+message <http://www.w3.org/ns/shacl#in>
 
-paths of shapes, and none
-e:S sh:Violation e:next+ -
-e:T sh:Violation e:next* -
-e:U sh:Violation - -
-| 5 e:a - - 0
-3 'x' 'x' - 1
-19 e:a e:a - 2
-| report conforms=false results=3
-result MaxCount Violation {S} {a} ({next}+) -
-result NodeKind Violation {T} "x" ({next}*) "x"
-result Not Violation {U} {a} - {a}
+turtle
+| @prefix sh: <http://www.w3.org/ns/shacl#> .
+[] a sh:ValidationReport ;
+  sh:conforms false ;
+  sh:result [
+    a sh:ValidationResult ;
+    sh:focusNode <http://www.w3.org/1999/02/22-rdf-syntax-ns#nil> ;
+    sh:resultPath <http://www.w3.org/1999/02/22-rdf-syntax-ns#first> ;
+    sh:sourceShape <http://www.w3.org/ns/shacl#NodeShape> ;
+    sh:sourceConstraintComponent sh:MinCountConstraintComponent ;
+    sh:resultMessage <http://www.w3.org/ns/shacl#in> ;
+    sh:resultSeverity <http://www.w3.org/ns/shacl#Violation>
+  ] ;
+  sh:result [
+    a sh:ValidationResult ;
+    sh:focusNode <http://www.w3.org/ns/shacl#NodeShape> ;
+    sh:resultPath <http://www.w3.org/1999/02/22-rdf-syntax-ns#first> ;
+    sh:value <http://www.w3.org/1999/02/22-rdf-syntax-ns#nil> ;
+    sh:sourceShape <http://www.w3.org/ns/shacl#NodeShape> ;
+    sh:sourceConstraintComponent sh:NodeConstraintComponent ;
+    sh:resultMessage <http://www.w3.org/ns/shacl#in> ;
+    sh:resultSeverity <http://www.w3.org/ns/shacl#Violation> ;
+    sh:detail [
+      a sh:ValidationResult ;
+      sh:focusNode <http://www.w3.org/1999/02/22-rdf-syntax-ns#nil> ;
+      sh:resultPath <http://www.w3.org/1999/02/22-rdf-syntax-ns#type> ;
+      sh:value <http://www.w3.org/ns/shacl#in> ;
+      sh:sourceShape <http://www.w3.org/ns/shacl#NodeShape> ;
+      sh:sourceConstraintComponent sh:ClosedConstraintComponent ;
+      sh:resultSeverity <http://www.w3.org/ns/shacl#Violation>
+    ]
+  ] ;
+  sh:result [
+    a sh:ValidationResult ;
+    sh:focusNode <http://www.w3.org/ns/shacl#NodeShape> ;
+    sh:resultPath <http://www.w3.org/1999/02/22-rdf-syntax-ns#first> ;
+    sh:value <http://www.w3.org/ns/shacl#in> ;
+    sh:sourceShape <http://www.w3.org/ns/shacl#NodeShape> ;
+    sh:sourceConstraintComponent sh:ConstraintComponent ;
+    sh:resultMessage <http://www.w3.org/ns/shacl#in> ;
+    sh:resultSeverity <http://www.w3.org/ns/shacl#Violation>
+  ] ."#;
 
-a predicate goes before the path
-e:S sh:Violation - -
-e:T sh:Violation e:q^ -
-e:U sh:Violation - -
-| 27 e:a e:b e:p 0
-27 e:a e:b e:p 1
-4 e:a - - 1
-| report conforms=false results=3
-result Closed Violation {S} {a} {p} {b}
-result Closed Violation {T} {a} {p} {b}
-result MinCount Violation {T} {a} (^{q}) -
-
-severities
-e:S sh:Warning e:p -
-e:T sh:Info e:p -
-e:U e:grave e:p -
-| 13 e:a 'd'@de - 0
-14 e:a - - 1
-4 data:x - - 2
-4 data#7 shapes:s - 2
-| report conforms=false results=4
-result LanguageIn Warning {S} {a} {p} "d"@de
-result UniqueLang Info {T} {a} {p} -
-result MinCount {grave} {U} _:d-x {p} -
-result MinCount {grave} {U} _:a-7 {p} _:s-s
-
-messages behind each result of their shape, in term order
-e:S sh:Violation e:p 'say"it\~again' 'rien'@fr 'none'@en
-e:T sh:Warning - 'x'
-e:U sh:Violation - -
-| 4 e:a - - 0
-28 e:b - - 2
-29 e:a 'say"it\~again' - 1
-4 e:b - - 0
-| report conforms=false results=4
-result MinCount Violation {S} {a} {p} -
-message "none"@en
-message "rien"@fr
-message "say\"it\\\nagain"
-result HasValue Violation {U} {b} - -
-result In Warning {T} {a} - "say\"it\\\nagain"
-message "x"
-result MinCount Violation {S} {b} {p} -
-message "none"@en
-message "rien"@fr
-message "say\"it\\\nagain"
-
-each component
-e:S sh:Violation - -
-e:T sh:Violation - -
-e:U sh:Violation - -
-| 1 e:a - - 0
-2 e:a - - 0
-3 e:a - - 0
-4 e:a - - 0
-5 e:a - - 0
-6 e:a - - 0
-7 e:a - - 0
-8 e:a - - 0
-9 e:a - - 0
-10 e:a - - 0
-11 e:a - - 0
-12 e:a - - 0
-13 e:a - - 0
-14 e:a - - 0
-15 e:a - - 0
-16 e:a - - 0
-17 e:a - - 0
-18 e:a - - 0
-19 e:a - - 0
-20 e:a - - 0
-21 e:a - - 0
-22 e:a - - 0
-23 e:a - - 0
-25 e:a - - 0
-26 e:a - - 0
-27 e:a - - 0
-28 e:a - - 0
-29 e:a - - 0
-| report conforms=false results=28
-result Class Violation {S} {a} - -
-result Datatype Violation {S} {a} - -
-result NodeKind Violation {S} {a} - -
-result MinCount Violation {S} {a} - -
-result MaxCount Violation {S} {a} - -
-result MinExclusive Violation {S} {a} - -
-result MinInclusive Violation {S} {a} - -
-result MaxExclusive Violation {S} {a} - -
-result MaxInclusive Violation {S} {a} - -
-result MinLength Violation {S} {a} - -
-result MaxLength Violation {S} {a} - -
-result Pattern Violation {S} {a} - -
-result LanguageIn Violation {S} {a} - -
-result UniqueLang Violation {S} {a} - -
-result Equals Violation {S} {a} - -
-result Disjoint Violation {S} {a} - -
-result LessThan Violation {S} {a} - -
-result LessThanOrEquals Violation {S} {a} - -
-result Not Violation {S} {a} - -
-result And Violation {S} {a} - -
-result Or Violation {S} {a} - -
-result Xone Violation {S} {a} - -
-result Node Violation {S} {a} - -
-result QualifiedMinCount Violation {S} {a} - -
-result QualifiedMaxCount Violation {S} {a} - -
-result Closed Violation {S} {a} - -
-result HasValue Violation {S} {a} - -
-result In Violation {S} {a} - -
-
-details, of their own shapes, behind the messages; of no shape, nothing
-e:S sh:Warning - 'none'@en 'rien'@fr
-e:T sh:Info e:q* 'x'
-e:U sh:Violation e:p 'x'
-| 23 e:a e:b - 0 < 4 e:b - - 1 < 27 e:b 'x' e:next 2 < 23 e:b e:b - 0 < 1 e:b - - 3
-21 e:a - - 1
-| report conforms=false results=2
-result Node Warning {S} {a} - {b}
-message "none"@en
-message "rien"@fr
-detail MinCount Info {T} {b} ({q}*) -
-detail Closed Violation {U} {b} {next} "x"
-detail Node Warning {S} {b} - {b}
-result Or Info {T} {a} ({q}*) -
-message "x"
-
-no component, and no shape
-e:S sh:Violation - -
-e:T sh:Violation - -
-e:U sh:Violation - -
-| 30 e:a '5'^^integer - 1
-4 e:a - - 3
-0 e:a - - 2
-| report conforms=false results=3
-result  Violation {T} {a} - "5"^^{xsd:integer}
-result  Violation {U} {a} - -"#;
-
-/// Paths: words from left to right, of which a mark takes the last path, and `/N` and `|N` the last `N`; the
-/// text that is put in a line; and that in Turtle.
-pub(super) const PATHS: &str = "e:p : {p} : {p}
-e:p ^ : (^{p}) : [ sh:inversePath {p} ]
-e:p * : ({p}*) : [ sh:zeroOrMorePath {p} ]
-e:p + : ({p}+) : [ sh:oneOrMorePath {p} ]
-e:p ? : ({p}?) : [ sh:zeroOrOnePath {p} ]
-e:p e:q /2 : ({p}/{q}) : ( {p} {q} )
-e:p e:q |2 : ({p}|{q}) : [ sh:alternativePath ( {p} {q} ) ]
-e:p e:q e:next /3 : ({p}/{q}/{next}) : ( {p} {q} {next} )
-e:p e:q e:next |3 : ({p}|{q}|{next}) : [ sh:alternativePath ( {p} {q} {next} ) ]
-e:p e:q e:next /2 /2 : ({p}/({q}/{next})) : ( {p} ( {q} {next} ) )
-e:p e:q /2 e:next /2 : (({p}/{q})/{next}) : ( ( {p} {q} ) {next} )
-e:p e:q e:next |2 |2 : ({p}|({q}|{next})) : \
-[ sh:alternativePath ( {p} [ sh:alternativePath ( {q} {next} ) ] ) ]
-e:p e:q |2 e:next |2 : (({p}|{q})|{next}) : \
-[ sh:alternativePath ( [ sh:alternativePath ( {p} {q} ) ] {next} ) ]
-e:p e:q |2 e:p e:q |2 /2 : (({p}|{q})/({p}|{q})) : \
-( [ sh:alternativePath ( {p} {q} ) ] [ sh:alternativePath ( {p} {q} ) ] )
-e:p e:q /2 e:p e:q /2 |2 : (({p}/{q})|({p}/{q})) : [ sh:alternativePath ( ( {p} {q} ) ( {p} {q} ) ) ]
-e:p ^ e:q * /2 : ((^{p})/({q}*)) : ( [ sh:inversePath {p} ] [ sh:zeroOrMorePath {q} ] )
-e:p + e:q ? |2 : (({p}+)|({q}?)) : \
-[ sh:alternativePath ( [ sh:oneOrMorePath {p} ] [ sh:zeroOrOnePath {q} ] ) ]
-e:p e:q /2 ^ : (^({p}/{q})) : [ sh:inversePath ( {p} {q} ) ]
-e:p e:q |2 * : (({p}|{q})*) : [ sh:zeroOrMorePath [ sh:alternativePath ( {p} {q} ) ] ]
-e:p ^ ^ : (^(^{p})) : [ sh:inversePath [ sh:inversePath {p} ] ]
-e:p ^ * : ((^{p})*) : [ sh:zeroOrMorePath [ sh:inversePath {p} ] ]
-e:p * ^ : (^({p}*)) : [ sh:inversePath [ sh:zeroOrMorePath {p} ] ]
-e:p + ? : (({p}+)?) : [ sh:zeroOrOnePath [ sh:oneOrMorePath {p} ] ]
-e:p ? + : (({p}?)+) : [ sh:oneOrMorePath [ sh:zeroOrOnePath {p} ] ]
-rdf:type : {rdf:type} : {rdf:type}
-e:p /1 : ({p}) : ( {p} )
-e:p |1 : ({p}) : [ sh:alternativePath ( {p} ) ]
-/0 : () : (  )
-|0 : () : [ sh:alternativePath (  ) ]
+/// Paths of no or of one predicate, which is `rdf:type`, by a mark; the text in a line; and that in Turtle.
+/// The runs of the program have the others.
+pub(super) const PATHS: &str =
+    "p : <http://www.w3.org/1999/02/22-rdf-syntax-ns#type> : <http://www.w3.org/1999/02/22-rdf-syntax-ns#type>
+^ : (^<http://www.w3.org/1999/02/22-rdf-syntax-ns#type>) : [ sh:inversePath <http://www.w3.org/1999/02/22-rdf-syntax-ns#type> ]
+/p : (<http://www.w3.org/1999/02/22-rdf-syntax-ns#type>) : ( <http://www.w3.org/1999/02/22-rdf-syntax-ns#type> )
+|p : (<http://www.w3.org/1999/02/22-rdf-syntax-ns#type>) : [ sh:alternativePath ( <http://www.w3.org/1999/02/22-rdf-syntax-ns#type> ) ]
+/ : () : (  )
+| : () : [ sh:alternativePath (  ) ]
 ";
+
+/// Answers: what is said, or the code of a fault, and the line, which in Turtle is a comment. A `=` stands at
+/// the end of one with a space there.
+pub(super) const ANSWERS: &str = r#"changed : ok changed evaluated 18446744073709551615
+unchanged : ok unchanged evaluated 0
+taken : ok shapes evaluated 3
+begun : ok begun
+queued : ok queued
+abandoned : ok abandoned
+dropped : notice: open group dropped
+count : count triples=18446744073709551615 pairs=0 results=7
+refused : refused line 18446744073709551615: 58 ScriptTooLong
+refused by no code : refused line 18446744073709551615: 11 =
+refused at : refused line 3: 52 LineSyntax at 17
+last fault : fault script: 4294967295  at 18446744073709551615
+long shapes : fault shapes: 10 TextTooLong
+long data : fault data: 10 TextTooLong
+long script : fault script: 58 ScriptTooLong
+notice : notice: 1 sh:sparql triples ignored
+last notice : notice: 18446744073709551615 sh:sparql triples ignored
+usage : usage: shacl_keep [--format lines|turtle] [--base IRI] SHAPES DATA [SCRIPT]
+rule : fault shapes: 20 BadList shape <http://www.w3.org/ns/shacl#NodeShape> predicate <http://www.w3.org/ns/shacl#in> term <http://www.w3.org/1999/02/22-rdf-syntax-ns#nil>
+no term : fault shapes: 30 Recursive shape =
+== each code with its name
+1 : fault data: 1 NotUtf8 at 120
+2 : fault data: 2 Syntax at 120
+3 : fault data: 3 UnknownPrefix at 120
+4 : fault data: 4 BadIri at 120
+5 : fault data: 5 FloatLiteral at 120
+6 : fault data: 6 WideValue at 120
+7 : fault data: 7 TooDeep at 120
+8 : fault data: 8 TooManyTriples at 120
+9 : fault data: 9 TooManyTerms at 120
+10 : fault data: 10 TextTooLong at 120
+58 : fault data: 58 ScriptTooLong at 120
+20 : fault shapes: 20 BadList shape <http://www.w3.org/ns/shacl#in>
+21 : fault shapes: 21 TooManyValues shape <http://www.w3.org/ns/shacl#in>
+22 : fault shapes: 22 WrongKind shape <http://www.w3.org/ns/shacl#in>
+23 : fault shapes: 23 NotOnNodeShape shape <http://www.w3.org/ns/shacl#in>
+24 : fault shapes: 24 BadPath shape <http://www.w3.org/ns/shacl#in>
+25 : fault shapes: 25 NotAPropertyShape shape <http://www.w3.org/ns/shacl#in>
+26 : fault shapes: 26 NotANodeShape shape <http://www.w3.org/ns/shacl#in>
+27 : fault shapes: 27 BadFlags shape <http://www.w3.org/ns/shacl#in>
+28 : fault shapes: 28 TooManyShapes shape <http://www.w3.org/ns/shacl#in>
+29 : fault shapes: 29 PathTooDeep shape <http://www.w3.org/ns/shacl#in>
+30 : fault shapes: 30 Recursive shape <http://www.w3.org/ns/shacl#in>
+31 : fault shapes: 31 BadPattern shape <http://www.w3.org/ns/shacl#in>
+32 : fault shapes: 32 PatternRefused shape <http://www.w3.org/ns/shacl#in>
+33 : fault shapes: 33 ReferencesTooDeep shape <http://www.w3.org/ns/shacl#in>
+"#;
+
+/// A slice of two triples, block by block: the format and the text.
+pub(super) const SLICES: &str = r#"lines
+| slice triples=2
+triple <http://www.w3.org/ns/shacl#NodeShape> <http://www.w3.org/1999/02/22-rdf-syntax-ns#type> <http://www.w3.org/ns/shacl#in>
+triple <http://www.w3.org/ns/shacl#in> <http://www.w3.org/1999/02/22-rdf-syntax-ns#first> <http://www.w3.org/1999/02/22-rdf-syntax-ns#nil>
+
+turtle
+| # slice triples=2
+# triple <http://www.w3.org/ns/shacl#NodeShape> <http://www.w3.org/1999/02/22-rdf-syntax-ns#type> <http://www.w3.org/ns/shacl#in>
+# triple <http://www.w3.org/ns/shacl#in> <http://www.w3.org/1999/02/22-rdf-syntax-ns#first> <http://www.w3.org/1999/02/22-rdf-syntax-ns#nil>"#;

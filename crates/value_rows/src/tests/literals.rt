@@ -2,10 +2,9 @@
 use row_tools::{RowFault, term};
 use shx_term::{Literal, Memory, Term};
 use std::alloc::Global;
-use value_space::{ReadLiteral, is_float, matches_datatype, value_of, wide};
+use value_space::{ReadLiteral, Value, is_float, matches_datatype, value_of, wide};
 
-// Whether a literal has this value, at once and once it was read, and matches its datatype where it is not
-// ill-typed.
+// Whether a literal is as said, and matches its datatype where it is not ill-typed.
 fn is_so(alloc: Global, literal: &Literal, said: &str) -> Result<bool, Memory> {
     if wide(literal) {
         return Ok(said == "wide");
@@ -13,12 +12,9 @@ fn is_so(alloc: Global, literal: &Literal, said: &str) -> Result<bool, Memory> {
     if is_float(literal) {
         return Ok(said == "float");
     }
-    let read = ReadLiteral::of(literal);
-    let both = format!(in alloc; "{:?}|{:?}", value_of(literal), read.value())?;
-    Ok(
-        both.as_str().split_once('|') == Some((said, said))
-            && matches_datatype(literal, &literal.datatype) == (said != "IllTyped"),
-    )
+    let value = format!(in alloc; "{:?}", ReadLiteral::of(literal).value())?;
+    let is_ill = matches!(value_of(literal), Value::IllTyped);
+    Ok(value.as_str() == said && is_ill != matches_datatype(literal, &literal.datatype))
 }
 
 /// Whether the literal of a word is as said.

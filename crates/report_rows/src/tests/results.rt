@@ -1,4 +1,4 @@
-//! Results of shape 0, of no component, and of no shape.
+//! Results: two of the one shape, one of no component, since these end at 29, and one of no shape.
 use comp_core::kinds::{CLOSED, MIN_COUNT, NODE};
 use comp_core::{DetailRow, Details, ResultRow};
 use shx_term::Memory;

@@ -12,8 +12,8 @@ fn is_so(alloc: Global, literal: &Literal, said: &str) -> Result<bool, Memory> {
     if is_float(literal) {
         return Ok(said == "float");
     }
-    let value = format!(in alloc; "{:?}", ReadLiteral::of(literal).value())?;
-    let is_ill = matches!(value_of(literal), Value::IllTyped);
+    let value = format!(in alloc; "{:?}", value_of(literal))?;
+    let is_ill = matches!(ReadLiteral::of(literal).value(), Value::IllTyped);
     Ok(value.as_str() == said && is_ill != matches_datatype(literal, &literal.datatype))
 }
 

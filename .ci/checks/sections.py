@@ -16,9 +16,6 @@ SPAN = re.compile(r"`([^`]+)`")
 FILE = re.compile(r"^`(crates/\w+/(?:specs|src)/[\w/]+\.(?:antt|rt))`$")
 # Where something is left out or differs: the page that says so, and how the passage begins there.
 ELSEWHERE = re.compile(r'^\[\w+\]\((\w+\.md)\), "(.+)"$')
-# The table of comments that name another section than the index has, and its rows.
-OTHERS = "| file | its comment names | the index has |"
-OTHER = re.compile(rf"^\| `(.+)` \| (.+) ({ONE}) \| (.+) ({ONE}) \|$")
 # What a comment names: `SHACL, sections 4.2 and 4.4`, `RFC 3986, section 3 and appendix B`, `section 5.3`.
 SECTION = r"\d+(?:\.\d+)*(?: to \d+(?:\.\d+)*)?|(?<=appendix )[A-Z](?:\.\d+)*"
 LIST = rf"(?:(?:, | and |, and )?(?:appendix )?(?:{SECTION}))+"
@@ -62,16 +59,6 @@ def rows():
             yield Row(number, standard, section, row[2], row[3])
         elif standard and not line.startswith("|--"):
             yield Row(number, standard, None, "", "")
-
-
-def others():
-    """The sections that comments name and those that the index has for them, with the lines that say so."""
-    inside = False
-    for number, line in lines(PAGE):
-        inside = line == OTHERS or inside and line.startswith("|")
-        row = OTHER.match(line) if inside else None
-        if row:
-            yield Cited(row[1], row[2], row[3]), Cited(row[1], row[4], row[5]), number
 
 
 # ---- what a row names
@@ -168,18 +155,11 @@ def all_cited(standards):
 
 
 def unnamed(index):
-    """Sections that comments name without a row that names the file; and comments that are not as is said."""
+    """Sections that comments name without a row that names the file."""
     told = {Cited(row.where.strip("`"), row.standard, row.section) for row in index}
-    meant, found = {it: other for it, other, _ in others()}, set()
     for line, it in all_cited({row.standard for row in index}):
-        found.add(it)
-        due = meant.get(it, it)
-        if due not in told:
-            what = f"no row of {PAGE} for {due.standard} {due.section} names this file"
-            yield Finding(it.file, line, what)
-    for it, _, line in others():
-        if it not in found:
-            yield Finding(PAGE, line, f"no comment of {it.file} names {it.standard} {it.section}")
+        if it not in told:
+            yield Finding(it.file, line, f"no row of {PAGE} for {it.standard} {it.section} names this file")
 
 
 def check():

@@ -1,4 +1,4 @@
--- What is asked of nodes at other shapes (SHACL, section 3.4.3).
+-- What is asked of nodes at other shapes (SHACL, section 3.5).
 use Rattle.std.specs.Prelude.{ℕ, Bool, List, map, filter, flat_map, length}
 use Rattle.graph_view.specs.declared.key.Key.{Key}
 use Rattle.comp_core.specs.declared.pair.Pair.{Pair}

@@ -22,7 +22,7 @@ pub trait Conform {
     /// By pair, what its results were read from, as far as that is noted.
     ghost tells: { Self → (Pair → List Key) → Type 0 };
 
-    /// Whether the pair has no results: the node conforms to the shape (SHACL, section 3.4.3).
+    /// Whether the pair has no results: the node conforms to the shape (SHACL, section 3.5).
     fn conforms(&self, pair: &Pair, reads: &mut Self::Noted) -> Result<bool, Memory>
         requires { holds self.now pair.now }
         ensures answer { IfOk result (λ none. none ≡ is_empty (rows_of self.now pair.now)) }

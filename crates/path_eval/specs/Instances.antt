@@ -1,4 +1,4 @@
--- SHACL instances (SHACL, section 1.3): rdf:type, and then rdfs:subClassOf none or more times.
+-- SHACL instances (SHACL, section 1.1): rdf:type, and then rdfs:subClassOf none or more times.
 use Rattle.std.specs.Prelude.{ℕ, nat_eq, Bool, List, [], ◌∷◌}
 use Rattle.std.specs.List.{list_any}
 use Rattle.shx_term.specs.declared.triple.Triple.{Triple}

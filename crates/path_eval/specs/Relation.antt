@@ -1,4 +1,5 @@
--- Which nodes a path relates (SHACL, section 2.3.1; SPARQL 1.1, section 9.3), and what is read to find them.
+-- Which nodes a path relates (SHACL, section 2.3.1; SPARQL 1.1, sections 9.3 and 9.4), and what is read to
+-- find them.
 use Rattle.std.specs.Prelude.{◌≡◌, ℕ, List, Contains, ◌⊎◌}
 use Rattle.shx_term.specs.Chains.{Chain, Longer}
 use Rattle.shx_term.specs.declared.triple.Triple.{Triple}

@@ -18,7 +18,7 @@ nodes_reached g d route x = in_term_order g.terms ((way g d route).to x)
 abbrev pub path_reads : Graph → Direction → Route → ℕ → List Key
 path_reads g d route x = (way g d route).reads x
 
--- the values of a path at x (SHACL, section 3.4: the value nodes of a property shape)
+-- the values of a path at x (SHACL, section 3.7: the value nodes of a property shape)
 abbrev pub path_values : Graph → Route → ℕ → List ℕ
 path_values g route x = nodes_reached g Forward route x
 

@@ -69,7 +69,7 @@ restriction_among (row ∷ rows) p = if is_among row.predicates p then row else 
 abbrev pub restriction_of : ℕ → Restriction
 restriction_of p = restriction_among restrictions p
 
--- what only a property shape may have (SHACL, sections 4.2, 4.4 and 4.7)
+-- what only a property shape may have (SHACL, sections 4.2, 4.4, 4.5 and 4.7)
 abbrev pub property_parameters : List ℕ
 property_parameters =
     SH_MIN_COUNT ∷ SH_MAX_COUNT ∷ SH_UNIQUE_LANG ∷ SH_LESS_THAN ∷ SH_LESS_THAN_OR_EQUALS

@@ -1,4 +1,4 @@
--- SHACL lists (SHACL, section 1.2; RDF Schema, section 5.2).
+-- SHACL lists (SHACL, section 1.1; RDF Schema, section 5.2).
 use Rattle.std.specs.Prelude.{◌≡◌, ℕ, ◌==◌, zero, suc, Bool, true, List, [], ◌∷◌, length, Option, Some, None}
 use Rattle.std.specs.Option.{option_map}
 use Rattle.shx_term.specs.declared.vocabulary.TheConstants.{RDF_FIRST, RDF_REST, RDF_NIL}

@@ -13,7 +13,7 @@ use shx_term::vocabulary::{RDF_FIRST, RDF_NIL, RDF_REST};
 use shx_term::{Id, Memory};
 use std::alloc::Global;
 
-/// The members of a SHACL list (SHACL, section 1.2), or `None` where the head is none: a cell with two rests,
+/// The members of a SHACL list (SHACL, section 1.1), or `None` where the head is none: a cell with two rests,
 /// or a cycle, makes no list. It takes time linear in the list, and no recursion.
 pub fn read_list<V: GraphView>(
     alloc: Global,

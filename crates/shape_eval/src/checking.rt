@@ -16,7 +16,7 @@ use path_eval::{Path, values};
 use shx_term::{Id, Memory};
 use std::alloc::Global;
 
-/// The value nodes at a node (SHACL, section 3.4): of a property shape those to which its path leads, of a
+/// The value nodes at a node (SHACL, section 3.7): of a property shape those to which its path leads, of a
 /// node shape the node itself.
 pub(crate) fn find_values<V: GraphView, N: Notes>(
     alloc: Global,

@@ -1,5 +1,5 @@
--- When one value is less than another (SPARQL 1.1, sections 17.3 and 17.4; XML Schema 1.1 part 2, section
--- 3.3.7.2 for moments with and without a zone).
+-- When one value is less than another (SPARQL 1.1, section 17.3; XML Schema 1.1 part 2, section
+-- 3.3.7.1 for moments with and without a zone).
 use Rattle.std.specs.Prelude.{ℕ, Bool, true, false, ℤ, pos, ◌+ℤ◌, ◌-ℤ◌, int_lt, List, Option, Some, None}
 use Rattle.std.specs.Prelude.{if◌then◌else◌}
 use Rattle.std.specs.declared.cmp.Ordering.{Ordering}

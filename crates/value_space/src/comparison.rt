@@ -1,4 +1,4 @@
-//! When one literal or term is less than another (SPARQL 1.1, sections 17.3 and 17.4.1.2).
+//! When one literal or term is less than another (SPARQL 1.1, section 17.3).
 ghost use Rattle.std.specs.Prelude.{◌≡◌, false};
 ghost use Rattle.shx_term.specs.WideLiterals.{is_wide};
 ghost use Rattle.value_space.specs.Compared.{is_less, is_less_eq, read_as};

@@ -1,4 +1,4 @@
-//! The order of values, where they have one (SPARQL 1.1, sections 17.3 and 17.4.1.2).
+//! The order of values, where they have one (SPARQL 1.1, section 17.3).
 ghost use Rattle.std.specs.Prelude.{◌≡◌, ◌<◌, ◌^◌, ◌*◌, ◌+◌};
 ghost use Rattle.std.specs.Ordering.{nat_cmp};
 ghost use Rattle.value_space.specs.declared.value.Value.TheVariants.{Num};

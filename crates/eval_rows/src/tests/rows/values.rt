@@ -1,4 +1,4 @@
-//! Value nodes (SHACL, section 3.4), by hand.
+//! Value nodes (SHACL, section 3.7), by hand.
 
 pub const ROWS: &str = "\
 of a node shape the node itself

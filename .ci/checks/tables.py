@@ -9,7 +9,9 @@ sys.path.insert(0, str(TOP / "bench"))
 from count_lines import counts_of  # noqa: E402
 
 README, ARCHITECTURE, FIGURES = "README.md", "docs/ARCHITECTURE.md", "docs/FIGURES.md"
-COUNTED = "| crate | lines of code |"
+COUNTED, MEASURED = "| crate | lines of code |", "| crate | processor seconds of its proof |"
+# What `bin/build_program` reckons by: the crates that the program stands on, and itself.
+SECONDS, PROGRAM, LADDER = "bin/proof_seconds", "shacl_keep", "crates.txt"
 SPAN = re.compile(r"`(\w+)`")
 # How far the lines of a crate may be from what FIGURES says: a part of what they are, and some lines.
 PART, SOME = 0.1, 10
@@ -55,6 +57,35 @@ def check_figures():
                 yield Finding(FIGURES, number, f"{crate} has {count} {column}, not {said}")
         if int(cells[-1]) != wrong:
             yield Finding(FIGURES, number, f"{crate} has {wrong} wrong bodies, not {cells[-1]}")
+
+
+def standing_on(crate):
+    """A crate and those of the repository that it stands on."""
+    named = dict(line.split(":") for _, line in lines(LADDER) if re.match(r"\w+:", line))
+    found, left = set(), [crate]
+    while left:
+        it = left.pop()
+        if it in named and it not in found:
+            found.add(it)
+            left += named[it].split()
+    return found
+
+
+def check_seconds():
+    """Seconds of proofs that stand otherwise in FIGURES than where the first command reckons by them, and
+    crates of the program that have none there."""
+    measured = {cells[0].strip("` "): cells[1].strip()
+                for cells in (line.strip("|").split("|") for _, line in rows(FIGURES, MEASURED))}
+    stored = {}
+    for number, line in lines(SECONDS):
+        if re.match(r"\w", line):
+            crate, seconds = line.split()
+            stored[crate] = seconds
+            if measured.get(crate) != seconds:
+                yield Finding(SECONDS, number, f"FIGURES has {measured.get(crate)} seconds for {crate}")
+    for crate in sorted(standing_on(PROGRAM) ^ stored.keys()):
+        how = "is left out" if crate not in stored else f"is no crate that {PROGRAM} stands on"
+        yield Finding(SECONDS, 1, f"{crate} {how}")
 
 
 def check_examples():

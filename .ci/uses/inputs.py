@@ -26,7 +26,7 @@ PATIENCE = 20
 
 SHAPES = texts.LITERALS
 DATA = texts.PREFIXES + 'e:a e:p e:b .\n'
-REPORT = texts.report(['result NodeKind Violation <http://e/S> <http://e/a> <http://e/p> <http://e/b>\n'], 1)
+REPORT = texts.report('result NodeKind Violation <http://e/S> <http://e/a> <http://e/p> <http://e/b>\n')
 COUNT = 'count triples=1 pairs=1 results=1\n'
 THREE = ('shapes', 'data', 'script')
 TEXTS = texts.files(SHAPES, DATA, 'count\n')
@@ -154,8 +154,8 @@ def loaded_shapes_go(program):
 
 # Texts that end early: the place, what comes, what is put, and the status.
 EARLY = (
-    ('shapes', '', texts.report('', 0) + 'count triples=1 pairs=0 results=0\n', 0),
-    ('data', '', texts.report('', 0) + 'count triples=0 pairs=1 results=0\n', 0),
+    ('shapes', '', texts.report() + 'count triples=1 pairs=0 results=0\n', 0),
+    ('data', '', texts.report() + 'count triples=0 pairs=1 results=0\n', 0),
     ('script', '', REPORT, 1),
     ('shapes', SHAPES[:-4], f'fault shapes: 2 Syntax at {len(texts.PREFIXES)}\n', 3),
     ('data', DATA[:-4], f'fault data: 2 Syntax at {len(texts.PREFIXES)}\n', 3),

@@ -12,7 +12,7 @@ GROUP, CHANGES, LINE, SHAPES, PARTS = 10_000, 100, 65_536, 100_000, 4_096
 
 def scripted(name, script, answers, status):
     """A script over no data, for a shape that has one focus node, which has no value."""
-    due = (texts.report('', 0) + answers).encode()
+    due = (texts.report() + answers).encode()
     return Use(name, due, status, texts.files(texts.LITERALS, texts.PREFIXES, script), THREE)
 
 
@@ -53,7 +53,7 @@ def shape_count(more):
     due = f'fault shapes: 28 TooManyShapes shape <http://e/s{SHAPES}>\n'
     if more:
         return shapes('a shape too many', text, due, 3)
-    return shapes('shapes at their limit', text, texts.report('', 0), 0)
+    return shapes('shapes at their limit', text, texts.report(), 0)
 
 
 def path_parts(more):
@@ -64,7 +64,7 @@ def path_parts(more):
            ' term _:t-1\n')
     if more:
         return shapes('a path with a part too many', text, due, 3)
-    return shapes('a path at its limit', text, texts.report('', 0), 0)
+    return shapes('a path at its limit', text, texts.report(), 0)
 
 
 def tried(program):

@@ -17,7 +17,7 @@ STEP, STEPS, MOST = 1 << 16, 40, 1 << 32
 def inserted(count):
     """So many edits, each of a node that is no focus node, and with a term that is new and long."""
     script = ''.join(f'insert e:n{at} e:p "{at:0200}" .\n' for at in range(count))
-    due = texts.report('', 0) + 'ok changed evaluated 0\n' * count
+    due = texts.report() + 'ok changed evaluated 0\n' * count
     return Use(f'{count} edits', due.encode(), 0, texts.files(texts.LITERALS, texts.PREFIXES, script),
                ('shapes', 'data', 'script'))
 
@@ -82,7 +82,7 @@ def limited(program, use, folder, name, kind):
     yield said(name, set(answers) == {False, True}, 'ends in one way alone, under', len(answers))
     if use.status == 0:
         # No answer waits for a later line, so the first stand there when memory is wanting.
-        begun = [run for _, run in found if run.status == 6 and len(run.put) > len(texts.report('', 0))]
+        begun = [run for _, run in found if run.status == 6 and len(run.put) > len(texts.report())]
         yield said(name, bool(begun), 'puts no answer before memory is wanting')
 
 

@@ -162,8 +162,7 @@ class Parcels:
         return lines
 
     def report(self):
-        lines = self.results()
-        return texts.report(lines, len(lines))
+        return texts.report(*self.results())
 
     def counts(self):
         pairs = len(self.parcels()) + len(self.depots())

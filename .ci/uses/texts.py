@@ -20,9 +20,9 @@ BLOCK = '''  sh:result [
   ]'''
 
 
-def report(lines, count):
-    """A report whose results have these lines."""
-    return f'report conforms={"false" if count else "true"} results={count}\n{"".join(lines)}'
+def report(*results):
+    """A report of results, each by its lines."""
+    return f'report conforms={"false" if results else "true"} results={len(results)}\n{"".join(results)}'
 
 
 def files(shapes, data, script=None):
@@ -37,9 +37,9 @@ def many(count):
 
 def large(count):
     """A report of half a kilobyte for each of so many results."""
-    lines = (f'result MaxCount Violation <http://e/S> <http://e/n{at:05}> <http://e/p> -\n'
-             f'message "{MESSAGE}"\n' for at in range(count))
-    due = report(lines, count)
+    results = (f'result MaxCount Violation <http://e/S> <http://e/n{at:05}> <http://e/p> -\n'
+               f'message "{MESSAGE}"\n' for at in range(count))
+    due = report(*results)
     return Use(f'a report of {count} results', due.encode(), 1, files(NONE, many(count)))
 
 
@@ -52,10 +52,10 @@ def large_in_turtle(count):
 
 def scripted(count):
     """A script that puts so many results in one by one, and has the report told behind each."""
-    lines = [f'result NodeKind Violation <http://e/S> <http://e/a> <http://e/p> <http://e/v{at:05}>\n'
-             for at in range(count)]
-    due = report('', 0)
-    due += ''.join(f'ok changed evaluated 1\n{report(lines[:at + 1], at + 1)}' for at in range(count))
+    results = [f'result NodeKind Violation <http://e/S> <http://e/a> <http://e/p> <http://e/v{at:05}>\n'
+               for at in range(count)]
+    due = report()
+    due += ''.join(f'ok changed evaluated 1\n{report(*results[:at + 1])}' for at in range(count))
     script = ''.join(f'insert e:a e:p e:v{at:05} .\nreport\n' for at in range(count))
     words = ('shapes', 'data', 'script')
     return Use(f'answers to {2 * count} lines', due.encode(), 1, files(LITERALS, PREFIXES, script), words)
@@ -68,7 +68,7 @@ def short():
     return (
         Use('the usage', USAGE, 2, no_result, ()),
         Use('a fault', b'fault data: 2 Syntax at 0\n', 3, fault),
-        Use('a report without results', report('', 0).encode(), 0, no_result),
-        Use('a refused line', report('', 0).encode() + b'refused line 1: 52 LineSyntax\n', 7, refused,
+        Use('a report without results', report().encode(), 0, no_result),
+        Use('a refused line', report().encode() + b'refused line 1: 52 LineSyntax\n', 7, refused,
             ('shapes', 'data', 'script')),
     )

@@ -186,8 +186,12 @@ module _ (known : List (ℕ × Wider)) where
       subst (λ ys. Meets known ys old new) (sym (take_more xs i d inside))
       (Meets-then (take i xs) (get_or xs i d ∷ []) old mid new before step)
 
-  module _ (class : ℕ) (old mid : Wider) (joins : Joins old.classes.keys (class ∷ []) mid.classes.keys)
+  -- a class was entered, and nothing was read
+  module _ (class : ℕ) (old mid : Wider) (adds : mid.classes.keys ≡ insert_key nat_eq old.classes.keys class)
       (same : mid.reads ≡ old.reads) where
+    joins : Joins old.classes.keys (class ∷ []) mid.classes.keys
+    joins = subst (Joins old.classes.keys (class ∷ [])) (sym adds) (Joins-class old.classes.keys class)
+
     entered : (g : Graph) (from : ℕ) → ((y : ℕ) → Contains (class ∷ []) y → IsAbove g from y)
         → GrowsTo g from old mid
     entered g from above =

@@ -145,9 +145,15 @@ impl Climb {
         if self.is_read(class) {
             return Ok(());
         }
-        let wider = RDFS_SUB_CLASS_OF;
         let reads = &mut self.wider.reads;
-        let above = step(alloc, view, Direction::Forward, wider, class, reads)?;
+        let above = step(
+            alloc,
+            view,
+            Direction::Forward,
+            RDFS_SUB_CLASS_OF,
+            class,
+            reads,
+        )?;
         self.taken = self.taken.saturating_sub(above.len());
         self.meet_all(known, &above)
     }

@@ -53,6 +53,11 @@ pub(super) fn are_nodes(nodes: &[Id], letters: &str) -> bool {
     nodes.len() == letters.len() && both.all(|(node, letter)| number(*letter) == Ok(*node))
 }
 
+/// Whether the answer of a row is `yes`, or `no`.
+pub(super) fn is_said(is: bool, answer: &str) -> bool {
+    answer == if is { "yes" } else { "no" }
+}
+
 fn key_of(word: &str) -> Result<Key, RowFault> {
     match word.as_bytes() {
         [b'?', p, o] => Ok(Key::In(number(*p)?, number(*o)?)),

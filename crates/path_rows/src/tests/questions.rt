@@ -1,4 +1,4 @@
-use super::cells::{are_nodes, graph, keys, node};
+use super::cells::{are_nodes, graph, is_said, keys, node};
 use super::paths::path;
 use super::rows::QUESTIONS;
 use due_view::DueView;
@@ -60,10 +60,6 @@ fn is_same(alloc: Global, first: &Path, second: &str) -> Result<bool, RowFault> 
 fn are_same(alloc: Global, words: &str) -> Result<bool, RowFault> {
     let (first, second) = cut(words, " ")?;
     is_same(alloc, &path(alloc, first)?, second)
-}
-
-fn is_said(is: bool, answer: &str) -> bool {
-    answer == if is { "yes" } else { "no" }
 }
 
 // Whether the question has the answer.

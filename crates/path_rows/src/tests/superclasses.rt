@@ -6,7 +6,7 @@ ghost use Rattle.std.specs.Prelude.{IfOk};
 ghost use Rattle.graph_view.specs.ListGraph.{plain_graph};
 ghost use Rattle.path_eval.specs.Superclasses.{AreSuperclassesOf};
 
-use super::cells::{graph, keys, number};
+use super::cells::{graph, is_said, keys, number};
 use due_view::DueView;
 use graph_view::{GraphView, ListGraph, Notes, Reads, Unnoted};
 use path_eval::Superclasses;
@@ -106,14 +106,6 @@ fn asked(alloc: Global, graph: &ListGraph, words: &str) -> Result<Superclasses, 
     Ok(known)
 }
 
-fn is_answer(is: bool, answer: &str) -> Result<bool, RowFault> {
-    match answer {
-        "yes" => Ok(is),
-        "no" => Ok(!is),
-        _ => Err(RowFault::Unread),
-    }
-}
-
 // Whether a question is answered with these look-ups alone; `reads` takes what is read for it.
 fn is_answered(
     alloc: Global,
@@ -127,7 +119,7 @@ fn is_answered(
     let mut known = asked(alloc, graph, before)?;
     let view = DueView::new(graph, looked);
     let is = ask(alloc, &view, &mut known, word, reads)?;
-    is_answer(is, answer)
+    Ok(is_said(is, answer))
 }
 
 // Whether the row's question has its answer, reads its keys, and looks up none but those that it may.

@@ -40,10 +40,10 @@ const LIMITS: [&str; 12] = [
 /// It is written as a block of text, in parts that begin with marks: `== run NAME`, `== words` (one a line),
 /// `== limits` and `== outside` (a name and a number a line), `== prefixes` (what the shapes and the data
 /// begin with), `== shapes`, `== more` (another text of shapes, of this name), `== data`, `== script`,
-/// `== output` (or `== front`, where a proper front of it is due) and `== status N`. A part that a block
-/// leaves out is that of the block that its table shares, and is else empty. A text that ends in `$` has no
-/// line feed at its end, and U+FFFF in it stands for the byte 255. A block with another mark or another name
-/// cannot be read.
+/// `== output` (or `== front`, where a proper front of this text is due, or of the output where it is empty)
+/// and `== status N`. A part that a block leaves out is that of the block that its table shares, and is else
+/// empty. A text that ends in `$` has no line feed at its end, and U+FFFF in it stands for the byte 255. A
+/// block with another mark or another name cannot be read.
 #[derive(Clone, Copy)]
 pub(super) struct Case<'a> {
     pub words: &'a str,
@@ -67,7 +67,6 @@ impl<'a> Case<'a> {
         if !has_known_marks(block) || !has_known_marks(shared) {
             return Err(RowFault::Unread);
         }
-        let front = behind(block, "== front\n");
         Ok(Case {
             words: words_of(block, shared),
             limits: limits_of(part(block, shared, "== limits\n"))?,
@@ -77,8 +76,8 @@ impl<'a> Case<'a> {
             more: part(block, shared, "== more\n"),
             data: part(block, shared, "== data\n"),
             script: part(block, shared, "== script\n"),
-            output: front.unwrap_or(part(block, shared, "== output\n")),
-            is_front: front.is_some(),
+            output: due_of(block, shared),
+            is_front: behind(block, "== front\n").is_some(),
             status: status_of(part(block, shared, "== status "))?,
         })
     }
@@ -109,6 +108,14 @@ fn words_of<'a>(block: &'a str, shared: &'a str) -> &'a str {
         Some(words) => words,
         None if part_of(block, shared, "== script\n").is_some() => "shapes\ndata\nscript\n",
         None => "shapes\ndata\n",
+    }
+}
+
+// The text that is due, or of which a front is due.
+fn due_of<'a>(block: &'a str, shared: &'a str) -> &'a str {
+    match behind(block, "== front\n") {
+        Some(text) if !text.is_empty() => text,
+        _ => part(block, shared, "== output\n"),
     }
 }
 

@@ -58,24 +58,6 @@ read bytes 16
 failing call 1
 further 41
 == front
-report conforms=false results=1
-result MinCount Violation <http://e/S> <http://e/a> <http://e/p> -
-ok begun
-ok queued
-ok queued
-ok changed evaluated 1
-slice triples=2
-triple <http://e/a> <http://e/p> <http://e/b>
-triple <http://e/a> <http://e/p> <http://e/c>
-ok changed evaluated 1
-ok changed evaluated 1
-ok begun
-refused line 9: 42 GroupOpen
-ok abandoned
-ok shapes evaluated 2
-report conforms=false results=1
-result MinCount Violation <http://e/T> <http://e/b> <http://e/p> -
-refused line 13: 53 UnknownPrefix at 7
 == status 4
 == run the last call fails, in pieces of 16 bytes
 == outside
@@ -113,24 +95,6 @@ put bytes 1
 failing put 1
 further 515
 == front
-report conforms=false results=1
-result MinCount Violation <http://e/S> <http://e/a> <http://e/p> -
-ok begun
-ok queued
-ok queued
-ok changed evaluated 1
-slice triples=2
-triple <http://e/a> <http://e/p> <http://e/b>
-triple <http://e/a> <http://e/p> <http://e/c>
-ok changed evaluated 1
-ok changed evaluated 1
-ok begun
-refused line 9: 42 GroupOpen
-ok abandoned
-ok shapes evaluated 2
-report conforms=false results=1
-result MinCount Violation <http://e/T> <http://e/b> <http://e/p> -
-refused line 13: 53 UnknownPrefix at 7
 == status 5
 == run no further put of 1 byte is made
 == outside

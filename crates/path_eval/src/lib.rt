@@ -13,6 +13,7 @@
 //! | `edge.rt` | `Edge` and `State`: places of a path, and nodes at them |
 //! | `lay.rt` | a path laid as edges between two places |
 //! | `course.rt` | a whole path, laid part behind part: a closure ends at its own place |
+//! | `laid_edges.rt`, `laid_path.rt` | `LaidPath`: a path that is laid once, and shared by its copies |
 //! | `rows.rt` | edges by the places that they begin at |
 //! | `search.rt` | the search over states, and one step along a predicate |
 //! | `held.rt` | `Held`: a set of states, a few side by side and more by hash |
@@ -32,6 +33,8 @@ mod edge;
 mod held;
 mod instance_laws;
 mod instance_values;
+mod laid_edges;
+mod laid_path;
 mod last_node;
 mod laws;
 mod lay;
@@ -50,6 +53,7 @@ pub use instance_laws::{
     a_type_tells_of_its_node_alone, instances_are_told, instances_depend_on_their_reads,
 };
 pub use instance_values::{classes, instances, is_instance};
+pub use laid_path::LaidPath;
 pub use laws::{edits_beside_a_path, paths_depend_on_their_reads, paths_lead_to_what_they_relate};
 pub use path::Path;
 pub use path_equality::equal_paths_have_one_route;

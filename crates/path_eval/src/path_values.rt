@@ -7,9 +7,9 @@ ghost use Rattle.path_eval.specs.Route.{Route, route_of};
 ghost use Rattle.path_eval.specs.inner.Rows.{IsByPlace};
 ghost use Rattle.path_eval.specs.Values.{nodes_reached, path_reads};
 
-use crate::course::{Course, START};
+use crate::course::START;
 use crate::edge::{Edge, State};
-use crate::rows::by_place;
+use crate::laid_edges::LaidEdges;
 use crate::search::{search, step};
 use crate::{Direction, Path};
 use graph_view::{GraphView, Notes};
@@ -42,11 +42,8 @@ pub fn values<V: GraphView, N: Notes>(
         let found = step(alloc, view, Direction::Forward, *p, start, reads)?;
         return Ok(found);
     }
-    let mut course = Course::new(alloc);
-    course.lead(path)?;
-    let edges = &course.edges;
-    let rows = by_place(alloc, &edges.edges, edges.places)?;
-    follow_laid(alloc, view, &rows, &edges.edges, course.end, start, reads)
+    let edges = LaidEdges::of(alloc, path)?;
+    edges.follow(alloc, view, start, reads)
 }
 
 /// The nodes to which the edges lead, as they are laid for a whole path, in term order. `rows` has the edges

@@ -1,5 +1,5 @@
 -- A whole path, laid part behind part from place 0 on: a closure ends at its own place.
-use Rattle.std.specs.Prelude.{ℕ, ◌+◌, Bool, true, false, List, [], ◌∷◌, ◌++◌, if◌then◌else◌}
+use Rattle.std.specs.Prelude.{◌≡◌, ℕ, ◌+◌, Bool, true, false, List, [], ◌∷◌, ◌++◌, if◌then◌else◌}
 use Rattle.path_eval.specs.declared.course.Course.{Course}
 use Rattle.path_eval.specs.declared.direction.Direction.{Direction}
 use Rattle.path_eval.specs.declared.direction.Direction.TheVariants.{Forward, Backward}
@@ -76,3 +76,7 @@ line_of course = record {
   end = course.end;
   turns = course.turns;
 }
+
+-- it is the whole of a path that says this
+abbrev pub IsCourseOf : Route → Course → Type 0
+IsCourseOf route course = line_of course ≡ whole Forward route

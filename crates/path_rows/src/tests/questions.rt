@@ -4,28 +4,37 @@ use super::rows::QUESTIONS;
 use due_view::DueView;
 use graph_view::{ListGraph, Reads};
 use path_eval::{
-    Path, a_type_tells_of_its_node_alone, classes, edits_beside_a_path, equal_paths_have_one_route,
-    instances, instances_are_told, instances_depend_on_their_reads, is_instance,
-    paths_depend_on_their_reads, paths_lead_to_what_they_relate, values,
+    LaidPath, Path, a_type_tells_of_its_node_alone, classes, edits_beside_a_path,
+    equal_paths_have_one_route, instances, instances_are_told, instances_depend_on_their_reads,
+    is_instance, paths_depend_on_their_reads, paths_lead_to_what_they_relate, values,
 };
 use row_tools::{RowFault, all_met, cut, in_four};
 use shx_term::Id;
 use std::alloc::Global;
 use std::test::Fail;
 
-// Where a copy of a path leads, if it is equal.
-fn copy_values(
+// A copy of a path, laid and shared, if it is equal.
+fn shared(alloc: Global, path: &Path) -> Result<LaidPath, RowFault> {
+    let laid = LaidPath::new(alloc, path.copy(alloc)?)?;
+    if laid.path() != path {
+        return Err(RowFault::Unread);
+    }
+    Ok(laid.copy()?)
+}
+
+// Where a path leads, if it leads there laid and shared too.
+fn path_values(
     alloc: Global,
     view: &DueView<ListGraph>,
     path: &Path,
     start: Id,
     reads: &mut Reads,
 ) -> Result<Vec<Id>, RowFault> {
-    let copy = path.copy(alloc)?;
-    if copy != *path {
+    let found = shared(alloc, path)?.values(alloc, view, start, reads)?;
+    if values(alloc, view, path, start, reads)? != found {
         return Err(RowFault::Unread);
     }
-    Ok(values(alloc, view, &copy, start, reads)?)
+    Ok(found)
 }
 
 // The classes of a node, the instances of a class, or where a path leads.
@@ -39,7 +48,7 @@ fn found(
     match asked {
         "classes" => Ok(classes(alloc, view, of, reads)?),
         "instances" => Ok(instances(alloc, view, of, reads)?),
-        marks => copy_values(alloc, view, &path(alloc, marks)?, of, reads),
+        marks => path_values(alloc, view, &path(alloc, marks)?, of, reads),
     }
 }
 

@@ -10,7 +10,7 @@ ghost use Rattle.plan_swap.specs.inner.Stated.{stated_content};
 
 use crate::stated::{Stated, stated_by};
 use comp_core::ShapeNo;
-use path_eval::{Path, equal_paths_have_one_route};
+use path_eval::{LaidPath, equal_paths_have_one_route};
 use shape_eval::{Constraint, Plan, PlanShape};
 use shx_term::Id;
 
@@ -28,12 +28,12 @@ pub(crate) fn is_same_shape(old: &Plan, before: &PlanShape, new: &Plan, after: &
 }
 
 // Whether there is no path in both, or one route.
-fn is_same_path(p: &Option<Path>, q: &Option<Path>) -> bool
+fn is_same_path(p: &Option<LaidPath>, q: &Option<LaidPath>) -> bool
     ensures { IsTrue result ↔ option_map route_of p.now ≡ option_map route_of q.now }
 {
     equal_paths_have_one_route();
     match (p, q) {
-        (Some(p), Some(q)) => p == q,
+        (Some(p), Some(q)) => p.path() == q.path(),
         (None, None) => true,
         _ => false,
     }

@@ -31,7 +31,7 @@ pub(crate) fn stated_by(c: &Constraint) -> Stated<'_>
 {
     match c {
         Constraint::Pattern(c) => Stated::Matches(&c.text, c.flags),
-        Constraint::LanguageIn(c) => Stated::Members(&c.members),
+        Constraint::LanguageIn(c) => Stated::Members(c.members.as_slice()),
         Constraint::Not(c) => Stated::Names(slice::from_ref(&c.shape), &[]),
         Constraint::And(c) => Stated::Names(&c.shapes, &[]),
         Constraint::Or(c) => Stated::Names(&c.shapes, &[]),
@@ -44,8 +44,8 @@ pub(crate) fn stated_by(c: &Constraint) -> Stated<'_>
         Constraint::QualifiedMaxCount(c) => {
             Stated::Names(slice::from_ref(&c.shape), &c.siblings)
         }
-        Constraint::Closed(c) => Stated::Permits(&c.permitted, &c.ignored),
-        Constraint::In(c) => Stated::Members(&c.members),
+        Constraint::Closed(c) => Stated::Permits(c.permitted.as_slice(), c.ignored.as_slice()),
+        Constraint::In(c) => Stated::Members(c.members.as_slice()),
         _ => Stated::Nothing,
     }
 }

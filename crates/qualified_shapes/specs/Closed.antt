@@ -27,7 +27,7 @@ closed_at permitted ignored g at vs =
     flat_map (λ v. flat_map (closed_hit permitted ignored at) (triples_of g v)) vs
 
 abbrev pub closed_hits : Closed → Graph → At → List ℕ → List ResultRow
-closed_hits c g at vs = closed_at c.permitted.items c.ignored.items g at vs
+closed_hits c g at vs = closed_at c.permitted c.ignored g at vs
 
 -- the triples of each value node are read
 abbrev pub closed_reads : List ℕ → List Key

@@ -2,8 +2,9 @@
 ghost use Rattle.std.specs.Prelude.{◌≡◌};
 
 use crate::triples::check_closed;
-use comp_core::{At, Component, Conform, Lookup, Pair, ResultRow};
+use comp_core::{At, Component, Conform, Pair, ResultRow};
 use graph_view::{GraphView, look_ups_agree};
+use id_list::IdList;
 use shx_term::{Id, Memory};
 use std::alloc::Global;
 
@@ -12,9 +13,9 @@ pub struct Closed {
     /// The literal `true`.
     pub value: Id,
     /// The paths of the property shapes that are IRIs.
-    pub permitted: Vec<Id>,
+    pub permitted: IdList,
     /// The predicates that are ignored.
-    pub ignored: Vec<Id>,
+    pub ignored: IdList,
 }
 
 impl Drop for Closed {
@@ -29,7 +30,7 @@ impl Drop for Closed {
 
 impl Closed {
     /// The component with its parameters. It takes no memory.
-    pub fn new(value: Id, permitted: Vec<Id>, ignored: Vec<Id>) -> Closed
+    pub fn new(value: Id, permitted: IdList, ignored: IdList) -> Closed
         ensures value { result.value ≡ value }
         ensures permitted { result.permitted ≡ permitted }
         ensures ignored { result.ignored ≡ ignored }
@@ -73,10 +74,9 @@ impl<'p> Component<'p> for Closed {
         reads: &mut C::Noted,
         out: &mut Vec<ResultRow>,
     ) -> Result<(), Memory> {
-        let permitted = Lookup::new(alloc, &self.permitted)?;
-        let ignored = Lookup::new(alloc, &self.ignored)?;
-        check_closed(alloc, view, &permitted, &ignored, at, values, reads, out)?;
-        Ok(())
+        let permitted = &self.permitted;
+        let ignored = &self.ignored;
+        check_closed(alloc, view, permitted, ignored, at, values, reads, out)
     }
 
     fn laws() {

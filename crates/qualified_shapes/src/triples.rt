@@ -3,13 +3,14 @@ ghost use Rattle.std.specs.Prelude.{◌≡◌, ◌++◌, flat_map, OnOk};
 ghost use Rattle.qualified_shapes.specs.Closed.{closed_at, closed_hit, closed_reads, is_allowed};
 
 use comp_core::kinds::CLOSED;
-use comp_core::{At, Lookup, ResultRow};
+use comp_core::{At, ResultRow};
 use graph_view::{GraphView, Notes};
+use id_list::IdList;
 use shx_term::{Id, Memory, Triple};
 use std::alloc::Global;
 
 // Whether a predicate is permitted or ignored.
-fn is_allowed(permitted: &Lookup<'_>, ignored: &Lookup<'_>, p: Id) -> bool
+fn is_allowed(permitted: &IdList, ignored: &IdList, p: Id) -> bool
     ensures { result ≡ is_allowed permitted.now ignored.now p }
 {
     permitted.has(p) || ignored.has(p)
@@ -18,8 +19,8 @@ fn is_allowed(permitted: &Lookup<'_>, ignored: &Lookup<'_>, p: Id) -> bool
 // Appends a result for each of the triples whose predicate is not allowed.
 fn check_triples(
     alloc: Global,
-    permitted: &Lookup<'_>,
-    ignored: &Lookup<'_>,
+    permitted: &IdList,
+    ignored: &IdList,
     at: At,
     triples: &[Triple],
     out: &mut Vec<ResultRow>,
@@ -40,8 +41,8 @@ fn check_triples(
 pub(crate) fn check_closed<V: GraphView, N: Notes>(
     alloc: Global,
     view: &V,
-    permitted: &Lookup<'_>,
-    ignored: &Lookup<'_>,
+    permitted: &IdList,
+    ignored: &IdList,
     at: At,
     values: &[Id],
     reads: &mut N,

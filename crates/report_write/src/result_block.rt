@@ -12,7 +12,7 @@ ghost use Rattle.report_write.specs.ResultPaths.{result_path_text};
 use crate::path::add_path;
 use crate::result_names::component_name;
 use comp_core::{DetailRow, Kind, ResultRow};
-use path_eval::Path;
+use path_eval::LaidPath;
 use shape_eval::{Plan, PlanShape};
 use shx_term::{Id, Pieces, Pool};
 use text_output::{Format, add_term};
@@ -138,7 +138,7 @@ fn open_property<W: Pieces>(before: &str, name: &str, out: &mut W)
 fn add_path_property<W: Pieces>(
     before: &str,
     predicate: Option<Id>,
-    path: &Option<Path>,
+    path: &Option<LaidPath>,
     pool: &Pool,
     out: &mut W,
 )
@@ -149,7 +149,7 @@ fn add_path_property<W: Pieces>(
         (Some(predicate), _) => add_term_property(before, "resultPath", predicate, pool, out),
         (None, Some(path)) => {
             open_property(before, "resultPath", out);
-            add_path(path, Format::Turtle, pool, out);
+            add_path(path.path(), Format::Turtle, pool, out);
         }
         (None, None) => {}
     }

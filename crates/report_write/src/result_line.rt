@@ -10,7 +10,7 @@ ghost use Rattle.report_write.specs.ResultPaths.{result_path_text};
 use crate::path::add_path;
 use crate::result_names::{add_severity, component_name};
 use comp_core::{DetailRow, ResultRow};
-use path_eval::Path;
+use path_eval::LaidPath;
 use shape_eval::{Plan, PlanShape};
 use shx_term::{Id, Pieces, Pool};
 use text_output::{Format, add_optional, add_term};
@@ -59,13 +59,18 @@ fn add_source<W: Pieces>(word: &str, row: &DetailRow, shape: &PlanShape, pool: &
 }
 
 // The path of a result, or `-` where there is none.
-fn add_result_path<W: Pieces>(predicate: Option<Id>, path: &Option<Path>, pool: &Pool, out: &mut W)
+fn add_result_path<W: Pieces>(
+    predicate: Option<Id>,
+    path: &Option<LaidPath>,
+    pool: &Pool,
+    out: &mut W,
+)
     ensures { W.added out.old out.new
         (unwrap_or (result_path_text Lines pool.now.terms predicate path.now) (codes "-")) }
 {
     match (predicate, path) {
         (Some(predicate), _) => add_term(predicate, pool, out),
-        (None, Some(path)) => add_path(path, Format::Lines, pool, out),
+        (None, Some(path)) => add_path(path.path(), Format::Lines, pool, out),
         (None, None) => out.add(b"-"),
     }
 }

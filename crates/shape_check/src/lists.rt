@@ -23,18 +23,25 @@ pub(crate) fn first_unfit_member(lists: &[ListValue], pool: &Pool, kind: ValueKi
     ensures { result ≡ find (λ n. not (is_of_kind pool.now.terms kind n))
         (flat_map (λ list. members_or_none (told_list list).members) lists.now) }
 {
-    lists
-        .iter()
-        .flat_map(members)
-        .copied()
-        .find(|id| !is_of_kind(pool, kind, *id))
+    for list in lists {
+        if let Some(id) = first_unfit(members(list), pool, kind) {
+            return Some(id);
+        }
+    }
+    None
+}
+
+fn first_unfit(ids: &[Id], pool: &Pool, kind: ValueKind) -> Option<Id>
+    ensures { result ≡ find (λ n. not (is_of_kind pool.now.terms kind n)) ids.now }
+{
+    ids.iter().copied().find(|id| !is_of_kind(pool, kind, *id))
 }
 
 fn members(list: &ListValue) -> &[Id]
     ensures { result.now ≡ members_or_none (told_list list.now).members }
 {
     match &list.members {
-        Some(members) => members,
+        Some(members) => members.as_slice(),
         None => &[],
     }
 }

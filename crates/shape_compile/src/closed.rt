@@ -6,9 +6,12 @@ ghost use Rattle.comp_core.specs.declared.kinds.TheConstants.{CLOSED};
 ghost use Rattle.path_eval.specs.Route.{route_of};
 ghost use Rattle.shape_decl.specs.Declarations.{told_decl, values_under};
 ghost use Rattle.shape_decl.specs.PathReadings.{Read, told_reading};
-ghost use Rattle.shape_refs.specs.References.{declared_at};
+ghost use Rattle.shx_term.specs.declared.vocabulary.TheConstants.{SH_IGNORED_PROPERTIES as IGNORED};
+ghost use Rattle.shape_refs.specs.References.{declared_at, members_under};
 ghost use Rattle.shape_compile.specs.Constraints.{closes, each_true, permitted_by, predicate_of, said_by};
 
+use crate::lists::shared_members;
+use id_list::IdList;
 use path_eval::Path;
 use qualified_shapes::Closed;
 use shape_decl::{PathReading, ShapeDecl};
@@ -32,13 +35,25 @@ pub(crate) fn add_closed(
 {
     for value in decl.values_of(SH_CLOSED) {
         if is_true(declared.pool, *value) {
-            let permitted = permitted_by(alloc, declared, decl)?;
-            let mut ignored = Vec::new(alloc);
-            add_members(decl, SH_IGNORED_PROPERTIES, &mut ignored)?;
+            let permitted = IdList::new(alloc, permitted_by(alloc, declared, decl)?)?;
+            let ignored = ignored_by(alloc, decl)?;
             out.push(Constraint::Closed(Closed::new(*value, permitted, ignored)))?;
         }
     }
     Ok(())
+}
+
+// The members of the lists of ignored predicates. Of one list, which is all that a shape may have, they are
+// shared.
+fn ignored_by(alloc: Global, decl: &ShapeDecl) -> Result<IdList, Memory>
+    ensures { IfOk result (λ ignored. ignored ≡ members_under (told_decl decl.now) IGNORED) }
+{
+    if let [list] = decl.lists_of(SH_IGNORED_PROPERTIES) {
+        return shared_members(alloc, list);
+    }
+    let mut ignored = Vec::new(alloc);
+    add_members(decl, SH_IGNORED_PROPERTIES, &mut ignored)?;
+    IdList::new(alloc, ignored)
 }
 
 // The predicates that are paths of the property shapes of a shape.
@@ -71,7 +86,7 @@ fn add_predicate(reading: &Option<PathReading>, found: &mut Vec<Id>) -> Result<(
         ≡ found.old.items ++ predicate_of (option_map told_reading reading.now)) }
 {
     match reading {
-        Some(PathReading::Path(path)) => add_if_predicate(path, found),
+        Some(PathReading::Path(path)) => add_if_predicate(path.path(), found),
         _ => Ok(()),
     }
 }

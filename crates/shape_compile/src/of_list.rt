@@ -5,7 +5,8 @@ ghost use Rattle.shape_eval.specs.Content.{Members};
 ghost use Rattle.shape_compile.specs.Constraints.{said_by, says};
 ghost use Rattle.shape_compile.specs.inner.Shapes.{list_kind, list_predicate, stated_of_list};
 
-use crate::lists::members_of;
+use crate::lists::shared_members;
+use id_list::IdList;
 use shape_decl::ShapeDecl;
 use shape_eval::Constraint;
 use shx_term::vocabulary::{SH_IN, SH_LANGUAGE_IN};
@@ -30,9 +31,9 @@ impl OfList {
         }
     }
 
-    fn constraint(self, head: Id, members: Vec<Id>) -> Constraint
+    fn constraint(self, head: Id, members: IdList) -> Constraint
         ensures { (nodes : List ℕ) → said_by nodes result
-            ≡ says (list_kind self) (Members members.items) head }
+            ≡ says (list_kind self) (Members members) head }
     {
         match self {
             OfList::LanguageIn => Constraint::LanguageIn(LanguageIn::new(head, members)),
@@ -52,7 +53,7 @@ pub(crate) fn add_of_list(
         ≡ map (said_by nodes) out.old.items ++ stated_of_list (told_decl decl.now) parameter) }
 {
     for list in decl.lists_of(parameter.predicate()) {
-        let members = Vec::from_slice(alloc, members_of(list))?;
+        let members = shared_members(alloc, list)?;
         out.push(parameter.constraint(list.head, members))?;
     }
     Ok(())

@@ -10,7 +10,7 @@ ghost use Rattle.shape_compile.specs.inner.Built.{IsBuiltFor};
 
 use crate::constraints::constraints_of;
 use crate::targets::targets_of;
-use path_eval::Path;
+use path_eval::LaidPath;
 use shape_decl::{PathReading, ShapeDecl};
 use shape_eval::PlanShape;
 use shape_refs::{Declared, ShapeOrder, is_any_true};
@@ -47,7 +47,7 @@ pub(crate) fn plan_shape(
     let siblings = &order.siblings[at];
     Ok(PlanShape {
         node: decl.node,
-        path: path_of(alloc, &decl.path)?,
+        path: path_of(&decl.path)?,
         severity: severity_of(decl),
         messages: Vec::from_slice(alloc, decl.values_of(SH_MESSAGE))?,
         deactivated: is_any_true(declared.pool, decl.values_of(SH_DEACTIVATED)),
@@ -56,15 +56,15 @@ pub(crate) fn plan_shape(
     })
 }
 
-// A copy of the path of a shape, if it has one.
-fn path_of(alloc: Global, reading: &Option<PathReading>) -> Result<Option<Path>, Memory>
+// The path of a shape, if it has one.
+fn path_of(reading: &Option<PathReading>) -> Result<Option<LaidPath>, Memory>
     requires { (told : RouteReading) → option_map told_reading reading.now ≡ Some told
         → (route : Route) × (told ≡ Read route) }
     ensures { IfOk result (λ path.
         option_map (λ p. Read (route_of p)) path ≡ option_map told_reading reading.now) }
 {
     match reading {
-        Some(PathReading::Path(path)) => Ok(Some(path.copy(alloc)?)),
+        Some(PathReading::Path(path)) => Ok(Some(path.copy()?)),
         _ => Ok(None),
     }
 }

@@ -112,7 +112,7 @@ abbrev pub told_values : Declared → Values
 told_values declared = record { predicate = declared.predicate; values = declared.values.items }
 
 abbrev pub told_list : ListValue → ListReading
-told_list list = record { head = list.head; members = option_map (λ members. members.items) list.members }
+told_list list = record { head = list.head; members = list.members }
 
 abbrev pub told_decl : ShapeDecl → Declaration
 told_decl decl = record {

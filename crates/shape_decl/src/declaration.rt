@@ -1,4 +1,5 @@
 use crate::PathReading;
+use id_list::IdList;
 use shx_term::Id;
 
 /// A shape, with what the shapes graph states of it.
@@ -29,5 +30,5 @@ pub struct Declared {
 pub struct ListValue {
     pub head: Id,
     /// `None` where it is no SHACL list.
-    pub members: Option<Vec<Id>>,
+    pub members: Option<IdList>,
 }

@@ -64,7 +64,7 @@ fn set_of(alloc: Global, nodes: &[Id]) -> Result<IndexSet<Id>, Memory>
     Ok(found)
 }
 
-/// The path that a node is. What was read of it before is copied.
+/// The path that a node is, shared with whoever asks for it again.
 pub(crate) fn known_path<V: GraphView>(
     alloc: Global,
     graph: &V,
@@ -78,19 +78,19 @@ pub(crate) fn known_path<V: GraphView>(
     ensures known { OnOk result (IsKnownOf limits.now (V.graph graph.now) known.new) }
 {
     if let Some(reading) = known.paths.get(&head) {
-        return copied(alloc, reading);
+        return copied(reading);
     }
     let reading = path_with(alloc, graph, head, limits, &mut known.readings)?;
-    let copy = copied(alloc, &reading)?;
+    let copy = copied(&reading)?;
     known.paths.insert(head, reading)?;
     Ok(copy)
 }
 
-fn copied(alloc: Global, reading: &PathReading) -> Result<PathReading, Memory>
+fn copied(reading: &PathReading) -> Result<PathReading, Memory>
     ensures { IfOk result (λ copy. told_reading copy ≡ told_reading reading.now) }
 {
     match reading {
-        PathReading::Path(path) => Ok(PathReading::Path(path.copy(alloc)?)),
+        PathReading::Path(path) => Ok(PathReading::Path(path.copy()?)),
         PathReading::Broken => Ok(PathReading::Broken),
         PathReading::TooDeep => Ok(PathReading::TooDeep),
     }

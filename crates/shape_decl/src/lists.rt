@@ -8,6 +8,7 @@ use crate::Cell;
 use crate::knowing::no_readings;
 use crate::readings::Readings;
 use graph_view::{GraphView, Reads};
+use id_list::IdList;
 use indexmap::IndexSet;
 use shx_term::vocabulary::{RDF_FIRST, RDF_NIL, RDF_REST};
 use shx_term::{Id, Memory};
@@ -15,54 +16,48 @@ use std::alloc::Global;
 
 /// The members of a SHACL list (SHACL, section 1.1), or `None` where the head is none: a cell with two rests,
 /// or a cycle, makes no list. It takes time linear in the list, and no recursion.
-pub fn read_list<V: GraphView>(
-    alloc: Global,
-    graph: &V,
-    head: Id,
-) -> Result<Option<Vec<Id>>, Memory>
-    ensures { IfOk result (λ found.
-        option_map (λ members. members.items) found ≡ list_of (V.graph graph.now) head) }
+pub fn read_list<V: GraphView>(alloc: Global, graph: &V, head: Id) -> Result<Option<IdList>, Memory>
+    ensures { IfOk result (λ found. found ≡ list_of (V.graph graph.now) head) }
 {
-    followed(alloc, graph, head, &mut no_readings(alloc))
+    known_list(alloc, graph, head, &mut no_readings(alloc))
 }
 
-/// The same. What was read before is copied.
+/// The same, shared with whoever asks for it again.
 pub(crate) fn known_list<V: GraphView>(
     alloc: Global,
     graph: &V,
     head: Id,
     readings: &mut Readings,
-) -> Result<Option<Vec<Id>>, Memory>
+) -> Result<Option<IdList>, Memory>
     requires { AreReadingsOf (V.graph graph.now) readings.old }
-    ensures list { IfOk result (λ found.
-        option_map (λ members. members.items) found ≡ list_of (V.graph graph.now) head) }
+    ensures list { IfOk result (λ found. found ≡ list_of (V.graph graph.now) head) }
     ensures known { OnOk result (AreReadingsOf (V.graph graph.now) readings.new) }
 {
     if let Some(list) = readings.lists.get(&head) {
-        return copied(alloc, list);
+        return copied(list);
     }
-    let list = followed(alloc, graph, head, readings)?;
-    let copy = copied(alloc, &list)?;
+    let list = shared(alloc, followed(alloc, graph, head, readings)?)?;
+    let copy = copied(&list)?;
     readings.lists.insert(head, list)?;
     Ok(copy)
 }
 
-fn copied(alloc: Global, list: &Option<Vec<Id>>) -> Result<Option<Vec<Id>>, Memory>
-    ensures { IfOk result (λ copy. option_map (λ members. members.items) copy
-        ≡ option_map (λ members. members.items) list.now) }
+fn shared(alloc: Global, list: Option<Vec<Id>>) -> Result<Option<IdList>, Memory>
+    ensures { IfOk result (λ shared. shared ≡ option_map (λ members. members.items) list) }
 {
     match list {
-        Some(members) => Ok(Some(copied_members(alloc, members)?)),
+        Some(members) => Ok(Some(IdList::new(alloc, members)?)),
         None => Ok(None),
     }
 }
 
-fn copied_members(alloc: Global, members: &[Id]) -> Result<Vec<Id>, Memory>
-    ensures { IfOk result (λ copy. copy.items ≡ members.now) }
+fn copied(list: &Option<IdList>) -> Result<Option<IdList>, Memory>
+    ensures { IfOk result (λ copy. copy ≡ list.now) }
 {
-    let mut copy = Vec::with_capacity(alloc, members.len())?;
-    copy.extend_from_slice(members)?;
-    Ok(copy)
+    match list {
+        Some(members) => Ok(Some(members.copy()?)),
+        None => Ok(None),
+    }
 }
 
 /// The same, with no list kept: from cell to cell, up to the end or a node that was passed before.

@@ -1,9 +1,9 @@
-use path_eval::Path;
+use path_eval::LaidPath;
 
 /// What is read where a path is expected.
 #[derive(Debug)]
 pub enum PathReading {
-    Path(Path),
+    Path(LaidPath),
     /// A node inside it has none of the forms of a path.
     Broken,
     /// Its nesting, or the number of its parts, is past its limit.

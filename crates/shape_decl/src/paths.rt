@@ -8,6 +8,7 @@ use crate::path_nodes::read_node;
 use crate::readings::Readings;
 use crate::{PathFault, PathReading};
 use graph_view::GraphView;
+use path_eval::LaidPath;
 use shx_term::{Id, Limits, Memory};
 use std::alloc::{AllocError, Global};
 
@@ -51,7 +52,7 @@ pub(crate) fn path_with<V: GraphView>(
         &mut parts,
         readings,
     ) {
-        Ok(path) => Ok(PathReading::Path(path)),
+        Ok(path) => Ok(PathReading::Path(LaidPath::new(alloc, path)?)),
         Err(PathFault::Broken) => Ok(PathReading::Broken),
         Err(PathFault::TooDeep) => Ok(PathReading::TooDeep),
         Err(PathFault::Memory) => Err(AllocError),

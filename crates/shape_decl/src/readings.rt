@@ -1,5 +1,6 @@
 //! What is kept of a graph while its shapes are declared, so that nothing is read twice.
 use crate::{Cell, PathReading};
+use id_list::IdList;
 use indexmap::{IndexMap, IndexSet};
 use shx_term::Id;
 
@@ -7,7 +8,7 @@ use shx_term::Id;
 #[derive(Drop)]
 pub(crate) struct Readings {
     pub(crate) cells: IndexMap<Id, Cell>,
-    pub(crate) lists: IndexMap<Id, Option<Vec<Id>>>,
+    pub(crate) lists: IndexMap<Id, Option<IdList>>,
 }
 
 /// The same, with the paths that were read, and the instances of the two classes that declarations tell of.

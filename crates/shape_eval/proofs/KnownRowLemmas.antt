@@ -159,7 +159,7 @@ module _ (g : Graph) (known : AllKnown g) (count : ℕ) where
           told (pair_of v c.shape) (each_of_All (λ id. id < length g.terms) vs values v i))
       hits_known (any.QualifiedMinCount c) = once_known _ QUALIFIED_MIN_COUNT
       hits_known (any.QualifiedMaxCount c) = once_known _ QUALIFIED_MAX_COUNT
-      hits_known (any.Closed c) = closed_known c.permitted.items c.ignored.items vs
+      hits_known (any.Closed c) = closed_known c.permitted c.ignored vs
       hits_known (any.HasValue c) = once_known _ HAS_VALUE
       hits_known (any.In c) = each_known _ IN vs values
 

@@ -134,16 +134,16 @@ constraint_numbers (any.MaxExclusive c) = c.value ∷ []
 constraint_numbers (any.MaxInclusive c) = c.value ∷ []
 constraint_numbers (any.MinLength c) = c.value ∷ []
 constraint_numbers (any.MaxLength c) = c.value ∷ []
-constraint_numbers (any.LanguageIn c) = c.members.items
+constraint_numbers (any.LanguageIn c) = c.members
 constraint_numbers (any.QualifiedMinCount c) = c.value ∷ []
 constraint_numbers (any.QualifiedMaxCount c) = c.value ∷ []
 constraint_numbers c = []
 
 -- the members of its list; of a closed shape what it permits, and what it ignores
 abbrev pub members_of : Constraint → List ℕ
-members_of (any.LanguageIn c) = c.members.items
-members_of (any.Closed c) = c.permitted.items ++ c.ignored.items
-members_of (any.In c) = c.members.items
+members_of (any.LanguageIn c) = c.members
+members_of (any.Closed c) = c.permitted ++ c.ignored
+members_of (any.In c) = c.members
 members_of c = []
 
 -- all numbers of terms in it: the value of its parameter, and the members of its list

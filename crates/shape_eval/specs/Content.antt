@@ -21,7 +21,7 @@ pub data Content : Type 0 where
 -- of a constraint of a plan, where its shapes are of these nodes
 abbrev pub content_of : List ℕ → Constraint → Content
 content_of nodes (any.Pattern c) = Matches c.built.text c.built.flags
-content_of nodes (any.LanguageIn c) = Members c.members.items
+content_of nodes (any.LanguageIn c) = Members c.members
 content_of nodes (any.Not c) = Names (slice_get nodes c.shape ∷ [])
 content_of nodes (any.And c) = Names (map (slice_get nodes) c.shapes.items)
 content_of nodes (any.Or c) = Names (map (slice_get nodes) c.shapes.items)
@@ -32,8 +32,8 @@ content_of nodes (any.QualifiedMinCount c) =
     Names (slice_get nodes c.shape ∷ map (slice_get nodes) c.siblings.items)
 content_of nodes (any.QualifiedMaxCount c) =
     Names (slice_get nodes c.shape ∷ map (slice_get nodes) c.siblings.items)
-content_of nodes (any.Closed c) = Permits c.permitted.items c.ignored.items
-content_of nodes (any.In c) = Members c.members.items
+content_of nodes (any.Closed c) = Permits c.permitted c.ignored
+content_of nodes (any.In c) = Members c.members
 content_of nodes c = Nothing
 
 -- its parameter; but of a list the members count, and not the node at which it begins

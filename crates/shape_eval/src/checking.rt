@@ -12,7 +12,7 @@ ghost use Rattle.shape_eval.specs.Results.{hits_of_each, reads_of_each, value_no
 use crate::{Constraint, Known};
 use comp_core::{At, Component, Conform, Pair, ResultRow};
 use graph_view::{GraphView, Notes};
-use path_eval::{Path, values};
+use path_eval::LaidPath;
 use shx_term::{Id, Memory};
 use std::alloc::Global;
 
@@ -21,7 +21,7 @@ use std::alloc::Global;
 pub(crate) fn find_values<V: GraphView, N: Notes>(
     alloc: Global,
     view: &V,
-    path: &Option<Path>,
+    path: &Option<LaidPath>,
     node: Id,
     reads: &mut N,
 ) -> Result<Vec<Id>, Memory>
@@ -36,7 +36,7 @@ pub(crate) fn find_values<V: GraphView, N: Notes>(
             found.push(node)?;
             Ok(found)
         }
-        Some(path) => values(alloc, view, path, node, reads),
+        Some(path) => path.values(alloc, view, node, reads),
     }
 }
 

@@ -1,5 +1,5 @@
 use crate::{Constraint, Target};
-use path_eval::Path;
+use path_eval::LaidPath;
 use shx_term::Id;
 
 /// A shape of a plan (SHACL, section 2).
@@ -8,7 +8,7 @@ pub struct PlanShape {
     /// The node that it is in the shapes graph.
     pub node: Id,
     /// The path of a property shape; `None` of a node shape.
-    pub path: Option<Path>,
+    pub path: Option<LaidPath>,
     /// The severity of its results (SHACL, section 2.1.4).
     pub severity: Id,
     /// The messages of its results (SHACL, section 2.1.5), in term order, each once.

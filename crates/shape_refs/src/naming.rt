@@ -74,7 +74,7 @@ fn members_of(list: &ListValue) -> &[Id]
     ensures { result.now ≡ members_or_none (told_list list.now).members }
 {
     match &list.members {
-        Some(members) => members,
+        Some(members) => members.as_slice(),
         None => &[],
     }
 }

@@ -86,10 +86,10 @@ is_matched-agree g h ranges same (Some tag) =
     list_any-agree (is_so_at (is_range_of tag) g) (is_so_at (is_range_of tag) h) ranges
     (λ id i. same id i (is_range_of tag))
 
-pub language_in_agrees : Agreement {C = LanguageIn} (λ c. c.members.items) (λ c vs. [])
+pub language_in_agrees : Agreement {C = LanguageIn} (λ c. c.members) (λ c vs. [])
     (λ c g m at vs. language_in_hits c g at vs) (λ c g r at vs. [])
 language_in_agrees c g h m n r q at vs alike same =
-    let ids = c.members.items in
+    let ids = c.members in
     let kept_at = λ (id : ℕ) (i : Contains ids id) (test : Term → Bool).
     ap (is_so test) (number_kept g h ids vs [] alike id i) in
     record {

@@ -9,4 +9,4 @@ use Rattle.comp_core.specs.TermTests.{is_among}
 
 -- a result for each value node that is no member of the list
 abbrev pub in_hits : In → At → List ℕ → List ResultRow
-in_hits c at vs = each_unless (λ v. is_among v c.members.items) IN at vs
+in_hits c at vs = each_unless (λ v. is_among v c.members) IN at vs

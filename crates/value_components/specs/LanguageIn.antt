@@ -28,4 +28,4 @@ is_spoken g ranges v = is_matched g ranges (tag_at g v)
 
 -- a result for each value node that has none
 abbrev pub language_in_hits : LanguageIn → Graph → At → List ℕ → List ResultRow
-language_in_hits c g at vs = each_unless (is_spoken g c.members.items) LANGUAGE_IN at vs
+language_in_hits c g at vs = each_unless (is_spoken g c.members) LANGUAGE_IN at vs

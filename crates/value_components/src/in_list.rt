@@ -1,10 +1,10 @@
 //! sh:in (SHACL, section 4.8.3).
 ghost use Rattle.std.specs.Prelude.{◌≡◌};
-ghost use Rattle.comp_core.specs.TermTests.{is_among};
 
 use comp_core::kinds::IN;
 use comp_core::{At, Component, Conform, Pair, ResultRow, add_unless};
 use graph_view::GraphView;
+use id_list::IdList;
 use shx_term::{Id, Memory};
 use std::alloc::Global;
 
@@ -13,7 +13,7 @@ pub struct In {
     /// The head of the list.
     pub value: Id,
     /// Its members, in order.
-    pub members: Vec<Id>,
+    pub members: IdList,
 }
 
 impl Drop for In {
@@ -27,18 +27,11 @@ impl Drop for In {
 
 impl In {
     /// The component with its list and the members of that. It takes no memory.
-    pub fn new(value: Id, members: Vec<Id>) -> In
+    pub fn new(value: Id, members: IdList) -> In
         ensures value { result.value ≡ value }
         ensures members { result.members ≡ members }
     {
         In { value, members }
-    }
-
-    // Whether the node is a member of the list.
-    fn has(&self, node: Id) -> bool
-        ensures { result ≡ is_among node self.now.members.items }
-    {
-        self.members.contains(&node)
     }
 }
 
@@ -74,7 +67,7 @@ impl<'p> Component<'p> for In {
         out: &mut Vec<ResultRow>,
     ) -> Result<(), Memory> {
         for v in values {
-            let is_fine = self.has(*v);
+            let is_fine = self.members.has(*v);
             add_unless(alloc, is_fine, IN, at, *v, out)?;
         }
         Ok(())

@@ -10,6 +10,7 @@ use crate::tags::{matches_range, tag_of};
 use comp_core::kinds::LANGUAGE_IN;
 use comp_core::{At, Component, Conform, Pair, ResultRow, add_unless};
 use graph_view::{GraphView, term_of};
+use id_list::IdList;
 use shx_term::{Id, Memory, Term, Text};
 use std::alloc::Global;
 
@@ -18,7 +19,7 @@ pub struct LanguageIn {
     /// The head of the list.
     pub value: Id,
     /// Its members, the ranges.
-    pub members: Vec<Id>,
+    pub members: IdList,
 }
 
 impl Drop for LanguageIn {
@@ -32,7 +33,7 @@ impl Drop for LanguageIn {
 
 impl LanguageIn {
     /// The component with its list and the members of that. It takes no memory.
-    pub fn new(value: Id, members: Vec<Id>) -> LanguageIn
+    pub fn new(value: Id, members: IdList) -> LanguageIn
         ensures value { result.value ≡ value }
         ensures members { result.members ≡ members }
     {
@@ -87,7 +88,7 @@ impl<'p> Component<'p> for LanguageIn {
 
     ghost knows = { λ known g. Unit };
 
-    ghost numbers_of = { λ c. c.members.items };
+    ghost numbers_of = { λ c. c.members };
 
     ghost asks_of = { λ c vs. [] };
 
@@ -110,8 +111,9 @@ impl<'p> Component<'p> for LanguageIn {
         _reads: &mut C::Noted,
         out: &mut Vec<ResultRow>,
     ) -> Result<(), Memory> {
+        let ranges = self.members.as_slice();
         for v in values {
-            let is_fine = is_spoken(view, &self.members, *v);
+            let is_fine = is_spoken(view, ranges, *v);
             add_unless(alloc, is_fine, LANGUAGE_IN, at, *v, out)?;
         }
         Ok(())

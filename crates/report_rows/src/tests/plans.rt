@@ -2,7 +2,7 @@
 ghost use Rattle.std.specs.Prelude.{◌≤◌, IfOk, length};
 ghost use Rattle.report_rows.specs.Bare.{IsBare};
 
-use path_eval::Path;
+use path_eval::{LaidPath, Path};
 use row_tools::RowFault;
 use shape_eval::{Plan, PlanShape};
 use shx_term::vocabulary::{RDF_FIRST, SH_IN, SH_NODE_SHAPE, SH_VIOLATION, VOCABULARY_LEN};
@@ -15,9 +15,10 @@ fn shape(alloc: Global, pool: &Pool) -> Result<PlanShape, Memory>
     ensures { IfOk result (IsBare pool.now.terms) }
 {
     let messages = vec![in alloc; SH_IN]?;
+    let path = LaidPath::new(alloc, Path::Pred(RDF_FIRST))?;
     Ok(PlanShape {
         node: SH_NODE_SHAPE,
-        path: Some(Path::Pred(RDF_FIRST)),
+        path: Some(path),
         severity: SH_VIOLATION,
         messages,
         deactivated: false,

@@ -1,8 +1,6 @@
 -- What is kept of a graph while its shapes are declared: of each number that was read, what it reads.
-use Rattle.std.specs.Prelude.{◌≡◌, ℕ, nat_eq, Option, Some, Vec}
-use Rattle.std.specs.declared.alloc.Global.{Global}
+use Rattle.std.specs.Prelude.{◌≡◌, ℕ, nat_eq, List, Option, Some}
 use Rattle.indexmap.specs.IndexSet.{contains}
-use Rattle.std.specs.Option.{option_map}
 use Rattle.indexmap.specs.IndexMap.{IndexMap, get}
 use Rattle.shx_term.specs.declared.limits.Limits.{Limits}
 use Rattle.shx_term.specs.declared.vocabulary.TheConstants.{RDFS_CLASS, SH_NODE_SHAPE}
@@ -22,8 +20,8 @@ Keeps P kept = (n : ℕ) (x : _) → get nat_eq kept n ≡ Some x → P n x
 abbrev pub IsCellAt : Graph → ℕ → Cell → Type 0
 IsCellAt g n cell = cell ≡ cell_at g n
 
-abbrev pub IsListAt : Graph → ℕ → Option (Vec ℕ Global) → Type 0
-IsListAt g n list = option_map (λ members. members.items) list ≡ list_of g n
+abbrev pub IsListAt : Graph → ℕ → Option (List ℕ) → Type 0
+IsListAt g n list = list ≡ list_of g n
 
 abbrev pub IsPathAt : Limits → Graph → ℕ → PathReading → Type 0
 IsPathAt limits g n reading = told_reading reading ≡ path_reading limits g n

@@ -1,5 +1,6 @@
 //! What rows call terms, and how they write lists of them.
 use super::due::Due;
+use id_list::IdList;
 use shx_term::{Id, LocalName, Pool, Term};
 
 /// The part of an IRI behind its `#`; the IRIs of rows have none.
@@ -47,11 +48,11 @@ pub(super) fn take_names(pool: &Pool, ids: &[Id], due: &mut Due) {
 }
 
 /// Takes the members of a list between brackets, or `none` for no list, with a blank before it.
-pub(super) fn take_list(pool: &Pool, members: &Option<Vec<Id>>, due: &mut Due) {
+pub(super) fn take_list(pool: &Pool, members: &Option<IdList>, due: &mut Due) {
     match members {
         Some(members) => {
             due.take(" (");
-            take_names(pool, members, due);
+            take_names(pool, members.as_slice(), due);
             due.take(" )");
         }
         None => due.take(" none"),

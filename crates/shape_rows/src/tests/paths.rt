@@ -100,7 +100,7 @@ fn take_all(pool: &Pool, parts: &[Path], mark: &str, due: &mut Due) {
 pub(super) fn take_reading(pool: &Pool, reading: &PathReading, due: &mut Due) {
     due.take(" ");
     match reading {
-        PathReading::Path(path) => take(pool, path, due),
+        PathReading::Path(path) => take(pool, path.path(), due),
         PathReading::Broken => due.take("Broken"),
         PathReading::TooDeep => due.take("TooDeep"),
     }

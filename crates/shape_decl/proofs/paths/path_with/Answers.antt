@@ -1,13 +1,14 @@
 use Rattle.std.proofs.Common.{Ok, Err, sym, ap, ◌∙◌}
+use Rattle.path_eval.specs.Route.{route_of}
 use Rattle.shape_decl.specs.declared.path_fault.PathFault.TheVariants as fault
 use Rattle.shape_decl.specs.PathReadings.{Read}
 use Rattle.shape_decl.proofs.PathReadingLemmas.{counted_reading}
 use Rattle.shape_decl.proofs.paths.path_with.Goals as goal
 
-pub returns-in-Ok-clause-path : goal.returns-in-Ok-clause-path
-returns-in-Ok-clause-path g c =
+pub returns-in_ok-new-in-Ok-clause-path : goal.returns-in_ok-new-in-Ok-clause-path
+returns-in_ok-new-in-Ok-clause-path g c =
     let graph = g.V.GraphView.graph c.args.graph.now in
-    ap Read c.in-Ok.ensures.path
+    ap (λ path. Read (route_of path)) c.in_ok-new-in-Ok.ensures ∙ ap Read c.in-Ok.ensures.path
     ∙ sym (counted_reading c.args.limits.now graph c.args.head (Ok c.read_node.new.parts)
     c.in-Ok.ensures.counted)
 

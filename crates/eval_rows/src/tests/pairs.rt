@@ -1,35 +1,76 @@
 //! What a shape finds at a node, and what is read for it.
-ghost use Rattle.std.specs.Prelude.{◌≡◌, ◌+◌, OnOk};
+ghost use Rattle.std.specs.Prelude.{◌≡◌, ◌+◌, ◌<◌, IfOk, OnOk, length};
+ghost use Rattle.graph_view.specs.ListGraph.{plain_graph};
 ghost use Rattle.graph_view.specs.Valid.{IsValidView};
 ghost use Rattle.shape_eval.specs.Plan.{IsKnownPlan};
 ghost use Rattle.shape_eval.specs.Planned.{plan_of};
 
-use super::blocks::{Block, block_of};
-use super::cells::{Cells, cells_of};
-use super::results::are_due;
-use super::rows::{nesting, together, values, worked, wrong};
-use super::terms::id_of;
-use comp_core::{Component, Pair};
-use due_view::{DueView, is_known, is_valid};
-use graph_view::{GraphView, Reads};
-use row_tools::{RowFault, all_blocks_met, cut, number};
+use super::asked::Question;
+use super::due::Due;
+use super::kinds::name_of;
+use super::words::{id_of, take_any, take_term};
+use comp_core::{Component, DetailRow, Pair, ResultRow, ShapeNo};
+use due_view::{DueView, is_known};
+use graph_view::{GraphView, ListGraph, Reads};
+use row_tools::{RowFault, cut};
 use shape_eval::{
-    Answers, Constraint, Known, PairAnswer, Plan, edits_beside_a_pair, eval_pair,
-    levels_do_not_matter, nested_pairs_are_read, nested_pairs_stand_below, reads_have_terms,
-    results_depend_on_reads, results_have_terms, targets_depend_on_reads,
+    Answers, Constraint, Known, PairAnswer, Plan, a_report_is_empty_where_all_conform,
+    edits_beside_a_pair, eval_pair, levels_do_not_matter, nested_pairs_are_read,
+    nested_pairs_stand_below, reads_have_terms, results_depend_on_reads, results_have_terms,
+    targets_depend_on_reads,
 };
+use shape_order::{an_order_has_no_cycle, levels_are_the_longest_chains};
 use shx_term::{Pool, Steps};
 use std::alloc::Global;
-use std::marker::Brand;
 use std::sync::ledger::{Blank, Ledger};
-use std::test::Fail;
 
-fn pair_of(alloc: Global, pool: &Pool, cell: &str) -> Result<Pair, RowFault> {
-    let (shape, node) = cut(cell, " ")?;
+/// The number of the shape of a word.
+pub(super) fn shape_of(
+    alloc: Global,
+    pool: &Pool,
+    plan: &Plan,
+    word: &str,
+) -> Result<ShapeNo, RowFault>
+    ensures { IfOk result (λ shape. shape < length (plan_of plan.now).shapes) }
+{
+    match plan.number(id_of(alloc, pool, word)?) {
+        Some(shape) if shape < plan.len() => Ok(shape),
+        _ => Err(RowFault::Unread),
+    }
+}
+
+// A shape and a node.
+fn pair_of(alloc: Global, pool: &Pool, plan: &Plan, words: &str) -> Result<Pair, RowFault>
+    ensures { IfOk result (λ pair. pair.shape < length (plan_of plan.now).shapes) }
+{
+    let (shape, node) = cut(words, " ")?;
     Ok(Pair {
-        shape: number(shape)?,
+        shape: shape_of(alloc, pool, plan, shape)?,
         node: id_of(alloc, pool, node)?,
     })
+}
+
+fn take_detail(pool: &Pool, plan: &Plan, row: &DetailRow, due: &mut Due) {
+    if row.shape >= plan.len() {
+        return due.take("no shape");
+    }
+    due.take(name_of(row.kind));
+    take_term(pool, plan.shape(row.shape).node, due);
+    take_term(pool, row.focus, due);
+    take_any(pool, row.predicate, due);
+    take_any(pool, row.value, due);
+}
+
+// A result is told between brackets: its component, its shape, its focus node, its predicate and its value,
+// with `-` for what it does not have; then, behind ` < ` each, those on which it rests.
+fn take_row(pool: &Pool, plan: &Plan, row: &ResultRow, due: &mut Due) {
+    due.take(" (");
+    take_detail(pool, plan, &row.without_details(), due);
+    for detail in row.details.as_slice() {
+        due.take(" < ");
+        take_detail(pool, plan, detail, due);
+    }
+    due.take(")");
 }
 
 // The answer of a pair, which takes one step, whatever nests.
@@ -43,11 +84,12 @@ fn found<V: GraphView, K: Ledger, L: Ledger>(
 ) -> Result<PairAnswer<Reads>, RowFault>
     requires valid { IsValidView (V.graph view.now) }
     requires plan { IsKnownPlan (V.graph view.now).terms (plan_of plan.now).shapes }
+    requires shape { pair.shape < length (plan_of plan.now).shapes }
     ensures { OnOk result (steps.new ≡ steps.old + 1) }
 {
     let mut known = Known::new(alloc);
     let mut answers: Answers<Reads> = Answers::new(alloc);
-    if pair.shape >= plan.len() || !is_known(view, pair.node) {
+    if !is_known(view, pair.node) {
         return Err(RowFault::Unread);
     }
     let found = eval_pair(
@@ -67,15 +109,19 @@ fn found<V: GraphView, K: Ledger, L: Ledger>(
     }
 }
 
-// Whether the pair of a block has the results that are due, over its graph. Nothing but its keys may be
-// looked up.
-fn is_met<K: Ledger, L: Ledger>(
+/// Whether a pair has the results that are due. Nothing but these keys may be looked up: a look-up beside
+/// them is one for which memory is refused.
+pub(super) fn is_pair<K: Ledger, L: Ledger>(
     alloc: Global,
-    block: &Block,
-    cells: &Cells,
+    graph: &ListGraph,
+    plan: &Plan,
+    keys: &Reads,
+    question: &Question,
     nested: Blank,
     steps: Blank,
 ) -> Result<bool, RowFault>
+    requires valid { IsValidView (plain_graph graph.now) }
+    requires plan { IsKnownPlan graph.now.pool.terms (plan_of plan.now).shapes }
     requires nested_name { nested.name ≡ K.name }
     requires nested_parts { nested.parts ≡ K.parts }
     requires nested_some { nested.parts ≡ 1 }
@@ -83,60 +129,20 @@ fn is_met<K: Ledger, L: Ledger>(
     requires steps_parts { steps.parts ≡ L.parts }
     requires steps_some { steps.parts ≡ 1 }
 {
-    let Block { graph, plan, keys } = block;
-    let pair = pair_of(alloc, graph.pool(), cells.asked)?;
+    let pair = pair_of(alloc, graph.pool(), plan, question.of)?;
+    let mut due = question.due;
     let view = DueView::new(graph, keys);
     let mut nested: Steps<K> = Steps::open(nested);
     let mut steps: Steps<L> = Steps::open(steps);
-    if !is_valid(graph) {
-        return Err(RowFault::Unread);
-    }
     let answer = found(alloc, &view, plan, pair, &mut nested, &mut steps)?;
-    let is_due = are_due(alloc, graph.pool(), &answer.rows, cells.due)?;
-    Ok(is_due && view.are_read(&answer.reads))
-}
-
-fn is_as_said(alloc: Global, text: &str) -> Result<bool, RowFault> {
-    let cells = cells_of(text)?;
-    let block = block_of(alloc, &cells)?;
-    is_met::<Brand, Brand>(alloc, &block, &cells, Blank::new(1), Blank::new(1))
-}
-
-fn is_refused(alloc: Global, block: &str) -> Result<bool, RowFault> {
-    match is_as_said(alloc, block) {
-        Ok(is_met) => Ok(!is_met),
-        Err(RowFault::Unread) => Ok(true),
-        Err(RowFault::Memory) => Err(RowFault::Memory),
+    for row in &answer.rows {
+        take_row(graph.pool(), plan, row, &mut due);
     }
+    Ok(due.is_found() && view.are_read(&answer.reads))
 }
 
 #[test]
-fn results_nest_as_said(rt: HostRuntime) -> Result<(), Fail> {
-    all_blocks_met(rt.alloc(), nesting::ROWS, is_as_said)
-}
-
-#[test]
-fn value_nodes_are_as_said(rt: HostRuntime) -> Result<(), Fail> {
-    all_blocks_met(rt.alloc(), values::ROWS, is_as_said)
-}
-
-#[test]
-fn all_components_stand_in_one_shape(rt: HostRuntime) -> Result<(), Fail> {
-    all_blocks_met(rt.alloc(), together::ROWS, is_as_said)
-}
-
-#[test]
-fn worked_runs_find_as_said(rt: HostRuntime) -> Result<(), Fail> {
-    all_blocks_met(rt.alloc(), worked::ROWS, is_as_said)
-}
-
-#[test]
-fn rows_that_are_wrong_are_not_met(rt: HostRuntime) -> Result<(), Fail> {
-    all_blocks_met(rt.alloc(), wrong::ROWS, is_refused)
-}
-
-#[test]
-fn laws_of_plans_are_at_hand() {
+fn laws_are_at_hand() {
     results_depend_on_reads();
     targets_depend_on_reads();
     levels_do_not_matter();
@@ -145,5 +151,8 @@ fn laws_of_plans_are_at_hand() {
     reads_have_terms();
     nested_pairs_are_read();
     nested_pairs_stand_below();
+    a_report_is_empty_where_all_conform();
     Constraint::laws();
+    an_order_has_no_cycle();
+    levels_are_the_longest_chains();
 }

@@ -1,10 +1,6 @@
-//! The tables. A block has a line that says what it shows; shapes, a line each, from number 0 on; and behind
-//! bars the triples of the graph, what is asked, the answer that is due, and the keys that are read. `-` is
-//! for none.
+//! The tables, by hand from SHACL. A block is a text in Turtle, which states shapes and data, and then
+//! questions, each a line with what is due and, behind a bar, the keys that are read.
 pub(super) mod components;
-pub(super) mod nesting;
+pub(super) mod orders;
+pub(super) mod shapes;
 pub(super) mod targets;
-pub(super) mod together;
-pub(super) mod values;
-pub(super) mod worked;
-pub(super) mod wrong;

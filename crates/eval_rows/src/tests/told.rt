@@ -1,85 +1,18 @@
-//! Answers for other shapes, as a row has them.
-ghost use Rattle.std.specs.Prelude.{◌≡◌, All, IsTrue};
+//! Answers that are told beforehand.
+ghost use Rattle.std.specs.Prelude.{IsTrue};
 ghost use Rattle.comp_core.specs.Table.{has_pair};
 
-use super::row::Row;
-use super::terms::id_of;
-use comp_core::kinds::NODE_KIND;
-use comp_core::{AnswerTable, Answered, Pair, ResultRow, ShapeNo};
-use row_tools::{RowFault, cut, number};
-use shx_term::{Id, Memory, Pool};
+use super::due::Due;
+use super::kinds::name_of;
+use comp_core::kinds::{MIN_COUNT, NODE_KIND};
+use comp_core::{AnswerTable, Answered, Conform, Kind, Pair, ResultRow, ShapeNo};
+use graph_view::Reads;
+use row_tools::{RowFault, number};
+use shx_term::Memory;
 use std::alloc::Global;
 
-// How many results a node has where it does not conform, all of them equal.
-const RESULTS: usize = 2;
-
-fn is_among(alloc: Global, pool: &Pool, node: Id, words: &str) -> Result<bool, RowFault> {
-    for word in words.split_whitespace() {
-        if id_of(alloc, pool, word)? == node {
-            return Ok(true);
-        }
-    }
-    Ok(false)
-}
-
-// Whether a pair conforms by a cell: the number of a shape, a colon and nodes, with commas between these.
-fn conforms(alloc: Global, pool: &Pool, pair: Pair, cell: &str) -> Result<bool, RowFault> {
-    for part in cell.split_terminator(", ") {
-        let (shape, nodes) = cut(part, ": ")?;
-        if number(shape)? == pair.shape && is_among(alloc, pool, pair.node, nodes)? {
-            return Ok(true);
-        }
-    }
-    Ok(false)
-}
-
-// The results of a pair that conforms, or does not.
-fn answered(alloc: Global, pair: Pair, conforms: bool) -> Result<Answered, Memory> {
-    let mut rows = Vec::new(alloc);
-    if !conforms {
-        for _ in 0..RESULTS {
-            rows.push(ResultRow::plain(alloc, pair.node, None, None, pair.shape, NODE_KIND)?)?;
-        }
-    }
-    Ok(Answered { pair, rows })
-}
-
-// Adds the answer of each node at a shape, as a cell tells it.
-fn tell(
-    alloc: Global,
-    pool: &Pool,
-    shape: ShapeNo,
-    nodes: &[Id],
-    cell: &str,
-    table: &mut AnswerTable,
-) -> Result<(), RowFault> {
-    for node in nodes {
-        let pair = Pair { shape, node: *node };
-        let conforms = conforms(alloc, pool, pair, cell)?;
-        table.answers.push(answered(alloc, pair, conforms)?)?;
-    }
-    Ok(())
-}
-
-/// Adds the answers of the nodes at each of the shapes that a row names: those of its last cell conform, and
-/// no others.
-pub(super) fn tell_all(
-    alloc: Global,
-    pool: &Pool,
-    row: &Row,
-    nodes: &[Id],
-    table: &mut AnswerTable,
-) -> Result<(), RowFault> {
-    for word in row.others.split_whitespace() {
-        if let Ok(shape) = number(word) {
-            tell(alloc, pool, shape, nodes, row.told, table)?;
-        }
-    }
-    Ok(())
-}
-
-/// Whether the table has an answer for a pair.
-pub(super) fn is_told(answers: &[Answered], pair: &Pair) -> bool
+// Whether the table has an answer for a pair.
+fn is_held(answers: &[Answered], pair: &Pair) -> bool
     ensures { IsTrue result → IsTrue (has_pair answers.now pair.now) }
 {
     for answered in answers {
@@ -90,14 +23,54 @@ pub(super) fn is_told(answers: &[Answered], pair: &Pair) -> bool
     false
 }
 
-/// Whether the table has an answer for each of the pairs.
-pub(super) fn are_told(table: &AnswerTable, pairs: &[Pair]) -> bool
-    ensures { IsTrue result → All (λ p. IsTrue (has_pair table.now.answers.items p)) pairs.now }
+// Adds the answer of node 70 at a shape, which is one result.
+fn tell(
+    alloc: Global,
+    shape: ShapeNo,
+    kind: Kind,
+    answers: &mut Vec<Answered>,
+) -> Result<(), Memory> {
+    let mut rows = Vec::new(alloc);
+    rows.push(ResultRow::plain(alloc, 70, None, None, shape, kind)?)?;
+    let pair = Pair { shape, node: 70 };
+    answers.push(Answered { pair, rows })?;
+    Ok(())
+}
+
+// The answers of node 70 at the shapes 3 and 4.
+fn table(alloc: Global) -> Result<AnswerTable, Memory> {
+    let mut answers = Vec::new(alloc);
+    tell(alloc, 3, MIN_COUNT, &mut answers)?;
+    tell(alloc, 4, NODE_KIND, &mut answers)?;
+    Ok(AnswerTable { answers })
+}
+
+fn take_told(
+    table: &AnswerTable,
+    pair: &Pair,
+    reads: &mut Reads,
+    due: &mut Due,
+) -> Result<(), Memory>
+    requires { IsTrue (has_pair table.now.answers.items pair.now) }
 {
-    for pair in pairs {
-        if !is_told(&table.answers, pair) {
-            return false;
-        }
+    if table.conforms(pair, reads)? {
+        due.take(" conforms");
     }
-    true
+    for row in table.results(pair, reads)? {
+        due.take(" ");
+        due.take(name_of(row.kind));
+    }
+    Ok(())
+}
+
+/// Whether a table tells the results that are due of a shape at node 70, of which nothing is read.
+pub(super) fn is_told(alloc: Global, of: &str, mut due: Due) -> Result<bool, RowFault> {
+    let shape = number(of)?;
+    let pair = Pair { shape, node: 70 };
+    let table = table(alloc)?;
+    let mut reads = Reads::new(alloc);
+    if is_held(&table.answers, &pair) {
+        take_told(&table, &pair, &mut reads, &mut due)?;
+    }
+    Ok(due.is_found() && reads.len() == 0)
 }

@@ -1,140 +1,33 @@
-//! Target nodes (SHACL, section 2.1.3), by hand, and what is read to find them.
+//! Target nodes (SHACL, section 2.1.3), what is read to find them, and from which shapes a validation begins.
 
 pub const ROWS: &str = "\
-nodes that are stated, in the order of terms
-e:S target='x' target=e:b target=e:a
-| -
-| 0
-| e:a e:b 'x'
-| -
+# Nodes in the order of terms, each once. A node that is stated needs no triple.
+e:Z sh:targetNode 'x' , e:b , e:a . e:Subjects sh:targetSubjectsOf e:p . e:Objects sh:targetObjectsOf e:p .
+e:None sh:minCount 1 ; sh:path e:p . e:Class sh:targetClass e:C .
+e:Off sh:targetNode e:a ; sh:deactivated true .
+e:All sh:targetNode e:d , e:a ; sh:targetClass e:C ; sh:targetSubjectsOf e:p ; sh:targetObjectsOf e:q .
+e:b e:p e:c , 'x' . e:a e:p e:c . e:d e:q e:a . e:C rdfs:subClassOf e:D . e:D rdfs:subClassOf e:C .
+e:f a e:D , e:C . e:e a e:D . e:g a e:E . e:E rdfs:subClassOf e:F .
+e:Above sh:targetClass e:F ; sh:property e:Below . e:Below sh:path e:p ; sh:targetNode e:h . e:h e:r e:h .
+? targets e:Z = e:a e:b 'x'
+? targets e:Subjects = e:a e:b | with e:p
+? targets e:Objects = e:c 'x' | with e:p
+? targets e:None =
+? targets e:Class = e:e e:f | ^rdfs:subClassOf e:D, ^rdfs:subClassOf e:C, ^rdf:type e:D, ^rdf:type e:C
+? targets e:All = e:a e:b e:d e:e e:f | ^rdfs:subClassOf e:D, ^rdfs:subClassOf e:C, ^rdf:type e:D, \
+^rdf:type e:C, with e:p, with e:q
+? targets e:Above = e:g | ^rdfs:subClassOf e:F, ^rdfs:subClassOf e:E, ^rdf:type e:F, ^rdf:type e:E
+? targets e:Below = e:h
+? begun = e:Above e:All e:Below e:Class e:Objects e:Subjects e:Z
+? not targets e:Z = e:a 'x' e:b
+? not targets e:Z = e:a e:b
+? not targets e:Z = e:a e:b 'x' 'x'
+? not targets e:Z = e:a e:b 'x' | with e:p
+? not targets e:Class = e:e e:f | ^rdfs:subClassOf e:C, ^rdf:type e:D, ^rdf:type e:C
+? not targets e:a =
+? not begun = e:Above e:All e:Below e:Class e:None e:Objects e:Subjects e:Z
+? not begun = e:Above e:All e:Below e:Class e:Objects e:Subjects
 
-a node that is stated twice, and that no triple has
-e:S target=e:b target=e:b
-| e:a e:p e:c
-| 0
-| e:b
-| -
-
-subjects, each once
-e:S subjects=e:p
-| e:b e:p e:c, e:a e:p e:c, e:b e:p e:d, e:d e:q e:a
-| 0
-| e:a e:b
-| with e:p
-
-objects, each once, literals among them
-e:S objects=e:p
-| e:b e:p e:c, e:a e:p e:c, e:b e:p 'x', e:d e:q e:a
-| 0
-| e:c 'x'
-| with e:p
-
-no targets
-e:S MinCount='1'^^integer
-| e:a e:p e:b
-| 0
-| -
-| -
-
-instances of a class before it has a subclass
-e:P path=e:p MinCount='1'^^integer
-e:S class=e:D Property=e:P,0
-| e:x rdf:type e:C, e:y rdf:type e:C, e:z rdf:type e:C
-| 1
-| -
-| ^rdfs:subClassOf e:D, ^rdf:type e:D
-
-instances of a class behind the edit that gives it one
-e:P path=e:p MinCount='1'^^integer
-e:S class=e:D Property=e:P,0
-| e:x rdf:type e:C, e:y rdf:type e:C, e:z rdf:type e:C, e:C rdfs:subClassOf e:D
-| 1
-| e:x e:y e:z
-| ^rdfs:subClassOf e:D, ^rdfs:subClassOf e:C, ^rdf:type e:D, ^rdf:type e:C
-
-subclasses that go round, and a node that is of both
-e:S class=e:C
-| e:C rdfs:subClassOf e:D, e:D rdfs:subClassOf e:C, e:b rdf:type e:D, e:b rdf:type e:C, e:a rdf:type e:D
-| 0
-| e:a e:b
-| ^rdfs:subClassOf e:D, ^rdfs:subClassOf e:C, ^rdf:type e:D, ^rdf:type e:C
-
-all four kinds at once, each node once
-e:S target=e:d target=e:a class=e:C subjects=e:p objects=e:q
-| e:b rdf:type e:C, e:d rdf:type e:C, e:c e:p e:a, e:d e:p e:a, e:a e:q 'x', e:c e:q e:b
-| 0
-| e:a e:b e:c e:d 'x'
-| ^rdfs:subClassOf e:C, ^rdf:type e:C, with e:p, with e:q
-
-what is below a shape has targets of its own
-e:P target=e:b path=e:p
-e:S subjects=e:p Property=e:P,0
-| e:a e:p e:c
-| 0
-| e:b
-| -";
-
-/// Blocks that are not so.
-pub const WRONG: &str = "\
-a node twice
-e:S target=e:a subjects=e:p
-| e:a e:p e:b
-| 0
-| e:a e:a
-| with e:p
-
-out of order
-e:S target=e:b target=e:a
-| -
-| 0
-| e:b e:a
-| -
-
-a key too many
-e:S target=e:a
-| -
-| 0
-| e:a
-| with e:p
-
-a key too few
-e:S class=e:C
-| e:a rdf:type e:C
-| 0
-| e:a
-| ^rdf:type e:C
-
-a number that no shape has
-e:S target=e:a
-| -
-| 1
-| e:a
-| -";
-
-/// The numbers of the shapes from which a validation begins, in order.
-pub const BEGUN: &str = "\
-by their nodes in the order of terms
-e:T target=e:a
-e:A target=e:a
-e:S class=e:C
-| -
-| -
-| 1 2 0
-| -
-
-none that is deactivated, and none without a target
-e:T target=e:a deactivated
-e:A MinCount='1'^^integer
-e:S subjects=e:p
-e:R objects=e:p Node=e:A,1
-| -
-| -
-| 3 2
-| -
-
-none at all
-e:T deactivated
-| -
-| -
-| -
-| -";
+# Nothing begins.
+e:T sh:nodeKind sh:IRI ; sh:deactivated true ; sh:targetNode e:a . e:S sh:path e:p ; sh:minCount 1 .
+? begun =";

@@ -1,6 +1,6 @@
 use Rattle.std.specs.Prelude.{IsTrue, drop}
 use Rattle.comp_core.specs.Table.{has_pair}
-use Rattle.eval_rows.proofs.tests.told.is_told.Given as goal
+use Rattle.eval_rows.proofs.tests.told.is_held.Given as goal
 
 -- what is left of the answers has no pair that they all do not have
 abbrev pub invariant-loop-answered : goal.invariant-loop-answered

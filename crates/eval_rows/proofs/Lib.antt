@@ -1,3 +1,0 @@
-pub mod ConstraintLemmas
-pub mod PathLemmas
-pub mod PlanLemmas

@@ -1,2 +1,0 @@
--- What the tests of this crate are proved by.
-pub mod Fits

@@ -171,6 +171,16 @@ def texts_end_early(program):
             yield is_whole(f'an early end of the {place} behind {text[-9:]!r}', found, due.encode(), status)
 
 
+def closed_input(program):
+    """Standard input is closed: `/dev/stdin` has no bytes then, and is no file that was opened before."""
+    for place, text, due, status in EARLY:
+        if not text:
+            words = ['/dev/stdin' if word == place else word for word in THREE]
+            with folder_of(TEXTS) as folder:
+                found = ended(program, words, folder, stdin=None, preexec_fn=lambda: os.close(0))
+            yield is_whole(f'a standard input that is closed as {place}', found, due.encode(), status)
+
+
 def is_taken(writer):
     """Whether all that was written into a pipe is read."""
     return not any(fcntl.ioctl(writer, termios.FIONREAD, bytes(4)))
@@ -239,6 +249,6 @@ def descriptors_run_out(program):
 
 
 def tried(program):
-    for part in (names_fail, files_go, loaded_shapes_go, texts_end_early, texts_come_slowly,
+    for part in (names_fail, files_go, loaded_shapes_go, texts_end_early, closed_input, texts_come_slowly,
                  terminal_is_hung_up, descriptors_run_out):
         yield from part(program)

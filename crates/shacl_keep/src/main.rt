@@ -19,6 +19,7 @@ use program_words::read_words;
 use shacl_run::Status;
 use shx_outside::{FileInputs, RegexHost, StdSink};
 use shx_term::{Steps, TermKeys, Text};
+use std::fs::File;
 use std::marker::Brand;
 use std::process::ExitCode;
 use std::rt::Files;
@@ -32,8 +33,11 @@ fn main(rt: HostRuntime) -> ExitCode {
     ExitCode::from(status.number())
 }
 
-// Where the system gives no random bytes for the keys of terms, nothing is begun.
+// Where the system gives no random bytes for the keys of terms, nothing is begun. Where standard input is
+// closed, a file without bytes stands in its place: else the next file that is opened would, and
+// `/dev/stdin` would lead there.
 fn run_on_files(rt: &HostRuntime, words: &[Text]) -> Status {
+    let _place = File::open(rt, "/dev/null");
     let Ok(keys) = TermKeys::drawn(rt) else {
         return Status::Memory;
     };

@@ -1,14 +1,14 @@
-//! The engine at work, as tests alone: edits, and how many pairs each evaluates.
+//! The engine at work, as tests alone: what is looked up for an edit, and what stays where one is refused.
 //!
 //! | file | what it holds |
 //! |---|---|
-//! | `tests/rows.rt` | the table: shapes, data and edits |
-//! | `tests/edits.rt` | an engine goes through the edits of a row |
-//! | `tests/beside.rt` | the report that is made from nothing, beside the one that an engine keeps |
-//! | `tests/watched.rt` | edits over a graph in which a look-up is seen |
-//! | `tests/refused.rt` | edits for which one look-up after the other is refused |
-//! | `tests/entered.rt` | terms that are entered before an edit, and given back |
-//! | `tests/adopted.rt` | another plan takes the place of the one at hand |
+//! | `tests/rows.rt` | the table: shapes, data and steps |
+//! | `tests/blocks.rt` | a block: an engine is opened, takes other shapes, and goes through steps |
+//! | `tests/steps.rt` | a step: what is asked of the engine, and what is due |
+//! | `tests/edits.rt` | edits, which are tried until nothing is refused |
+//! | `tests/entered.rt` | terms that are entered beside the graph, and given back |
+//! | `tests/told.rt` | what an engine tells, to be held beside what it told before |
+//! | `tests/watched.rt` | a graph in which look-ups and changes are counted, and refused |
 //! | `tests/opened.rt` | plans and graphs of texts |
 #![tactic(auto)]
 

@@ -1,8 +1,8 @@
-mod adopted;
-mod beside;
+mod blocks;
 mod edits;
 mod entered;
 mod opened;
-mod refused;
 mod rows;
+mod steps;
+mod told;
 mod watched;

@@ -27,6 +27,9 @@ const PREFIXES: &str = "\
 @prefix xsd: <http://www.w3.org/2001/XMLSchema#> .
 ";
 
+// How many triples the data may hold.
+const TRIPLES: u64 = 8;
+
 // What a text behind the prefixes states.
 fn read(alloc: Global, text: &str, scope: Scope, pool: &mut Pool) -> Result<Document, RowFault> {
     let base = "file:///";
@@ -130,45 +133,17 @@ fn state_text(
 }
 
 // The valid graph of a data text, in which the terms of the pool stay.
-fn data_of(alloc: Global, text: &str, pool: Pool, triples: u64) -> Result<Stated, RowFault>
+fn data_of(alloc: Global, text: &str, pool: Pool) -> Result<Stated, RowFault>
     ensures valid { IfOk result (λ read. IsValidView (plain_graph read.graph)) }
     ensures terms { IfOk result (λ read. length pool.terms ≤ length read.graph.pool.terms) }
 {
     let known = pool.len();
-    let data = state_text(alloc, text, Scope::Data, pool, triples)?;
+    let data = state_text(alloc, text, Scope::Data, pool, TRIPLES)?;
     if data.graph.pool().len() >= known && is_valid(&data.graph) {
         Ok(data)
     } else {
         Err(RowFault::Unread)
     }
-}
-
-/// The plan of a shapes text, the graph of a data text, and that text, behind which lines are read.
-#[derive(Drop)]
-pub(super) struct Opened {
-    pub(super) plan: Plan,
-    pub(super) graph: ListGraph,
-    pub(super) document: Document,
-}
-
-/// What two texts state. The graph may hold so many triples.
-pub(super) fn open_texts(
-    alloc: Global,
-    shapes: &str,
-    data: &str,
-    triples: u64,
-) -> Result<Opened, RowFault>
-    ensures { IfOk result (λ opened. MayBeAsked (plan_of opened.plan) (plain_graph opened.graph)) }
-{
-    plans_target_shapes_once();
-    plans_stay_known();
-    let Shapes { plan, pool } = shapes_of(alloc, shapes, vocabulary_pool(alloc, 1_000)?)?;
-    let Stated { graph, document } = data_of(alloc, data, pool, triples)?;
-    Ok(Opened {
-        plan,
-        graph,
-        document,
-    })
 }
 
 /// The plan of a shapes text, and that of another one that may take its place.
@@ -178,22 +153,24 @@ pub(super) struct Plans {
     pub(super) new: Plan,
 }
 
-/// What two shapes texts and a data text state, over one pool. The graph may hold so many triples.
-pub(super) fn open_both(
-    alloc: Global,
-    old: &str,
-    new: &str,
-    data: &str,
-    triples: u64,
-) -> Result<(Plans, Stated), RowFault>
+/// Texts of shapes, of those that may take their place, and of data.
+#[derive(Clone, Copy)]
+pub(super) struct Texts<'a> {
+    pub(super) old: &'a str,
+    pub(super) new: &'a str,
+    pub(super) data: &'a str,
+}
+
+/// What texts state, over one pool.
+pub(super) fn open_both(alloc: Global, texts: &Texts) -> Result<(Plans, Stated), RowFault>
     ensures { IfOk result (λ opened. MayBeAsked (plan_of opened.0.old) (plain_graph opened.1.graph)
         × MayBeAsked (plan_of opened.0.new) (plain_graph opened.1.graph)) }
 {
     plans_target_shapes_once();
     plans_stay_known();
-    let old = shapes_of(alloc, old, vocabulary_pool(alloc, 1_000)?)?;
-    let new = shapes_of(alloc, new, old.pool)?;
-    let read = data_of(alloc, data, new.pool, triples)?;
+    let old = shapes_of(alloc, texts.old, vocabulary_pool(alloc, 1_000)?)?;
+    let new = shapes_of(alloc, texts.new, old.pool)?;
+    let read = data_of(alloc, texts.data, new.pool)?;
     let plans = Plans {
         old: old.plan,
         new: new.plan,

@@ -1,170 +1,195 @@
-//! Edits, a block for each engine: its shapes, its data, how many pairs and results there are, and then
-//! edits, each with how many pairs it evaluates, or why it has no effect, and how many pairs and results
-//! there are then. Edits with ` ; ` between them are made at once. The engine may hold eight triples.
+//! Blocks: shapes; those that take their place, or `#`; data; how many pairs and results there are, and where
+//! other shapes take the place of those at hand, how many pairs that evaluates, or that it is `refused`; and
+//! steps. The graph may hold eight triples.
+//!
+//! - `EDITS → OUTCOME after TRIES, COUNTS`: edits are made at once. It says how many pairs that evaluates,
+//!   `unchanged`, or the limit that they would pass; how often it was refused for want of memory before, a
+//!   number or `some`; and how many pairs and results there are then.
+//! - `watch SUBJECT PREDICATE`: of the look-ups of this key one more is answered with each try; `watch all`:
+//!   so of all look-ups and changes; `watch nothing`: nothing is refused.
+//! - `enter NAME=PLACE ..`: terms are entered, given back and entered again: in which places behind those
+//!   that were held, or `-` where one was.
+//! - `count COUNTS`: how many pairs and results there are.
 
 pub const ROWS: &str = "\
+== edits that are made, and made again
+
 e:S sh:targetNode e:a ; sh:path e:p ; sh:minCount 1 .
+#
 # nothing
 1 1
-insert e:a e:p e:b . → 1, 1 0
-insert e:a e:p e:b . → unchanged, 1 0
-insert e:a e:q e:b . → 0, 1 0
-insert e:c e:p e:b . → 0, 1 0
-remove e:a e:p e:c . → unchanged, 1 0
-remove e:a e:p e:b . → 1, 1 1
-remove e:a e:p e:b . → unchanged, 1 1
+insert e:a e:p e:b . → 1 after 0, 1 0
+insert e:a e:p e:b . → unchanged after 0, 1 0
+insert e:a e:q e:b . → 0 after 0, 1 0
+remove e:a e:p e:c . → unchanged after 0, 1 0
+remove e:a e:p e:b . → 1 after 0, 1 1
+remove e:a e:p e:b . → unchanged after 0, 1 1
+insert e:a e:p e:b . → 1 after 0, 1 0
+insert e:a e:p e:c . ; remove e:a e:p e:b . → 1 after 0, 1 0
+remove e:a e:p e:c . ; insert e:a e:p e:c . → unchanged after 0, 1 0
+
+== edits that pass the limit of triples
+
+e:S sh:targetNode e:a ; sh:path e:p ; sh:minCount 1 .
+#
+e:a e:p e:b , e:c , e:d . e:b e:p e:c , e:d . e:c e:p e:d , e:a .
+1 0
+insert e:a e:p e:e . → 1 after 0, 1 0
+insert e:b e:p e:e . → too many triples after 0, 1 0
+insert e:a e:p e:b . → unchanged after 0, 1 0
+insert e:b e:p e:e . ; remove e:a e:p e:b . → 1 after 0, 1 0
+insert e:x e:p e:y . ; insert e:x e:p e:z . ; remove e:a e:p e:c . → too many triples after 0, 1 0
+remove e:b e:p e:e . → 0 after 0, 1 0
+insert e:x e:p e:y . → 0 after 0, 1 0
+
+== the keys of a pair beside those that are touched are not looked up
 
 e:S sh:targetNode e:a , e:b ; sh:path e:p ; sh:minCount 1 .
-e:a e:q e:x .
+#
+e:c e:q e:d .
 2 2
-insert e:a e:p e:c . → 1, 2 1
-insert e:b e:p e:c . → 1, 2 0
-insert e:b e:p e:d . → 1, 2 0
-remove e:a e:p e:c . → 1, 2 1
+watch e:b e:p
+insert e:a e:p e:new . → 1 after 0, 2 1
 
-e:S sh:targetClass e:C ; sh:path e:p ; sh:minCount 1 .
-e:D rdfs:subClassOf e:C . e:x a e:C . e:y a e:D . e:y e:p e:a .
-2 1
-insert e:z rdf:type e:D . → 1, 3 2
-insert e:z rdf:type e:C . → 0, 3 2
-remove e:z rdf:type e:D . → 0, 3 2
-remove e:z rdf:type e:C . → 0, 2 1
-insert e:w rdf:type e:E . → 0, 2 1
-insert e:E rdfs:subClassOf e:D . → 1, 3 2
-remove e:D rdfs:subClassOf e:C . → 0, 1 1
+e:S sh:targetNode e:a , e:b ; sh:path e:p ; sh:minCount 1 .
+#
+e:c e:q e:d .
+2 2
+watch e:a e:p
+insert e:a e:p e:new . → 1 after 1, 2 1
 
-e:S sh:targetSubjectsOf e:p ; sh:property [ sh:path e:q ; sh:minCount 1 ] . \
-e:T sh:targetObjectsOf e:p ; sh:nodeKind sh:IRI .
-e:a e:p e:b .
-2 1
-insert e:a e:p 'x' . → 1, 3 2
-insert e:c e:p e:b . → 1, 4 3
-insert e:c e:q 'y' . → 1, 4 2
-remove e:a e:p e:b . → 0, 4 2
-remove e:c e:p e:b . → 0, 2 2
+e:S sh:targetSubjectsOf e:next ; sh:path ( e:next e:mark ) ; sh:minCount 1 .
+#
+e:n0 e:next e:n1 . e:n1 e:next e:n2 . e:n2 e:next e:n0 .
+3 3
+watch e:n1 e:next
+insert e:n1 e:mark 'new' . → 1 after 0, 3 2
 
-e:S sh:targetNode e:a ; sh:node e:T . e:T sh:property [ sh:path [ sh:zeroOrMorePath e:n ] ; \
-sh:class e:C ] .
-e:a a e:C ; e:n e:b . e:b a e:C .
-1 0
-insert e:b e:n e:c . → 1, 1 1
-insert e:c rdf:type e:D . → 1, 1 1
-insert e:D rdfs:subClassOf e:C . → 1, 1 0
-insert e:d e:n e:e . → 0, 1 0
+e:S sh:targetSubjectsOf e:next ; sh:path ( e:next e:mark ) ; sh:minCount 1 .
+#
+e:n0 e:next e:n1 . e:n1 e:next e:n2 . e:n2 e:next e:n0 .
+3 3
+watch e:n2 e:next
+insert e:n1 e:mark 'new' . → 1 after 0, 3 2
 
-e:S sh:targetNode e:a ; sh:property [ sh:path e:p ; sh:minCount 3 ] ; sh:property [ sh:path e:p ; \
-sh:maxCount 1 ] .
-e:a e:p e:b , e:c .
+e:S sh:targetSubjectsOf e:next ; sh:path ( e:next e:mark ) ; sh:minCount 1 .
+#
+e:n0 e:next e:n1 . e:n1 e:next e:n2 . e:n2 e:next e:n0 .
+3 3
+watch e:n0 e:next
+insert e:n1 e:mark 'new' . → 1 after 1, 3 2
+
+== what is nested in two pairs is looked up once
+
+e:S sh:targetNode e:a , e:b ; sh:path e:q ; sh:node e:I . \
+e:I sh:property e:J . e:J sh:path e:p ; sh:minCount 1 .
+#
+e:a e:q e:c . e:b e:q e:c .
+2 2
+watch e:c e:p
+insert e:c e:p e:new . → 2 after 1, 2 0
+remove e:c e:p e:new . → 2 after 1, 2 2
+insert e:c e:r e:new . → 0 after 0, 2 2
+
+== each look-up and each change is refused once
+
+e:S sh:targetNode e:h ; sh:property e:Q , e:R . \
+e:Q sh:path e:has ; sh:qualifiedValueShape e:A ; sh:qualifiedMinCount 1 ; \
+sh:qualifiedValueShapesDisjoint true . \
+e:R sh:path e:has ; sh:qualifiedValueShape e:B ; sh:qualifiedMinCount 1 ; \
+sh:qualifiedValueShapesDisjoint true . \
+e:A sh:path e:k ; sh:hasValue e:thumb . e:B sh:path e:k ; sh:hasValue e:finger .
+#
+e:h e:has e:d . e:d e:k e:thumb , e:finger .
 1 2
-insert e:a e:p e:d . → 1, 1 1
-insert e:a e:r e:d . → 0, 1 1
-insert e:b e:r e:d . → 0, 1 1
-insert e:c e:r e:d . → 0, 1 1
-insert e:d e:r e:d . → 0, 1 1
-insert e:e e:r e:d . → 0, 1 1
-insert e:f e:r e:d . → the graph is full, 1 1
-insert e:e e:r e:d . → unchanged, 1 1
-remove e:e e:r e:d . → 0, 1 1
-insert e:f e:r e:d . → 0, 1 1
+watch all
+remove e:d e:k e:finger . → 1 after some, 1 1
+insert e:d e:k e:finger . → 1 after some, 1 2
 
-e:S sh:targetNode e:a ; sh:path e:p ; sh:datatype xsd:integer ; sh:minInclusive 2 ; \
-sh:maxExclusive 9 ; sh:in ( 1 2 3 ) ; sh:hasValue 3 .
-e:a e:q 1 .
-1 1
-insert e:a e:p 3 . → 1, 1 0
-insert e:a e:p 1 . → 1, 1 1
-insert e:a e:p 'x' . → 1, 1 5
-remove e:a e:p 3 . → 1, 1 6
+e:S sh:targetClass e:D ; sh:property [ sh:path e:p ; sh:minCount 1 ] .
+#
+e:x a e:C . e:y a e:C . e:z a e:C .
+0 0
+watch all
+insert e:C rdfs:subClassOf e:D . → 3 after some, 3 3
+insert e:x e:p e:y . → 1 after some, 3 2
+remove e:C rdfs:subClassOf e:D . → 0 after some, 0 0
 
-e:S sh:targetNode e:a ; sh:path e:x ; sh:lessThan e:y ; sh:disjoint e:z .
-e:a e:x 1 , 5 .
-1 0
-insert e:a e:y 3 . → 1, 1 1
-insert e:a e:z 5 . → 1, 1 2
-insert e:b e:y 3 . → 0, 1 2
-remove e:a e:x 5 . → 1, 1 0
-
-e:S sh:targetClass e:C ; sh:or ( e:A e:B ) ; sh:not e:N . e:A sh:path e:p ; sh:minCount 1 . \
-e:B sh:path e:q ; sh:minCount 1 . e:N sh:path e:r ; sh:hasValue 1 .
-e:a a e:C .
-1 1
-insert e:a e:q 1 . → 1, 1 0
-insert e:a e:r 1 . → 1, 1 1
-insert e:a e:p 1 . → 1, 1 1
-remove e:a e:q 1 . → 1, 1 1
-insert e:b a e:C . → 1, 2 2
-
-e:S sh:targetNode e:h ; sh:property e:Q ; sh:closed true . e:Q sh:path e:has ; \
-sh:qualifiedValueShape e:K ; sh:qualifiedMinCount 1 . e:K sh:path e:k ; sh:minCount 1 .
-e:h e:has e:d .
-1 1
-insert e:d e:k 1 . → 1, 1 0
-insert e:h e:m 1 . → 1, 1 1
-insert e:d e:m 1 . → 0, 1 1
-remove e:h e:has e:d . → 1, 1 2
-
-e:S sh:targetNode e:a ; sh:path e:l ; sh:uniqueLang true ; sh:languageIn ( 'en' ) ; \
-sh:pattern '^x' ; sh:minLength 2 ; sh:maxLength 3 .
-e:a e:l 'xy'@en .
-1 0
-insert e:a e:l 'xz'@en . → 1, 1 1
-insert e:a e:l 'y'@de . → 1, 1 4
-remove e:a e:l 'xy'@en . → 1, 1 3
-insert e:a e:l 'xxxx'@en . → 1, 1 5
-
-e:S sh:targetClass e:C ; sh:property [ sh:path e:p ; sh:minCount 1 ] .
-e:B rdfs:subClassOf e:C . e:D rdfs:subClassOf e:B . e:x a e:D .
-1 1
-insert e:D rdfs:subClassOf e:C . → 0, 1 1
-remove e:D rdfs:subClassOf e:B . → 0, 1 1
-remove e:D rdfs:subClassOf e:C . → 0, 0 0
-insert e:D rdfs:subClassOf e:B . → 1, 1 1
-insert e:x rdf:type e:C . → 0, 1 1
-remove e:x rdf:type e:D . → 0, 1 1
-remove e:x rdf:type e:C . → 0, 0 0
-
-e:C a rdfs:Class , sh:NodeShape ; sh:property [ sh:path e:p ; sh:minCount 1 ] .
-e:x a e:C .
-1 1
-insert e:y a e:C . → 1, 2 2
-insert e:y e:p 1 . → 1, 2 1
-
-e:S sh:targetClass e:C ; sh:targetNode e:x ; sh:targetSubjectsOf e:t ; sh:property [ sh:path e:p ; \
-sh:minCount 1 ] .
-e:x a e:C .
-1 1
-remove e:x rdf:type e:C . → 0, 1 1
-insert e:y e:t 1 . → 1, 2 2
-insert e:y a e:C . → 0, 2 2
-remove e:y e:t 1 . → 0, 2 2
-remove e:y rdf:type e:C . → 0, 1 1
-insert e:x e:p 1 . → 1, 1 0
-
-e:S sh:targetNode e:a ; sh:path e:q ; sh:property e:I . e:I sh:path e:p ; sh:maxCount 9 .
-e:a e:q e:c .
-1 0
-insert e:c e:p 1 . ; insert e:a e:q e:d . ; insert e:d e:p 1 . → 1, 1 0
-insert e:c e:p 2 . ; remove e:c e:p 2 . → unchanged, 1 0
-remove e:c e:p 1 . ; insert e:c e:p 1 . ; remove e:z e:p 1 . → unchanged, 1 0
-remove e:a e:q e:c . ; remove e:a e:q e:d . ; remove e:c e:p 1 . ; remove e:d e:p 1 . → 1, 1 0
-
-e:S sh:targetClass e:C ; sh:property [ sh:path e:p ; sh:minCount 1 ] .
-e:D rdfs:subClassOf e:C . e:x a e:D . e:y a e:D .
+e:S sh:targetNode e:a , e:b ; sh:path e:q ; sh:node e:I . \
+e:I sh:property e:J . e:J sh:path e:p ; sh:minCount 1 .
+#
+e:a e:q e:c . e:b e:q e:c .
 2 2
-remove e:D rdfs:subClassOf e:C . ; insert e:D rdfs:subClassOf e:B . ; \
-insert e:B rdfs:subClassOf e:C . → 0, 2 2
-remove e:B rdfs:subClassOf e:C . ; insert e:x rdf:type e:C . ; insert e:y e:p 1 . → 0, 1 1
-insert e:B rdfs:subClassOf e:C . ; remove e:x rdf:type e:D . ; insert e:x e:p 1 . → 2, 2 0
-insert e:z rdf:type e:C . ; insert e:w rdf:type e:C . ; \
-insert e:v rdf:type e:C . → the graph is full, 2 0
-insert e:z rdf:type e:C . ; insert e:w rdf:type e:D . ; \
-remove e:x rdf:type e:C . ; remove e:x e:p 1 . → 2, 3 2
+watch all
+insert e:c e:p e:new . → 2 after some, 2 0
+insert e:c e:p e:new . → unchanged after 0, 2 0
+insert e:x e:r e:newer . → 0 after 1, 2 0
+remove e:c e:p e:new . ; remove e:x e:r e:newer . → 2 after some, 2 2
 
-e:S sh:targetSubjectsOf e:p ; sh:path e:q ; sh:maxCount 1 . \
-e:T sh:targetObjectsOf e:p ; sh:nodeKind sh:IRI .
-e:a e:p e:b ; e:q 1 , 2 .
-2 1
-remove e:a e:p e:b . ; insert e:b e:p e:a . → 2, 2 0
-insert e:a e:p e:b . ; remove e:a e:q 2 . ; insert e:b e:q 1 . ; insert e:b e:q 2 . → 3, 4 1
-remove e:a e:p e:b . ; remove e:b e:p e:a . ; remove e:b e:q 1 . → 0, 0 0
+== terms are entered, given back and entered again
+
+e:S sh:targetNode e:a , e:b ; sh:path e:q ; sh:node e:I . \
+e:I sh:property e:J . e:J sh:path e:p ; sh:minCount 1 .
+#
+e:a e:q e:c . e:b e:q e:c .
+2 2
+enter u=0 v=1 d=2
+insert e:c e:p e:d . → 2 after 0, 2 0
+enter a=- w=0 c=- x=1
+insert e:c e:p e:d . → unchanged after 0, 2 0
+enter y=0
+remove e:c e:p e:d . → 2 after 0, 2 2
+enter d=- z=0
+insert e:c e:r e:d . → 0 after 0, 2 2
+
+e:S sh:targetSubjectsOf e:p ; sh:path e:q ; sh:minCount 1 .
+#
+e:a e:p e:b .
+1 1
+watch all
+enter u=0 v=1
+insert e:u e:p e:b . → 1 after some, 2 2
+enter u=- w=0
+insert e:w e:q e:u . ; insert e:u e:q e:v . → 1 after some, 2 1
+enter x=0
+remove e:u e:p e:b . → 0 after some, 1 1
+enter u=- x=- y=0
+insert e:a e:q e:y . → 1 after some, 1 0
+
+== other shapes take the place of those at hand
+
+e:S sh:targetNode e:a ; sh:path e:p ; sh:minCount 1 . e:T sh:targetNode e:a ; sh:path e:q ; sh:minCount 1 .
+e:S sh:targetNode e:a ; sh:path e:p ; sh:minCount 1 . e:T sh:targetNode e:a ; sh:path e:q ; sh:minCount 2 .
+e:a e:q e:b .
+2 1 → 1
+count 2 2
+insert e:a e:q e:c . → 1 after 0, 2 1
+watch all
+insert e:a e:p e:c . → 1 after some, 2 0
+
+e:S sh:targetNode e:a ; sh:path e:p ; sh:minCount 1 . e:T sh:targetNode e:a ; sh:path e:q ; sh:minCount 1 .
+e:S sh:targetNode e:a ; sh:path e:p ; sh:minCount 1 . e:T sh:targetNode e:a ; sh:path e:q ; sh:minCount 2 .
+e:a e:q e:b .
+2 1 → refused
+count 2 1
+insert e:a e:q e:c . → 1 after 0, 2 1
+remove e:a e:q e:b . → 1 after 0, 2 1
+insert e:a e:p e:c . → 1 after 0, 2 0
+
+e:S sh:targetNode e:a ; sh:path e:q ; sh:node e:I . e:I sh:property e:J . e:J sh:path e:p ; sh:minCount 1 .
+e:S sh:targetNode e:a ; sh:path e:q ; sh:node e:I . e:I sh:property e:J . e:J sh:path e:p ; sh:minCount 2 .
+e:a e:q e:b . e:b e:p e:c .
+1 0 → 1
+count 1 1
+watch all
+insert e:b e:p e:d . → 1 after some, 1 0
+
+e:S sh:targetNode e:a ; sh:path e:q ; sh:node e:I . e:I sh:property e:J . e:J sh:path e:p ; sh:minCount 1 .
+e:B sh:path e:q ; sh:minCount 1 . e:C sh:path e:q ; sh:maxCount 1 . e:S sh:targetNode e:a ; sh:path e:q ; \
+sh:node e:I . e:I sh:property e:J . e:J sh:path e:p ; sh:minCount 1 .
+e:a e:q e:b .
+1 1 → 0
+count 1 1
+watch e:b e:p
+insert e:b e:p e:d . → 1 after 1, 1 0
 ";

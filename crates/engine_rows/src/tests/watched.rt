@@ -1,61 +1,75 @@
-//! Edits over a graph that is watched: an edit evaluates no pair beside those that it touches, so it looks
-//! up no key of theirs; and what is nested in several of them is evaluated once.
-ghost use Rattle.std.specs.Prelude.{◌≡◌};
+//! A graph that is watched, and answers for want of memory where it was looked up, or changed, too often.
+ghost use Rattle.std.specs.Prelude.{◌≡◌, ◌+◌, ◌≤◌, length, IsTrue};
 
-use super::edits::goes_as_said;
 use graph_view::{GraphEdit, GraphView, Key, ListGraph, Notes, StoreFault};
-use row_tools::{RowFault, all_blocks_met, cut, term};
 use shx_term::{Id, Memory, Pool, PoolFault, Term, Triple};
 use std::alloc::{AllocError, Global};
 use std::cell::Cell;
-use std::test::Fail;
 
-/// Which look-ups are counted.
+/// What is counted.
 #[derive(Clone, Copy)]
 pub(super) enum Watch {
     Nothing,
+    /// The look-ups of a key.
     Of(Key),
+    /// All look-ups, and changes.
     All,
 }
 
-/// A graph that answers for want of memory where it is looked up too often.
+/// A graph of which so much that is counted is answered.
 #[derive(Drop)]
 pub(super) struct Watched {
     graph: ListGraph,
-    watch: Watch,
+    watch: Cell<Watch>,
     left: Cell<u64>,
 }
 
 impl Watched {
-    /// Nothing is looked up too often before it is said how often it may be.
-    pub(super) fn new(graph: ListGraph, watch: Watch) -> Watched
+    pub(super) fn new(graph: ListGraph) -> Watched
         ensures { result.graph ≡ graph }
     {
         Watched {
             graph,
-            watch,
-            left: Cell::new(u64::MAX),
+            watch: Cell::new(Watch::Nothing),
+            left: Cell::new(0),
         }
     }
 
-    /// From now on so many of the look-ups that are counted are answered.
+    pub(super) fn watch(&self, watch: Watch) {
+        self.watch.set(watch);
+    }
+
+    /// From now on so much of what is counted is answered.
     pub(super) fn allow(&self, most: u64) {
         self.left.set(most);
     }
 
-    // Counts a look-up, and whether it is one too many.
-    fn refuses(&self, key: &Key) -> bool {
-        let counts = match &self.watch {
-            Watch::Nothing => false,
-            Watch::Of(watched) => *key == *watched,
-            Watch::All => true,
-        };
-        if !counts {
-            return false;
-        }
+    // Counts one more, and says whether it is one too many.
+    fn is_past(&self) -> bool {
         let left = self.left.get();
         self.left.set(left.saturating_sub(1));
         left == 0
+    }
+
+    fn refuses(&self, key: &Key) -> bool {
+        match self.watch.get() {
+            Watch::Nothing => false,
+            Watch::Of(watched) => *key == watched && self.is_past(),
+            Watch::All => self.is_past(),
+        }
+    }
+
+    // A change is refused for want of memory only where there is room for it.
+    fn refuses_change(&self, added: &[Triple]) -> bool
+        ensures { IsTrue result
+            → length self.now.graph.triples + length added.now ≤ self.now.graph.limit }
+    {
+        match self.watch.get() {
+            Watch::Nothing | Watch::Of(_) => false,
+            Watch::All => {
+                added.len() as u64 <= self.graph.limit() - self.graph.len() && self.is_past()
+            }
+        }
     }
 }
 
@@ -153,75 +167,13 @@ impl GraphEdit for Watched {
     }
 
     fn exchange(&mut self, removed: &[Triple], added: &[Triple]) -> Result<(), StoreFault> {
+        if self.refuses_change(added) {
+            return Err(StoreFault::Memory);
+        }
         self.graph.exchange(removed, added)
     }
 
     fn cut(&mut self, len: u32) {
         self.graph.cut(len);
     }
-}
-
-// Shapes, data, a key as subject and predicate that may be looked up never, or once, and an edit with a new
-// term, with how many pairs it evaluates or that the key was looked up too often.
-const ROWS: &str = "\
-e:S sh:targetNode e:a , e:b ; sh:path e:p ; sh:minCount 1 .
-e:c e:q e:d .
-watch e:b e:p
-insert e:a e:p e:new . → 1
-
-e:S sh:targetNode e:a , e:b ; sh:path e:p ; sh:minCount 1 .
-e:c e:q e:d .
-watch e:a e:p
-insert e:a e:p e:new . → looked up
-
-e:S sh:targetSubjectsOf e:next ; sh:path ( e:next e:mark ) ; sh:minCount 1 .
-e:n0 e:next e:n1 . e:n1 e:next e:n2 . e:n2 e:next e:n0 .
-watch e:n1 e:next
-insert e:n1 e:mark 'new' . → 1
-
-e:S sh:targetSubjectsOf e:next ; sh:path ( e:next e:mark ) ; sh:minCount 1 .
-e:n0 e:next e:n1 . e:n1 e:next e:n2 . e:n2 e:next e:n0 .
-watch e:n2 e:next
-insert e:n1 e:mark 'new' . → 1
-
-e:S sh:targetSubjectsOf e:next ; sh:path ( e:next e:mark ) ; sh:minCount 1 .
-e:n0 e:next e:n1 . e:n1 e:next e:n2 . e:n2 e:next e:n0 .
-watch e:n0 e:next
-insert e:n1 e:mark 'new' . → looked up
-
-e:S sh:targetNode e:a , e:b ; sh:path e:q ; sh:node e:I . \
-e:I sh:property e:J . e:J sh:path e:p ; sh:minCount 1 .
-e:a e:q e:c . e:b e:q e:c .
-watch e:c e:p
-insert e:c e:p e:new . → looked up
-
-e:S sh:targetNode e:a , e:b ; sh:path e:q ; sh:node e:I . \
-e:I sh:property e:J . e:J sh:path e:p ; sh:minCount 1 .
-e:a e:q e:c . e:b e:q e:c .
-watch e:c e:p once
-insert e:c e:p e:new . → 2
-";
-
-fn id_of(alloc: Global, pool: &Pool, word: &str) -> Result<Id, RowFault> {
-    pool.find(&term(alloc, word)?).ok_or(RowFault::Unread)
-}
-
-/// Which key of a subject and a predicate is to be watched, if any, and how often it may be looked up:
-/// `watch SUBJECT PREDICATE`, and `once` where it may be looked up once.
-pub(super) fn watch_of(alloc: Global, pool: &Pool, text: &str) -> Result<(Watch, u64), RowFault> {
-    let Some(words) = text.strip_prefix("watch ") else {
-        return Ok((Watch::Nothing, 0));
-    };
-    let (words, most) = match words.strip_suffix(" once") {
-        Some(words) => (words, 1),
-        None => (words, 0),
-    };
-    let (s, p) = cut(words, " ")?;
-    let key = Key::Out(id_of(alloc, pool, s)?, id_of(alloc, pool, p)?);
-    Ok((Watch::Of(key), most))
-}
-
-#[test]
-fn no_pair_is_looked_up_beside_those_that_are_touched(rt: HostRuntime) -> Result<(), Fail> {
-    all_blocks_met(rt.alloc(), ROWS, goes_as_said)
 }

@@ -4,8 +4,10 @@ from pathlib import PurePosixPath
 from checks.sources import Finding, crates, files, lines, text
 
 LEAST, MOST = 5, 8
-# Crates of which nothing is proved but that they are safe: those of tests, and what only tests have.
+# Crates of which nothing is proved but that they are safe: those of tests, what only tests have, and examples
+# of use.
 ONLY_SAFE = {"row_tools", "ttl_triples"}
+ENDINGS = ("_rows", "_example")
 
 
 def of(crate):
@@ -18,7 +20,7 @@ def check_counts():
     """Crates with too few or too many wrong bodies."""
     for crate in crates():
         count, folder = len(of(crate)), f"crates/{crate}/must-fail"
-        if crate.endswith("_rows") or crate in ONLY_SAFE:
+        if crate.endswith(ENDINGS) or crate in ONLY_SAFE:
             if count:
                 yield Finding(folder, 1, f"nothing is proved of {crate}, so it has no wrong bodies")
         elif not LEAST <= count <= MOST:

@@ -4,13 +4,17 @@ that, in processor seconds and peak memory of the whole run, and how many times 
 one before it. Linear is 2. Run it at the top of the repository, where the program was built.
 
     bench/hostile.py [NAME ..]     measures these constructs, or all
-    bench/hostile.py --text NAME SIZE FOLDER     writes the shapes and the data of one
+    bench/hostile.py --text NAME SIZE FOLDER     writes the shapes, the data and any script of one
 """
 import os
 import sys
 import tempfile
 
 from load import run, PROGRAM
+
+# The texts of a construct; the script stands where one is given, behind the data, whose prefixes it has.
+SCRIPT = "script.txt"
+FILES = ("shapes.ttl", "data.ttl", SCRIPT)
 
 PREFIXES = """@prefix sh: <http://www.w3.org/ns/shacl#> .
 @prefix rdf: <http://www.w3.org/1999/02/22-rdf-syntax-ns#> .
@@ -83,6 +87,21 @@ def failing_hub(n):
     """n nodes that ask about one node, which has n values and fails"""
     shapes, data = hub(n)
     return shapes.replace("sh:nodeKind sh:IRI", f"sh:nodeKind sh:IRI ; sh:minCount {n + 1}"), data
+
+
+def hub_under_a_script(n):
+    """n nodes that ask about one node, which asks about n values in its turn, under an empty script"""
+    shapes = "e:S sh:targetSubjectsOf e:to ; sh:path e:to ; sh:node e:T .\n"
+    shapes += "e:T sh:property [ sh:path e:p ; sh:node e:U ] .\n"
+    shapes += "e:U sh:property [ sh:path e:q ; sh:minCount 1 ] .\n"
+    data = [f"e:n{at} e:to e:hub . e:hub e:p e:v{at} . e:v{at} e:q {at} .\n" for at in range(n)]
+    return shapes, "".join(data), ""
+
+
+def edited_hub(n):
+    """n nodes that ask about one node, which asks about n values, and 100 edits of these, which touch all"""
+    shapes, data, _ = hub_under_a_script(n)
+    return shapes, data, "".join(f"insert e:v{at} e:q 'more' .\n" for at in range(100))
 
 
 def chain_of_nodes(n):
@@ -186,6 +205,8 @@ CONSTRUCTS = {
         (many_class_parameters, 25_000),
         (hub, 5_000),
         (failing_hub, 5_000),
+        (hub_under_a_script, 5_000),
+        (edited_hub, 5_000),
         (chain_of_nodes, 10_000),
         (failing_diamonds, 5_000),
         (one_shape_many_times, 250_000),
@@ -201,11 +222,12 @@ CONSTRUCTS = {
 
 
 def write(folder, construct, size):
-    """The paths of the two texts, and their bytes."""
-    paths = [os.path.join(folder, name) for name in ("shapes.ttl", "data.ttl")]
-    for path, text in zip(paths, construct(size)):
-        with open(path, "w", encoding="utf-8") as out:
-            out.write(PREFIXES + text)
+    """The paths of the texts, and their bytes."""
+    paths = []
+    for name, text in zip(FILES, construct(size)):
+        paths.append(os.path.join(folder, name))
+        with open(paths[-1], "w", encoding="utf-8") as out:
+            out.write(text if name == SCRIPT else PREFIXES + text)
     return paths, sum(os.path.getsize(path) for path in paths)
 
 

@@ -1,8 +1,11 @@
--- Pairs of a shape and a node: when two are the same, and what one feeds a hasher.
+-- Pairs of a shape and a node: when two are the same, what one feeds a hasher, and the key of what was found
+-- of one.
 use Rattle.std.specs.Prelude.{◌≡◌, Bool, true, ◌&&◌, ◌==◌, ◌++◌}
 use Rattle.std.specs.Cmp.{IsEquivalence, on_equiv, and_equiv, nat_eq_equiv, first_so, second_so}
 use Rattle.std.specs.Hash as fed
 use Rattle.std.proofs.lemmas.Bool.{eqb-true}
+use Rattle.graph_view.specs.declared.key.Key.{Key}
+use Rattle.graph_view.specs.declared.key.Key.TheVariants.{Answer}
 use Rattle.comp_core.specs.declared.pair.Pair.{Pair}
 
 abbrev pub same_pair : Pair → Pair → Bool
@@ -10,6 +13,9 @@ same_pair a b = (a.shape == b.shape) && (a.node == b.node)
 
 abbrev pub hashed_pair : Pair → fed.HashWrites
 hashed_pair p = fed.u32 p.shape ++ fed.u32 p.node
+
+abbrev pub answer_key : Pair → Key
+answer_key p = Answer p.shape p.node
 
 -- ---- laws that the equality of pairs cites
 

@@ -32,7 +32,7 @@ pub trait Component<'p> {
     /// Its results at value nodes of a graph, by the results of the pairs that it asks.
     ghost hits_of: { Self → Graph → (Pair → List ResultRow) → At → List ℕ → List ResultRow };
 
-    /// What it reads of the graph for them, by what the pairs that it asks were read from.
+    /// What it reads for them, by what it is told that the answers of the pairs that it asks were read from.
     ghost reads_of: { Self → Graph → (Pair → List Key) → At → List ℕ → List Key };
 
     /// Appends the pairs that it asks: by value node, and for each in the order of the shapes that it names.

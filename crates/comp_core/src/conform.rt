@@ -10,7 +10,7 @@ use shx_term::Memory;
 
 /// Who tells what was found of nodes at other shapes. What it tells was found before it is asked.
 pub trait Conform {
-    /// What notes the keys that an answer was read from.
+    /// What takes the notes of who asks.
     type Noted: Notes;
 
     /// Which pairs are held.
@@ -19,7 +19,7 @@ pub trait Conform {
     /// The results of a pair.
     ghost rows_of: { Self → Pair → List ResultRow };
 
-    /// By pair, what its results were read from, as far as that is noted.
+    /// By pair, what is noted where its results are told: what they were read from, or what stands for that.
     ghost tells: { Self → (Pair → List Key) → Type 0 };
 
     /// Whether the pair has no results: the node conforms to the shape (SHACL, section 3.5).

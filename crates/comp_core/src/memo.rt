@@ -8,7 +8,7 @@ use crate::{Pair, ResultRow};
 use graph_view::Notes;
 use shx_term::Memory;
 
-/// The results of a shape at a node, and what they were read from.
+/// The results of a shape at a node, and what was read for it.
 #[derive(Drop)]
 pub struct PairAnswer<N: Notes> {
     pub rows: Vec<ResultRow>,
@@ -24,7 +24,7 @@ pub struct Recalled<'a, N: Notes> {
 
 /// What remembers the answers of pairs, so that each is found once.
 pub trait Memo {
-    /// What notes the keys that an answer was read from.
+    /// What notes the keys that were read for an answer.
     type Noted: Notes;
 
     /// What is remembered of a pair.

@@ -1,3 +1,7 @@
+ghost use Rattle.std.specs.Prelude.{◌≡◌};
+ghost use Rattle.comp_core.specs.Pairs.{answer_key};
+
+use graph_view::Key;
 use shx_term::Id;
 use std::hash::{Hash, Hasher};
 
@@ -16,6 +20,15 @@ pub struct Pair {
 pub struct At {
     pub focus: Id,
     pub shape: ShapeNo,
+}
+
+impl Pair {
+    /// The key of what was found of the pair.
+    pub fn answer_key(&self) -> Key
+        ensures { result ≡ answer_key self.now }
+    {
+        Key::Answer(self.shape, self.node)
+    }
 }
 
 impl PartialEq for Pair {

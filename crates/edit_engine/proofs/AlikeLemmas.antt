@@ -18,8 +18,9 @@ use Rattle.comp_core.specs.declared.pair.Pair.{Pair}
 use Rattle.comp_core.specs.Pairs.{same_pair, same_pair_equiv, same_pair_exact}
 use Rattle.shape_eval.specs.declared.shape.PlanShape.{PlanShape}
 use Rattle.shape_eval.specs.Laws.{IsSamePair, IsSameTarget, NestedDependOnReads, ResultsDependOnReads}
-use Rattle.shape_eval.specs.Laws.{TargetsDependOnReads}
+use Rattle.shape_eval.specs.Laws.{OwnReadsDependOnThemselves, TargetsDependOnReads}
 use Rattle.shape_eval.specs.Nested.{nested_in, nested_pairs}
+use Rattle.shape_eval.specs.Own.{own_reads}
 use Rattle.shape_eval.specs.Plan.{Planned}
 use Rattle.shape_eval.specs.Recalled.{AreRecalled, IsRecalled}
 use Rattle.shape_eval.specs.Report.{at_shape, pairs, report}
@@ -100,15 +101,22 @@ module _ (plan : Planned) (g h : Graph) (alike : AreAlike plan g h) where
       (λ p c. (same_results plan.targeted p c).rows)
       ∙ ap (flat_map (results shapes h)) (pairs_alike plan.targeted)
 
-  AreRecorded-alike : (ns : List ℕ) (state : Recorded) → AreRecorded shapes ns g state
-      → AreRecorded shapes ns h state
-  AreRecorded-alike ns state all = record {
+  -- for the pair itself the same is read
+  pub same_own : OwnReadsDependOnThemselves → (p : Pair) → p.node < length g.terms
+      → SameMembers (own_reads shapes g p) (own_reads shapes h p)
+  same_own own_law p inside =
+      own_law shapes alike.before.refers g h known (AllKnown-valid h alike.after.valid)
+      alike.before.known p inside (alike.agree (own_reads shapes g p))
+
+  AreRecorded-alike : OwnReadsDependOnThemselves → (ns : List ℕ) (state : Recorded)
+      → AreRecorded shapes ns g state → AreRecorded shapes ns h state
+  AreRecorded-alike own_law ns state all = record {
     targets = λ n c. Holds-same state (OfTarget n) (target_reads shapes g n) (target_reads shapes h n)
         (same_target n).reads (all.targets n c);
     pairs = λ p c.
         let held = held_before ns p c in
-        Holds-same state (OfPair p) (pair_reads shapes g p) (pair_reads shapes h p)
-        (same_results ns p held).reads (all.pairs p held);
+        Holds-same state (OfPair p) (own_reads shapes g p) (own_reads shapes h p)
+        (same_own own_law p (node_before ns p held)) (all.pairs p held);
     no_target = all.no_target;
     no_pair = λ p none. all.no_pair p (λ c. none (subst (λ ps. Contains ps p) (pairs_alike ns) c));
   }
@@ -145,47 +153,52 @@ module _ (plan : Planned) (g h : Graph) (alike : AreAlike plan g h) where
     pub nested_alike : nested_pairs plan g ≡ nested_pairs plan h
     nested_alike = nested_of plan.targeted
 
-    -- what is remembered of one graph is remembered of the other
-    remembers_alike : (ns : List ℕ) (recalled : Pair → Option Answer)
-        → RemembersNested shapes g (pairs_of shapes ns g) recalled
-        → RemembersNested shapes h (pairs_of shapes ns h) recalled
-    remembers_alike ns recalled is = record {
-      recall = record {
-        right = record {
-          each = λ p a e.
-              let right = is.recall.right.each p a e in
-              let same = same_pair_at p right.node in
-              record {
-                rows = right.rows ∙ same.rows;
-                reads = SameMembers-then right.reads same.reads;
-                node = node_after p right.node;
-              };
+    module _ (own_law : OwnReadsDependOnThemselves) where
+      -- what is remembered of one graph is remembered of the other
+      remembers_alike : (ns : List ℕ) (recalled : Pair → Option Answer)
+          → RemembersNested shapes g (pairs_of shapes ns g) recalled
+          → RemembersNested shapes h (pairs_of shapes ns h) recalled
+      remembers_alike ns recalled is = record {
+        recall = record {
+          right = record {
+            each = λ p a e.
+                let right = is.recall.right.each p a e in
+                record {
+                  rows = right.rows ∙ (same_pair_at p right.node).rows;
+                  reads = SameMembers-then right.reads (same_own own_law p right.node);
+                  node = node_after p right.node;
+                };
+          };
+          closed = record {
+            each = λ p there.
+                let a = some_answer (recalled p) there in
+                let same = same_nested p (is.recall.right.each p a.0 a.1).node in
+                subst (AreRecalled recalled) same (is.recall.closed.each p there);
+          };
         };
-        closed = record {
-          each = λ p there.
-              let a = some_answer (recalled p) there in
-              let same = same_nested p (is.recall.right.each p a.0 a.1).node in
-              subst (AreRecalled recalled) same (is.recall.closed.each p there);
-        };
-      };
-      nested = subst (AreRecalled recalled) (nested_of ns) is.nested;
-    }
-      where
-        node_after : (p : Pair) → p.node < length g.terms → p.node < length h.terms
-        node_after p inside =
-            omega (arith, ap length (alike.agree []).terms, length-append g.terms (alike.agree []).more)
+        nested = subst (AreRecalled recalled) (nested_of ns) is.nested;
+      }
+        where
+          node_after : (p : Pair) → p.node < length g.terms → p.node < length h.terms
+          node_after p inside =
+              omega (
+                arith,
+                ap length (alike.agree []).terms,
+                length-append g.terms (alike.agree []).more,
+              )
 
-    -- what is kept of one graph is kept of the other
-    pub IsKeptOf-alike : (ns : List ℕ) (kept : Kept) → IsKeptOf shapes ns g kept → IsKeptOf shapes ns h kept
-    IsKeptOf-alike ns kept all = record {
-      records = AreRecorded-alike ns kept.records all.records;
-      results = AreResults-alike ns kept.results all.results;
-      count = all.count ∙ ap length (pairs_alike ns);
-      places = all.places;
-      idle = all.idle;
-      recall = remembers_alike ns (kept_of kept.recall) all.recall;
-      settled = all.settled;
-    }
+      -- what is kept of one graph is kept of the other
+      pub IsKeptOf-alike : (ns : List ℕ) (kept : Kept) → IsKeptOf shapes ns g kept
+          → IsKeptOf shapes ns h kept
+      IsKeptOf-alike ns kept all = record {
+        records = AreRecorded-alike own_law ns kept.records all.records;
+        results = AreResults-alike ns kept.results all.results;
+        count = all.count ∙ ap length (pairs_alike ns);
+        places = all.places;
+        idle = all.idle;
+        recall = remembers_alike ns (kept_of kept.recall) all.recall;
+        settled = all.settled;
+      }
 
   -- and a change touches the same pairs
   module _ (changed : List Triple) where

@@ -34,13 +34,14 @@ use Rattle.shape_eval.proofs.TargetLemmas.{TriplesHeld}
 use Rattle.read_records.specs.declared.reader.Reader.{Reader}
 use Rattle.read_records.specs.declared.reader.Reader.TheVariants.{OfPair, OfTarget}
 use Rattle.read_records.specs.Reader.{reader_cmp}
-use Rattle.read_records.specs.Records.{IsTouchedByAny, Recorded, reads_of}
+use Rattle.read_records.specs.Recall.{RecallState}
+use Rattle.read_records.specs.Records.{IsReachedBy, Recorded, reads_of}
 use Rattle.edit_engine.specs.declared.renewal.Evaluated.{Evaluated}
 use Rattle.edit_engine.specs.declared.renewal.Renewal.{Renewal}
 use Rattle.edit_engine.specs.declared.renewal.TargetReads.{TargetReads}
 use Rattle.edit_engine.specs.MayBeAsked.{MayBeAsked}
 use Rattle.edit_engine.specs.Pairs.{IsKnownPair, pairs_of}
-use Rattle.edit_engine.specs.Recorded.{AreRecorded, Holds}
+use Rattle.edit_engine.specs.Recorded.{AreRecorded}
 use Rattle.edit_engine.specs.Renewal.{IsDifference, IsRenewal, IsRight, pairs_evaluated}
 use Rattle.edit_engine.specs.Renewal.{shapes_renewed}
 use Rattle.edit_engine.specs.Touched.{is_among_pairs, is_any_touched, touched_pairs}
@@ -48,7 +49,9 @@ use Rattle.edit_engine.specs.inner.Parts.{Evaluates, RenewsReads, RenewsTargets}
 use Rattle.edit_engine.specs.inner.Parts.{SameTargets}
 use Rattle.edit_engine.specs.inner.Parts.{pairs_staying, reader_pairs, targets_among}
 use Rattle.edit_engine.proofs.KnownLemmas.{pair_known}
+use Rattle.edit_engine.proofs.KnownPairLemmas.{node_known}
 use Rattle.edit_engine.proofs.PairLemmas.{among_pairs, pair_or_not}
+use Rattle.edit_engine.proofs.ReachedReaderLemmas.{Reaches, pair_reached, reached_record, target_reached}
 use Rattle.edit_engine.proofs.RenewedPairLemmas.{AreApart-difference, AreApart-from, AreApart-of_all}
 use Rattle.edit_engine.proofs.RenewedPairLemmas.{among_or_not}
 use Rattle.edit_engine.proofs.ReaderLemmas.{Contains-pairs_among, Contains-targets_among, pairs_distinct}
@@ -57,37 +60,6 @@ use Rattle.edit_engine.proofs.TestLemmas.{or_cases, or_left, or_right}
 use Rattle.edit_engine.proofs.TouchLemmas.{HasTouched, touched_test}
 
 -- ---- touched keys
-
-some_is : {X : Type 0} (x y : X) → Some x ≡ Some y → x ≡ y
-some_is x y e = cc
-
--- whoever has these keys recorded is touched where they are
-reader_touched : {state : Recorded} {changed : List Triple} (r : Reader) (keys : List Key)
-    → Holds state r keys → IsTouchedByAny state changed r ↔ (is_any_touched changed keys ≡ true)
-reader_touched {state} {changed} r keys holds = (
-  λ h.
-      let same = some_is h.touched.reads holds.reads (sym h.touched.recorded ∙ holds.recorded) in
-      let key = h.touched.touched in
-      (touched_test changed keys).1 (record {
-        triple = h.triple;
-        changes = h.changes;
-        touched = (
-          key.0,
-          ((holds.same.each key.0).0 (subst (λ ks. Contains ks key.0) same key.1.0), key.1.1),
-        );
-      }),
-  λ e.
-      let h = (touched_test changed keys).0 e in
-      record {
-        triple = h.triple;
-        changes = h.changes;
-        touched = record {
-          reads = holds.reads;
-          recorded = holds.recorded;
-          touched = (h.touched.0, ((holds.same.each h.touched.0).1 h.touched.1.0, h.touched.1.1));
-        };
-      },
-)
 
 -- keys that no triple touches are beside the change
 untouched : (added removed : List Triple) (keys : List Key)
@@ -108,7 +80,10 @@ pub record IsChange (plan : Planned) (g h : Graph) (added removed : List Triple)
     (readers : List Reader) : Type 0 where
   pub asked : MayBeAsked plan g
   pub recorded : AreRecorded plan.shapes plan.targeted g state
-  pub touched : Lists reader_cmp (IsTouchedByAny state (added ++ removed)) readers
+  pub first : RecallState
+  pub answers : List Pair
+  pub reaches : Reaches plan.shapes g (pairs plan g) (added ++ removed) first answers
+  pub touched : Lists reader_cmp (IsReachedBy state (added ++ removed) answers) readers
   pub beside : Agree g h (IsBeside added removed)
   pub valid : IsValidView h
   pub terms : h.terms ≡ g.terms
@@ -123,17 +98,21 @@ PatchedIsValid = (g : Graph) (added removed : List Triple) → IsValidView g
     → All (IsValidTriple g.terms) added → IsValidView (patched g added removed)
 
 pub IsChange-patched : {plan : Planned} {g h : Graph} {added removed : List Triple} {state : Recorded}
-    {readers found : List Reader} → BesideAgrees → PatchedIsValid → MayBeAsked plan g
-    → AreRecorded plan.shapes plan.targeted g state → All (IsValidTriple g.terms) added
-    → h ≡ patched g added removed → readers ≡ found
-    → Lists reader_cmp (IsTouchedByAny state (added ++ removed)) found
+    {first : RecallState} {answers : List Pair} {readers found : List Reader} → BesideAgrees
+    → PatchedIsValid → MayBeAsked plan g → AreRecorded plan.shapes plan.targeted g state
+    → All (IsValidTriple g.terms) added → h ≡ patched g added removed
+    → Reaches plan.shapes g (pairs plan g) (added ++ removed) first answers → readers ≡ found
+    → Lists reader_cmp (IsReachedBy state (added ++ removed) answers) found
     → IsChange plan g h added removed state readers
-IsChange-patched {plan} {g} {h} {added} {removed} {state} {readers} {found} beside valid asked recorded
-    valid_added is same touched =
+IsChange-patched {plan} {g} {h} {added} {removed} {state} {first} {answers} {readers} {found} beside valid
+    asked recorded valid_added is reaches same touched =
     subst (IsChange plan g h added removed state) (sym same)
     (subst (λ (k : Graph). IsChange plan g k added removed state found) (sym is) (record {
       asked = asked;
       recorded = recorded;
+      first = first;
+      answers = answers;
+      reaches = reaches;
       touched = touched;
       beside = beside g added removed;
       valid = valid g added removed asked.valid valid_added;
@@ -145,40 +124,49 @@ module _ {plan : Planned} {g h : Graph} {added removed : List Triple} {state : R
   is_some : {X : Type 0} (o : Option X) (x : X) → o ≡ Some x → o ≡ None → ⊥
   is_some o x e n = cc
 
+  -- of whoever has no record nothing is touched
+  no_reader : (r : Reader) → reads_of state r ≡ None
+      → IsReachedBy state (added ++ removed) change.answers r → ⊥
+  no_reader r none h =
+      let has = reached_record state (added ++ removed) change.answers r h in
+      is_some (reads_of state r) has.0 has.1 none
+
   -- the targets among the readers are those whose reads are touched
   target_touched : (n : ℕ) → Contains (targets_among readers) n
       ↔ (Contains plan.targeted n × (is_any_touched (added ++ removed) (target_reads plan.shapes g n) ≡ true))
   target_touched n =
-      let keys = target_reads plan.shapes g n in
       let among = Contains-targets_among readers n in
-      let own = change.touched.each (OfTarget n) in (
+      let own = change.touched.each (OfTarget n) in
+      let changed = added ++ removed in
+      let reached = λ (t : Contains plan.targeted n).
+      target_reached state changed change.answers plan.shapes g n (change.recorded.targets n t) in (
         λ c.
             let h = own.0 (among.0 c) in
             elim (among_or_not n plan.targeted) [
-              | inl t ↦ (t, (reader_touched (OfTarget n) keys (change.recorded.targets n t)).0 h)
+              | inl t ↦ (t, (reached t).0 h)
               | inr no_target ↦
-                  absurd (is_some (reads_of state (OfTarget n)) h.touched.reads h.touched.recorded
-                  (change.recorded.no_target n no_target))
+                  absurd (no_reader (OfTarget n) (change.recorded.no_target n no_target) h)
             ],
-        λ k. among.1 (own.1 ((reader_touched (OfTarget n) keys (change.recorded.targets n k.0)).1 k.1)),
+        λ k. among.1 (own.1 ((reached k.0).1 k.1)),
       )
 
   -- and so are the pairs
   pair_touched : (p : Pair) → Contains (flat_map reader_pairs readers) p
       ↔ (Contains (pairs plan g) p × (is_any_touched (added ++ removed) (pair_reads plan.shapes g p) ≡ true))
   pair_touched p =
-      let keys = pair_reads plan.shapes g p in
       let among = Contains-pairs_among readers p in
-      let own = change.touched.each (OfPair p) in (
+      let own = change.touched.each (OfPair p) in
+      let reached = λ (t : Contains (pairs plan g) p).
+      pair_reached change.reaches state p
+      (node_known plan.shapes g (AllKnown-valid g change.asked.valid) change.asked.known plan.targeted p t)
+      (change.recorded.pairs p t) t in (
         λ c.
             let h = own.0 (among.0 c) in
             elim (pair_or_not (pairs plan g) p) [
-              | inl t ↦ (t, (reader_touched (OfPair p) keys (change.recorded.pairs p t)).0 h)
-              | inr no_pair ↦
-                  absurd (is_some (reads_of state (OfPair p)) h.touched.reads h.touched.recorded
-                  (change.recorded.no_pair p no_pair))
+              | inl t ↦ (t, (reached t).0 h)
+              | inr no_pair ↦ absurd (no_reader (OfPair p) (change.recorded.no_pair p no_pair) h)
             ],
-        λ k. among.1 (own.1 ((reader_touched (OfPair p) keys (change.recorded.pairs p k.0)).1 k.1)),
+        λ k. among.1 (own.1 ((reached k.0).1 k.1)),
       )
 
   -- ---- what is asked of the calls

@@ -26,7 +26,9 @@ use Rattle.graph_view.proofs.ValidLemmas.{AllKnown-valid, IsValidView-exchanged}
 use Rattle.comp_core.specs.declared.pair.Pair.{Pair}
 use Rattle.comp_core.specs.Pairs.{same_pair, same_pair_equiv, same_pair_exact}
 use Rattle.shape_eval.specs.declared.shape.PlanShape.{PlanShape}
-use Rattle.shape_eval.specs.Laws.{NestedDependOnReads, ResultsDependOnReads, TargetsDependOnReads}
+use Rattle.shape_eval.specs.Laws.{NestedDependOnReads, OwnReadsDependOnThemselves, ReadsAreOwnOrBelow}
+use Rattle.shape_eval.specs.Laws.{ResultsDependOnReads, TargetsDependOnReads}
+use Rattle.shape_eval.specs.Own.{own_reads}
 use Rattle.shape_eval.specs.Plan.{IsKnownPlan, Planned}
 use Rattle.shape_eval.specs.Report.{pairs}
 use Rattle.shape_eval.specs.Results.{pair_reads}
@@ -47,9 +49,11 @@ use Rattle.edit_engine.proofs.AlikeLemmas.{IsKeptOf-alike}
 use Rattle.edit_engine.proofs.KnownPairLemmas.{pair_known}
 use Rattle.edit_engine.proofs.PairLemmas.{length-differences, length-same_members, pair_or_not}
 use Rattle.edit_engine.proofs.PairLemmas.{pairs_distinct}
+use Rattle.edit_engine.proofs.ReachedLemmas.{own_touched}
 use Rattle.edit_engine.proofs.RenewLemmas.{AreKept, IsKeptOf-renewed, MayBeStaged-renews, Renews}
 use Rattle.edit_engine.proofs.StagedLemmas.{SameRecords-then, SameRows-then}
 use Rattle.edit_engine.proofs.TestLemmas.{any_to, or_left, or_right}
+use Rattle.edit_engine.proofs.TouchLemmas.{touched_test}
 
 -- keys that no triple touches are beside the change
 untouched : (added removed : List Triple) (keys : List Key)
@@ -65,9 +69,16 @@ untouched added removed keys none key c =
 
 -- ---- a renewal
 
+-- nothing but what is read for a pair matters to its results, nor anything but what is read for it itself to
+-- what that is; and the parts of the graph among the latter are among the former
+pub record ReadsDepend : Type 0 where
+  pub results : ResultsDependOnReads
+  pub parts : ReadsAreOwnOrBelow
+  pub own : OwnReadsDependOnThemselves
+
 module _ (plan : Planned) (g h : Graph) (added removed : List Triple) (renewal : Renewal)
     (asked : MayBeAsked plan g) (known : AllKnown h) (terms : h.terms ≡ g.terms)
-    (agree : Agree g h (IsBeside added removed)) (law : ResultsDependOnReads)
+    (agree : Agree g h (IsBeside added removed)) (laws : ReadsDepend)
     (is : IsRenewal plan g h (added ++ removed) renewal) where
   abbrev found_pairs : List Pair
   found_pairs = pairs_evaluated renewal.evaluated.items
@@ -111,11 +122,21 @@ module _ (plan : Planned) (g h : Graph) (added removed : List Triple) (renewal :
         let was = was_pair p c free in
         let known_g = AllKnown-valid g asked.valid in
         let node = (pair_known plan.shapes g known_g asked.known plan.targeted asked.within p was).node in
-        let beside = untouched added removed (pair_reads plan.shapes g p)
-        (λ e. passes p c free (or_right _ _ e)) in (
+        let keys = pair_reads plan.shapes g p in
+        let own = own_reads plan.shapes g p in
+        let none = λ (e : is_any_touched (added ++ removed) keys ≡ true). passes p c free (or_right _ _ e) in
+        let own_none = λ (e : is_any_touched (added ++ removed) own ≡ true).
+        none ((touched_test (added ++ removed) keys).1
+        (own_touched laws.parts plan.shapes asked.refers g known_g asked.known (added ++ removed) p node
+        ((touched_test (added ++ removed) own).0 e))) in
+        let same = laws.results plan.shapes asked.refers g h known_g known asked.known p node
+        (Agree-fewer (Contains keys) (untouched added removed keys none) agree) in (
           was,
-          law plan.shapes asked.refers g h known_g known asked.known p node
-              (Agree-fewer (Contains (pair_reads plan.shapes g p)) beside agree),
+          record {
+            rows = same.rows;
+            reads = laws.own plan.shapes asked.refers g h known_g known asked.known p node
+                (Agree-fewer (Contains own) (untouched added removed own own_none) agree);
+          },
         );
     count = length-differences (pairs plan g) (pairs plan h) renewal.leaving.keys renewal.entering.items
         (pairs_distinct plan.shapes g plan.targeted asked.once)
@@ -159,21 +180,21 @@ length-evaluated plan g h changed renewal asked is =
     is.pairs_once once is.pairs
 
 -- what is kept of a graph is kept of one that holds the same triples
-IsKeptOf-same : ResultsDependOnReads → TargetsDependOnReads → NestedDependOnReads → (plan : Planned)
+IsKeptOf-same : ReadsDepend → TargetsDependOnReads → NestedDependOnReads → (plan : Planned)
     (g h : Graph) → MayBeAsked plan g → MayBeAsked plan h → h.terms ≡ g.terms
     → SameMembers g.triples h.triples → (kept : Kept) → IsKeptOf plan.shapes plan.targeted g kept
     → IsKeptOf plan.shapes plan.targeted h kept
-IsKeptOf-same results_law targets_law nested_law plan g h asked asked' terms same kept is =
+IsKeptOf-same laws targets_law nested_law plan g h asked asked' terms same kept is =
     IsKeptOf-alike plan g h (record {
       before = asked;
       after = asked';
       agree = λ keys. Agree-on_terms terms (AgreeOn-same same);
-      results_law = results_law;
+      results_law = laws.results;
       targets_law = targets_law;
-    }) nested_law plan.targeted kept is
+    }) nested_law laws.own plan.targeted kept is
 
 -- the changed graph may hold its triples in another order than the patched one
-pub IsKeptOf-made : ResultsDependOnReads → TargetsDependOnReads → NestedDependOnReads
+pub IsKeptOf-made : ReadsDepend → TargetsDependOnReads → NestedDependOnReads
     → (plan : Planned) (g h : Graph) (added removed : List Triple) (renewal : Renewal) → MayBeAsked plan g
     → All (IsValidTriple g.terms) added
     → IsRenewal plan g (patched g added removed) (added ++ removed) renewal → h.terms ≡ g.terms
@@ -185,32 +206,32 @@ pub IsKeptOf-made : ResultsDependOnReads → TargetsDependOnReads → NestedDepe
     (pairs plan (patched g added removed)) (recalled recall) → KeepsRecalled recall new.recall
     → new.recall.staged ≡ []
     → IsKeptOf plan.shapes plan.targeted h new
-IsKeptOf-made results_law targets_law nested_law plan g h added removed renewal asked fit is terms same once
+IsKeptOf-made laws targets_law nested_law plan g h added removed renewal asked fit is terms same once
     old mid new kept staged commits rows places count idle recall remembers keeps settled =
     let patch = patched g added removed in
     let asked_patch =
     MayBeAsked-exchanged plan g patch added removed asked fit refl (SameMembers-itself patch.triples) in
     let asked_h = MayBeAsked-exchanged plan g h added removed asked fit terms same in
     let renews = Renews-changed plan g patch added removed renewal asked
-    (AllKnown-valid patch asked_patch.valid) refl (Agree-patched g added removed) results_law is in
+    (AllKnown-valid patch asked_patch.valid) refl (Agree-patched g added removed) laws is in
     let remembers' = subst (RemembersNested plan.shapes patch (pairs plan patch))
     (λ i p. sym (keeps.each p) i) remembers in
     let kept_patch = IsKeptOf-renewed plan.shapes plan.targeted plan.targeted g patch renewal renews old mid
     new kept staged commits rows once places count idle remembers' settled in
-    IsKeptOf-same results_law targets_law nested_law plan patch h asked_patch asked_h terms
+    IsKeptOf-same laws targets_law nested_law plan patch h asked_patch asked_h terms
     (SameMembers-sym same) new kept_patch
 
 -- what is staged for a change may be staged
-pub MayBeStaged-changed : ResultsDependOnReads → (plan : Planned) (g : Graph) (added removed : List Triple)
+pub MayBeStaged-changed : ReadsDepend → (plan : Planned) (g : Graph) (added removed : List Triple)
     (renewal : Renewal) → MayBeAsked plan g → All (IsValidTriple g.terms) added
     → IsRenewal plan g (patched g added removed) (added ++ removed) renewal → (kept : Kept)
     → AreKept plan.shapes plan.targeted g kept → MayBeStaged g.terms kept renewal
-MayBeStaged-changed results_law plan g added removed renewal asked fit is kept holds =
+MayBeStaged-changed laws plan g added removed renewal asked fit is kept holds =
     let patch = patched g added removed in
     let known = AllKnown-valid patch (IsValidView-patched g added removed asked.valid fit) in
     MayBeStaged-renews plan.shapes plan.targeted plan.targeted g patch renewal
     (Renews-changed plan g patch added removed renewal asked known refl (Agree-patched g added removed)
-    results_law is)
+    laws is)
     kept (AllKnown-valid g asked.valid) known asked.known asked.within asked.within holds
 
 -- what is refused leaves all as it was

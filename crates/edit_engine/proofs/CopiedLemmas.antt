@@ -1,19 +1,21 @@
 -- What is remembered under an old plan, and was copied of alike shapes: it is right under the new one, and
 -- closed.
-use Rattle.std.specs.Prelude.{◌≡◌, ◌<◌, List, Option, Some, Contains, is_some, length}
+use Rattle.std.specs.Prelude.{◌≡◌, ◌<◌, List, Option, Some, Contains, is_some, length, map}
 use Rattle.std.proofs.Common.{refl, sym, ap, ◌∙◌, subst}
 use Rattle.shx_term.specs.Members.{SameMembers}
 use Rattle.shx_term.proofs.MemberLemmas.{Contains-from_map}
-use Rattle.shx_term.proofs.SetLemmas.{SameMembers-then}
+use Rattle.shx_term.proofs.SetLemmas.{SameMembers-map, SameMembers-sym, SameMembers-then}
+use Rattle.graph_view.specs.declared.key.Key.{Key}
 use Rattle.graph_view.specs.Graph.{Graph}
 use Rattle.comp_core.specs.declared.pair.Pair.{Pair}
 use Rattle.shape_eval.specs.Nested.{nested_in}
+use Rattle.shape_eval.specs.Own.{own_reads}
 use Rattle.shape_eval.specs.Plan.{IsNumbered}
 use Rattle.shape_eval.specs.Recalled.{AreRecalled, IsRecallOf, IsRecalled, IsRightOf}
-use Rattle.shape_eval.specs.Results.{pair_reads, results}
+use Rattle.shape_eval.specs.Results.{results}
 use Rattle.plan_swap.specs.declared.swap.Swap.{Swap}
-use Rattle.plan_swap.specs.Renumbered.{AlikeShapesFindAlike, AlikeShapesNestAlike, rows_renumbered}
-use Rattle.plan_swap.specs.Renumbered.{pair_renumbered}
+use Rattle.plan_swap.specs.Renumbered.{AlikeShapesFindAlike, AlikeShapesNestAlike, key_renumbered}
+use Rattle.plan_swap.specs.Renumbered.{pair_renumbered, rows_renumbered}
 use Rattle.plan_swap.specs.Swap.{IsSwap, number_after, pair_after, plan_after, plan_before}
 use Rattle.read_records.specs.Recall.{Answer}
 use Rattle.edit_engine.specs.Remembered.{AreAllRecalled}
@@ -56,11 +58,20 @@ module _ (swap : Swap) (is : IsSwap swap) (numbered : IsNumbered (plan_before sw
         ∙ (law (plan_before swap).shapes (plan_after swap).shapes numbered renumbered g q.shape p.shape
         alike.shapes q.node).rows
 
-    pub reads_after : pair_reads (plan_after swap).shapes g p ≡ pair_reads (plan_before swap).shapes g q
-    reads_after =
-        ap (pair_reads (plan_after swap).shapes g) (at_same_node alike)
-        ∙ (law (plan_before swap).shapes (plan_after swap).shapes numbered renumbered g q.shape p.shape
-        alike.shapes q.node).reads
+    -- and for it itself the same is read, under new numbers
+    pub reads_after : (reads found : List Key)
+        → SameMembers found (map (key_renumbered (number_after swap)) reads)
+        → SameMembers reads (own_reads (plan_before swap).shapes g q)
+        → SameMembers found (own_reads (plan_after swap).shapes g p)
+    reads_after reads found copy were =
+        let kept = key_renumbered (number_after swap) in
+        let own = own_reads (plan_before swap).shapes g q in
+        let finds = law (plan_before swap).shapes (plan_after swap).shapes numbered renumbered g q.shape
+        p.shape alike.shapes q.node in
+        let same = subst (λ (r : Pair). SameMembers (own_reads (plan_after swap).shapes g r) (map kept own))
+        (sym (at_same_node alike)) finds.own in
+        SameMembers-then copy
+        (SameMembers-then (SameMembers-map kept reads own were) (SameMembers-sym same))
 
   -- ---- nested in it are alike pairs
 
@@ -114,8 +125,7 @@ module _ (swap : Swap) (is : IsSwap swap) (numbered : IsNumbered (plan_before sw
     right_copy law q p alike before after copy right = record {
       rows = copy.rows ∙ ap (rows_renumbered (number_after swap)) right.rows
           ∙ sym (results_after law q p alike);
-      reads = SameMembers-then copy.reads
-          (subst (SameMembers before.reads) (sym (reads_after law q p alike)) right.reads);
+      reads = reads_after law q p alike before.reads after.reads copy.reads right.reads;
       node = subst (λ id. id < length g.terms) (sym alike.node) right.node;
     }
 

@@ -11,7 +11,8 @@ use Rattle.graph_view.specs.Graph.{Graph}
 use Rattle.graph_view.specs.Valid.{IsValidView}
 use Rattle.graph_view.proofs.AgreeLemmas.{AgreeOn-same}
 use Rattle.shape_eval.specs.declared.shape.PlanShape.{PlanShape}
-use Rattle.shape_eval.specs.Laws.{NestedDependOnReads, ResultsDependOnReads, TargetsDependOnReads}
+use Rattle.shape_eval.specs.Laws.{NestedDependOnReads, OwnReadsDependOnThemselves, ResultsDependOnReads}
+use Rattle.shape_eval.specs.Laws.{TargetsDependOnReads}
 use Rattle.shape_eval.specs.Constraint.{numbers_stated}
 use Rattle.shape_eval.specs.Plan.{HasTermsOf, IsKnownPlan, Planned, path_numbers, target_number}
 use Rattle.edit_engine.specs.MayBeAsked.{MayBeAsked}
@@ -79,8 +80,8 @@ AreAlike-entered plan g h asked more valid results_law targets_law = record {
 -- so all is kept once terms were entered
 pub is_kept_again : {due : List Term} (plan : Planned) (g h : Graph) (kept : Kept)
     → MayBeAsked plan g × IsKeptOf plan.shapes plan.targeted g kept → HasMoreTerms due g h → IsValidView h
-    → ResultsDependOnReads → TargetsDependOnReads → NestedDependOnReads
+    → ResultsDependOnReads → TargetsDependOnReads → NestedDependOnReads → OwnReadsDependOnThemselves
     → MayBeAsked plan h × IsKeptOf plan.shapes plan.targeted h kept
-is_kept_again plan g h kept whole more valid results_law targets_law nested_law =
+is_kept_again plan g h kept whole more valid results_law targets_law nested_law own_law =
     let alike = AreAlike-entered plan g h whole.0 more valid results_law targets_law in
-    (alike.after, IsKeptOf-alike plan g h alike nested_law plan.targeted kept whole.1)
+    (alike.after, IsKeptOf-alike plan g h alike nested_law own_law plan.targeted kept whole.1)

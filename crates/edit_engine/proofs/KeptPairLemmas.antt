@@ -12,8 +12,10 @@ use Rattle.graph_view.proofs.PatchedLemmas.{is_not}
 use Rattle.shx_term.specs.Members.{SameMembers}
 use Rattle.comp_core.specs.declared.pair.Pair.{Pair}
 use Rattle.shape_eval.specs.declared.shape.PlanShape.{PlanShape}
-use Rattle.shape_eval.specs.Laws.{NestedDependOnReads, NestedReadsAreRead, ResultsDependOnReads}
+use Rattle.shape_eval.specs.Laws.{NestedDependOnReads, NestedReadsAreRead, OwnReadsDependOnThemselves}
+use Rattle.shape_eval.specs.Laws.{ResultsDependOnReads}
 use Rattle.shape_eval.specs.Nested.{nested_in}
+use Rattle.shape_eval.specs.Own.{own_reads}
 use Rattle.shape_eval.specs.Recalled.{AreRecalled, IsRecallOf}
 use Rattle.shape_eval.specs.Results.{pair_reads}
 use Rattle.read_records.specs.declared.reader.Reader.TheVariants.{OfPair}
@@ -22,6 +24,7 @@ use Rattle.read_records.specs.Store.{Notes, changed_to, note_at}
 use Rattle.edit_engine.specs.Remembered.{AreAllRecalled, staying}
 use Rattle.edit_engine.specs.Touched.{is_any_touched}
 use Rattle.edit_engine.specs.inner.Recall.{IsChange, Remains}
+use Rattle.edit_engine.proofs.ReachedLemmas.{ReadLaws, own_touched, reached_touched, touched_reached}
 use Rattle.edit_engine.proofs.TouchLemmas.{none_touched, touched_test}
 
 -- a pair that is remembered is so by an answer
@@ -30,7 +33,7 @@ some_answer None e = absurd (true≢false (sym e))
 some_answer (Some a) e = (a, refl)
 
 module _ (shapes : List PlanShape) (g h : Graph) (changed : List Triple) (first now : RecallState)
-    (is : IsChange shapes g h changed first now) where
+    (is : IsChange shapes g h changed first now) (laws : ReadLaws shapes g) where
   abbrev is_touched : Pair → Bool
   is_touched p = is_any_touched changed (pair_reads shapes g p)
 
@@ -39,55 +42,44 @@ module _ (shapes : List PlanShape) (g h : Graph) (changed : List Triple) (first 
 
   -- ---- what is masked
 
+  unstaged : (p : Pair) → staged_of first p ≡ None
+  unstaged p = ap (λ (notes : Notes Answer). note_at notes (OfPair p)) is.settled
+
+  at_first : (p : Pair) → recalled first p ≡ kept_of first p
+  at_first p = ap (λ change. changed_to change (kept_of first p)) (unstaged p)
+
+  recall_kept : IsRecallOf SameMembers shapes g (kept_of first)
+  recall_kept = subst (IsRecallOf SameMembers shapes g) (λ i p. at_first p i) is.recall
+
   module _ (p : Pair) where
-    unstaged : staged_of first p ≡ None
-    unstaged = ap (λ (notes : Notes Answer). note_at notes (OfPair p)) is.settled
-
-    at_first : recalled first p ≡ kept_of first p
-    at_first = ap (λ change. changed_to change (kept_of first p)) unstaged
-
     -- where nothing is staged, the same is remembered as before
     same_recalled : staged_of now p ≡ None → recalled now p ≡ recalled first p
     same_recalled none =
-        ap (λ change. changed_to change (kept_of now p)) none ∙ is.kept.each p ∙ sym at_first
+        ap (λ change. changed_to change (kept_of now p)) none ∙ is.kept.each p ∙ sym (at_first p)
 
     masked_none : staged_of now p ≡ Some None → recalled now p ≡ None
     masked_none masked = ap (λ change. changed_to change (kept_of now p)) masked
 
     -- a triple reaches the pair exactly where it touches its reads
-    reached_touched : IsReached first changed p → is_touched p ≡ true
-    reached_touched reached =
-        let right = is.recall.right.each p reached.answer (at_first ∙ reached.kept) in
-        let key = reached.touched in
-        (touched_test changed (pair_reads shapes g p)).1 (record {
-          triple = reached.triple;
-          changes = reached.changes;
-          touched = (key.0, ((right.reads.each key.0).0 key.1.0, key.1.1));
-        })
+    is_reached : IsReached first changed p → is_touched p ≡ true
+    is_reached reached =
+        (touched_test changed (pair_reads shapes g p)).1
+        (reached_touched laws first changed recall_kept p reached)
 
-    touched_reached : (a : Answer) → recalled first p ≡ Some a → is_touched p ≡ true
-        → IsReached first changed p
-    touched_reached a e touched =
-        let has = (touched_test changed (pair_reads shapes g p)).0 touched in
-        let right = is.recall.right.each p a e in
-        let key = has.touched in
-        record {
-          answer = a;
-          kept = sym at_first ∙ e;
-          triple = has.triple;
-          changes = has.changes;
-          touched = (key.0, ((right.reads.each key.0).1 key.1.0, key.1.1));
-        }
+    reached_if : IsSome (recalled first p) → is_touched p ≡ true → IsReached first changed p
+    reached_if there touched =
+        touched_reached laws first changed recall_kept p (ap is_some (sym (at_first p)) ∙ there)
+        ((touched_test changed (pair_reads shapes g p)).0 touched)
 
     -- what is still remembered was remembered before, and its reads are untouched
     was_recalled : (a : Answer) → recalled now p ≡ Some a
         → (recalled first p ≡ Some a) × (is_touched p ≡ true → ⊥)
     was_recalled a e = elim (is.at_most.each p) [
       | inl same ↦
-          let none = same ∙ unstaged in (
-            sym (same_recalled none) ∙ e,
-            λ touched. is_masked none
-                (is.masked.each p (touched_reached a (sym (same_recalled none) ∙ e) touched) unstaged),
+          let none = same ∙ unstaged p in
+          let was = sym (same_recalled none) ∙ e in (
+            was,
+            λ touched. is_masked none (is.masked.each p (reached_if (ap is_some was) touched) (unstaged p)),
           )
       | inr m ↦ let gone = masked_none m.now in absurd (is_none gone e)
     ]
@@ -101,8 +93,8 @@ module _ (shapes : List PlanShape) (g h : Graph) (changed : List Triple) (first 
     -- and what was remembered, and is untouched, is
     still_recalled : IsSome (recalled first p) → is_touched p ≡ false → IsSome (recalled now p)
     still_recalled was off = elim (is.at_most.each p) [
-      | inl same ↦ ap is_some (same_recalled (same ∙ unstaged)) ∙ was
-      | inr m ↦ absurd (true≢false (sym (reached_touched m.reached) ∙ off))
+      | inl same ↦ ap is_some (same_recalled (same ∙ unstaged p)) ∙ was
+      | inr m ↦ absurd (true≢false (sym (is_reached m.reached) ∙ off))
     ]
 
   -- ---- which pairs stay
@@ -124,13 +116,23 @@ module _ (shapes : List PlanShape) (g h : Graph) (changed : List Triple) (first 
 
   -- ---- what is remembered is right of the new graph, and closed
 
-  module _ (results_depend : ResultsDependOnReads) (nested_depend : NestedDependOnReads)
-      (nested_read : NestedReadsAreRead) where
+  module _ (results_depend : ResultsDependOnReads) (own_depend : OwnReadsDependOnThemselves)
+      (nested_depend : NestedDependOnReads) (nested_read : NestedReadsAreRead) where
     agree_at : (p : Pair) → is_touched p ≡ false → Agree g h (Contains (pair_reads shapes g p))
     agree_at p off =
         is.differ (pair_reads shapes g p) (λ key c t d touches.
         none_touched changed (pair_reads shapes g p) off
         (record { triple = t; changes = d; touched = (key, (c, touches)) }))
+
+    -- and so it is what is read for the pair itself
+    own_same : (p : Pair) → p.node < length g.terms → is_touched p ≡ false
+        → SameMembers (own_reads shapes g p) (own_reads shapes h p)
+    own_same p node off =
+        own_depend shapes is.lower g h is.before is.after is.plan p node
+        (is.differ (own_reads shapes g p) (λ key c t d touches.
+        none_touched changed (pair_reads shapes g p) off
+        (own_touched laws.parts shapes is.lower g is.before is.plan changed p node
+        (record { triple = t; changes = d; touched = (key, (c, touches)) }))))
 
     -- what is read for a nested pair is read for the pair, so where that is untouched it is
     below_untouched : (p d : Pair) → p.node < length g.terms → Contains (nested_in shapes g p) d
@@ -164,11 +166,12 @@ module _ (shapes : List PlanShape) (g h : Graph) (changed : List Triple) (first 
         each = λ p a e.
             let was = was_recalled p a e in
             let right = is.recall.right.each p a was.0 in
+            let off = is_off p was.1 in
             let same = results_depend shapes is.lower g h is.before is.after is.plan p right.node
-            (agree_at p (is_off p was.1)) in
+            (agree_at p off) in
             record {
               rows = right.rows ∙ same.rows;
-              reads = SameMembers-then right.reads same.reads;
+              reads = SameMembers-then right.reads (own_same p right.node off);
               node = subst (λ terms. p.node < length terms) (sym is.terms) right.node;
             };
       };

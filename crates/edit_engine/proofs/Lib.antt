@@ -29,6 +29,8 @@ pub mod PairLemmas
 pub mod PatchLemmas
 pub mod PlanLemmas
 pub mod PutLemmas
+pub mod ReachedLemmas
+pub mod ReachedReaderLemmas
 pub mod ReaderLemmas
 pub mod RecallChangeLemmas
 pub mod RecordLemmas

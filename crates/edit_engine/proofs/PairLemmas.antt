@@ -23,12 +23,12 @@ use Rattle.comp_core.specs.Pairs.{same_pair, same_pair_equiv, same_pair_exact}
 use Rattle.shape_eval.specs.declared.shape.PlanShape.{PlanShape}
 use Rattle.shape_eval.specs.Report.{at_shape}
 use Rattle.shape_eval.specs.Targets.{target_nodes}
+use Rattle.shape_eval.proofs.AscendingLemmas.{IsDistinct-in_term_order}
 use Rattle.edit_engine.specs.Pairs.{pairs_of}
 use Rattle.edit_engine.specs.Renewal.{IsDifference}
 use Rattle.edit_engine.proofs.PutLemmas.{apart_parts}
 use Rattle.edit_engine.proofs.RenewedPairLemmas.{Contains-at_shape, Contains-pairs, IsDistinct-at_shape}
 use Rattle.edit_engine.proofs.RenewedPairLemmas.{none_apart}
-use Rattle.edit_engine.proofs.TargetChangeLemmas.{IsDistinct-in_term_order}
 
 -- ---- among others or not
 

@@ -12,7 +12,7 @@ use Rattle.shape_eval.specs.declared.shape.PlanShape.{PlanShape}
 use Rattle.shape_eval.specs.Constraint.{numbers_stated}
 use Rattle.shape_eval.specs.Plan.{if_any, is_targeted, nodes_of, number_of, numbers_of, planned}
 use Rattle.shape_eval.specs.Plan.{HasTermsOf, IsKnownPlan, path_numbers, target_number}
-use Rattle.edit_engine.proofs.TargetChangeLemmas.{IsDistinct-in_term_order}
+use Rattle.shape_eval.proofs.AscendingLemmas.{IsDistinct-in_term_order}
 
 -- a number that differs from another is not equal to it
 unequal : (a b : ℕ) → (a ≡ b → ⊥) → nat_eq a b ≡ false

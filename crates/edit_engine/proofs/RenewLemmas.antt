@@ -17,9 +17,10 @@ use Rattle.comp_core.specs.declared.pair.Pair.{Pair}
 use Rattle.comp_core.specs.Laws.{SameAnswers}
 use Rattle.comp_core.specs.Pairs.{same_pair, same_pair_equiv, same_pair_exact}
 use Rattle.shape_eval.specs.declared.shape.PlanShape.{PlanShape}
+use Rattle.shape_eval.specs.Own.{own_reads}
 use Rattle.shape_eval.specs.Plan.{IsKnownPlan}
 use Rattle.shape_eval.specs.Report.{at_shape}
-use Rattle.shape_eval.specs.Results.{pair_reads, results}
+use Rattle.shape_eval.specs.Results.{results}
 use Rattle.shape_eval.specs.Targets.{target_reads}
 use Rattle.read_records.specs.declared.reader.Reader.{Reader}
 use Rattle.read_records.specs.declared.reader.Reader.TheVariants.{OfPair, OfTarget}
@@ -75,7 +76,7 @@ pub record Renews (shapes : List PlanShape) (ns ms : List ℕ) (g h : Graph) (re
   pub others : (p : Pair) → Contains (pairs_of shapes ms h) p
       → (Contains (pairs_evaluated renewal.evaluated.items) p → ⊥)
       → Contains (pairs_of shapes ns g) p
-      × SameAnswers (results shapes g) (results shapes h) (pair_reads shapes g) (pair_reads shapes h) p
+      × SameAnswers (results shapes g) (results shapes h) (own_reads shapes g) (own_reads shapes h) p
   pub count : length (pairs_of shapes ms h) + length renewal.leaving.keys
       ≡ length (pairs_of shapes ns g) + length renewal.entering.items
 
@@ -167,12 +168,12 @@ module _ (shapes : List PlanShape) (ns ms : List ℕ) (g h : Graph) (renewal : R
       | inr found ↦ free found
     ]
 
-    pair_holds : (p : Pair) → Contains after p → Holds new.records (OfPair p) (pair_reads shapes h p)
+    pair_holds : (p : Pair) → Contains after p → Holds new.records (OfPair p) (own_reads shapes h p)
     pair_holds p c = elim (pair_or_not found_pairs p) [
       | inl is_found ↦
           let at = Contains-from_map (λ found. found.pair) renewal.evaluated.items p is_found in
           let found = at.0 in
-          subst (λ q. Holds new.records (OfPair q) (pair_reads shapes h q)) (sym at.2)
+          subst (λ q. Holds new.records (OfPair q) (own_reads shapes h q)) (sym at.2)
           (record {
             reads = found.answer.reads;
             recorded = recorded (OfPair found.pair) (Some (Some found.answer.reads))

@@ -29,6 +29,7 @@ use Rattle.edit_engine.specs.Touched.{is_among_pairs, is_any_touched, touched_pa
 use Rattle.edit_engine.specs.inner.Recall.{BringsNested, ChangesLeaveWhatStays, IsChange, RemembersNested}
 use Rattle.edit_engine.specs.inner.Recall.{RenewsRecall}
 use Rattle.edit_engine.proofs.PairLemmas.{among_pairs, pair_or_not}
+use Rattle.edit_engine.proofs.ReachedLemmas.{nested_recalled}
 use Rattle.edit_engine.proofs.TestLemmas.{or_left, or_right}
 
 -- ---- nested pairs of a graph that are remembered, and the rest of them
@@ -143,7 +144,8 @@ renews_recall leave plan g h changed first masked last evaluated before after is
     let left = leave plan.shapes g h changed first masked is in
     let others = λ (q : Pair) (c : Contains (pairs plan h) q) (free : Contains evaluated q → ⊥).
     let was = was_pair plan g h changed evaluated same q c free in
-    left.nested q (subst (λ terms. q.node < length terms) is.terms (inside q c)) was.1 (at_pair q was.0) in
+    left.nested q (subst (λ terms. q.node < length terms) is.terms (inside q c)) was.1
+    (nested_recalled (pairs plan g) remembers q was.0) in
     let brings = brings_of_all plan h (recalled masked) (recalled last) before after evaluated
     done (are_pairs plan g h changed evaluated same) in
     let nested = recalled_of_all plan h (recalled masked) (recalled last) before after evaluated done
@@ -158,11 +160,4 @@ renews_recall leave plan g h changed first masked last evaluated before after is
             fresh_recalled plan h (recalled masked) (recalled last) before after
             (staying plan.shapes g changed kept) (left.stays kept all) brings nested;
       };
-    }
-  where
-    at_pair : (q : Pair) → Contains (pairs plan g) q
-        → AreRecalled (recalled first) (nested_in plan.shapes g q)
-    at_pair q c = record {
-      each = λ d k.
-          remembers.nested.each d (Contains-flat_map (nested_in plan.shapes g) (pairs plan g) q d c k);
     }

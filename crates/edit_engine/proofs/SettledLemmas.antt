@@ -16,7 +16,8 @@ use Rattle.graph_view.specs.Graph.{Graph, AllKnown, IsKnownTriple}
 use Rattle.graph_view.specs.Valid.{IsValidView}
 use Rattle.graph_view.proofs.AgreeLemmas.{AgreeOn-same}
 use Rattle.graph_view.proofs.ValidLemmas.{AllKnown-valid, IsValidView-cut, IsValidView-entered}
-use Rattle.shape_eval.specs.Laws.{NestedDependOnReads, ResultsDependOnReads, TargetsDependOnReads}
+use Rattle.shape_eval.specs.Laws.{NestedDependOnReads, OwnReadsDependOnThemselves, ResultsDependOnReads}
+use Rattle.shape_eval.specs.Laws.{TargetsDependOnReads}
 use Rattle.shape_eval.specs.Plan.{Planned}
 use Rattle.read_records.specs.Recall.{kept_of}
 use Rattle.edit_engine.specs.Applied.{HasMoreTerms}
@@ -94,10 +95,11 @@ IsSettled-more plan g h kept n more is =
 -- an engine is whole again once terms were entered
 pub is_whole_again : {due : List Term} (plan : Planned) (g h : Graph) (kept : Kept) (n : ℕ)
     → IsWholeWith plan g kept n → HasMoreTerms due g h → IsValidView h
-    → ResultsDependOnReads → TargetsDependOnReads → NestedDependOnReads → IsWholeWith plan h kept n
-is_whole_again plan g h kept n whole more valid results_law targets_law nested_law =
+    → ResultsDependOnReads → TargetsDependOnReads → NestedDependOnReads → OwnReadsDependOnThemselves
+    → IsWholeWith plan h kept n
+is_whole_again plan g h kept n whole more valid results_law targets_law nested_law own_law =
     let again = is_kept_again plan g h kept (whole.0, whole.1) more valid results_law targets_law
-    nested_law in
+    nested_law own_law in
     (again.0, again.1, IsSettled-more plan g h kept n more whole.2)
 
 -- one term was
@@ -115,14 +117,15 @@ HasMoreTerms-entered g h t terms triples =
 pub is_whole_entered : {E : Type 0} (plan : Planned) (g h : Graph) (kept : Kept) (n : ℕ) (t : Term)
     (result : Result ℕ E) → IsWholeWith plan g kept n → IsNotWide t
     → OnOk result (h.terms ≡ with_term g.terms t) → h.triples ≡ g.triples → OnErr result (h ≡ g)
-    → ResultsDependOnReads → TargetsDependOnReads → NestedDependOnReads → IsWholeWith plan h kept n
+    → ResultsDependOnReads → TargetsDependOnReads → NestedDependOnReads → OwnReadsDependOnThemselves
+    → IsWholeWith plan h kept n
 is_whole_entered plan g h kept n t (Ok id) whole narrow entered triples refused results_law targets_law
-    nested_law =
+    nested_law own_law =
     let more = HasMoreTerms-entered g h t entered triples in
     let valid = IsValidView-entered g h t whole.0.valid narrow entered triples in
-    is_whole_again plan g h kept n whole more valid results_law targets_law nested_law
+    is_whole_again plan g h kept n whole more valid results_law targets_law nested_law own_law
 is_whole_entered plan g h kept n t (Err fault) whole narrow entered triples refused results_law targets_law
-    nested_law =
+    nested_law own_law =
     subst (λ k. IsWholeWith plan k kept n) (sym refused) whole
 
 -- ---- terms that are cut off
@@ -163,7 +166,7 @@ module _ (plan : Planned) (g : Graph) (kept : Kept) (settled len : ℕ)
   }
 
   module _ (results_law : ResultsDependOnReads) (targets_law : TargetsDependOnReads)
-      (nested_law : NestedDependOnReads) where
+      (nested_law : NestedDependOnReads) (own_law : OwnReadsDependOnThemselves) where
     alike_first : AreAlike plan (of_first len g) g
     alike_first = record {
       before = asked_first;
@@ -181,7 +184,7 @@ module _ (plan : Planned) (g : Graph) (kept : Kept) (settled len : ℕ)
     pub is_whole_cut : (h : Graph) → h.terms ≡ take len g.terms → h.triples ≡ g.triples
         → IsWholeWith plan h kept settled
     is_whole_cut h terms triples =
-        let short = IsKeptOf-shorter plan (of_first len g) g alike_first plan.targeted nested_law kept
+        let short = IsKeptOf-shorter plan (of_first len g) g alike_first plan.targeted nested_law own_law kept
         (λ p there.
         omega (arith, whole.2.remembered p there, settled_first.within)) whole.1 in
         let same : of_first len g ≡ h = λ i. record { terms = sym terms i; triples = sym triples i } in

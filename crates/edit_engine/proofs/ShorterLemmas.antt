@@ -4,11 +4,11 @@ use Rattle.std.proofs.Common.{sym, ap, ◌∙◌, subst}
 use Rattle.shx_term.proofs.SetLemmas.{SameMembers-sym, SameMembers-then}
 use Rattle.graph_view.specs.Graph.{Graph}
 use Rattle.comp_core.specs.declared.pair.Pair.{Pair}
-use Rattle.shape_eval.specs.Laws.{NestedDependOnReads}
+use Rattle.shape_eval.specs.Laws.{NestedDependOnReads, OwnReadsDependOnThemselves}
+use Rattle.shape_eval.specs.Own.{own_reads}
 use Rattle.shape_eval.specs.Plan.{Planned}
 use Rattle.shape_eval.specs.Recalled.{AreRecalled, IsRecalled}
 use Rattle.shape_eval.specs.Report.{at_shape}
-use Rattle.shape_eval.specs.Results.{pair_reads}
 use Rattle.shape_eval.specs.Targets.{target_reads}
 use Rattle.read_records.specs.Recall.{Answer, kept_of}
 use Rattle.read_records.specs.Records.{Recorded}
@@ -20,23 +20,24 @@ use Rattle.edit_engine.specs.declared.kept.Kept.{Kept}
 use Rattle.edit_engine.specs.inner.Kept.{AreResults, IsKeptOf}
 use Rattle.edit_engine.specs.inner.Recall.{RemembersNested}
 use Rattle.edit_engine.proofs.AlikeLemmas.{AreAlike, Holds-same, held_before, nested_of, node_before}
-use Rattle.edit_engine.proofs.AlikeLemmas.{pairs_alike, same_nested, same_pair_at, same_results, same_target}
-use Rattle.edit_engine.proofs.AlikeLemmas.{same_term_at}
+use Rattle.edit_engine.proofs.AlikeLemmas.{pairs_alike, same_nested, same_own, same_pair_at, same_results}
+use Rattle.edit_engine.proofs.AlikeLemmas.{same_target, same_term_at}
 
 -- the first graph is the one with fewer terms
 module _ (plan : Planned) (g h : Graph) (alike : AreAlike plan g h) (ns : List ℕ) where
   held_after : (p : Pair) → Contains (pairs_of plan.shapes ns g) p → Contains (pairs_of plan.shapes ns h) p
   held_after p c = subst (λ ps. Contains ps p) (pairs_alike plan g h alike ns) c
 
-  AreRecorded-shorter : (state : Recorded) → AreRecorded plan.shapes ns h state
-      → AreRecorded plan.shapes ns g state
-  AreRecorded-shorter state all = record {
+  AreRecorded-shorter : OwnReadsDependOnThemselves → (state : Recorded)
+      → AreRecorded plan.shapes ns h state → AreRecorded plan.shapes ns g state
+  AreRecorded-shorter own_law state all = record {
     targets = λ n c.
         Holds-same state (OfTarget n) (target_reads plan.shapes h n) (target_reads plan.shapes g n)
         (SameMembers-sym (same_target plan g h alike n).reads) (all.targets n c);
     pairs = λ p c.
-        Holds-same state (OfPair p) (pair_reads plan.shapes h p) (pair_reads plan.shapes g p)
-        (SameMembers-sym (same_results plan g h alike ns p c).reads) (all.pairs p (held_after p c));
+        let same = same_own plan g h alike own_law p (node_before plan g h alike ns p c) in
+        Holds-same state (OfPair p) (own_reads plan.shapes h p) (own_reads plan.shapes g p)
+        (SameMembers-sym same) (all.pairs p (held_after p c));
     no_target = all.no_target;
     no_pair = λ p none. all.no_pair p (λ c. none (held_before plan g h alike ns p c));
   }
@@ -53,7 +54,7 @@ module _ (plan : Planned) (g h : Graph) (alike : AreAlike plan g h) (ns : List �
         none id (same_term_at plan g h alike id inside ∙ e) held);
   }
 
-  module _ (nested_law : NestedDependOnReads) where
+  module _ (nested_law : NestedDependOnReads) (own_law : OwnReadsDependOnThemselves) where
     -- what is remembered of nodes that have terms in both
     remembers_shorter : (recalled : Pair → Option Answer)
         → ((p : Pair) → IsRecalled recalled p → p.node < length g.terms)
@@ -65,10 +66,10 @@ module _ (plan : Planned) (g h : Graph) (alike : AreAlike plan g h) (ns : List �
           each = λ p a e.
               let right = is.recall.right.each p a e in
               let node = inside p (ap is_some e) in
-              let same = same_pair_at plan g h alike p node in
               record {
-                rows = right.rows ∙ sym same.rows;
-                reads = SameMembers-then right.reads (SameMembers-sym same.reads);
+                rows = right.rows ∙ sym (same_pair_at plan g h alike p node).rows;
+                reads =
+                    SameMembers-then right.reads (SameMembers-sym (same_own plan g h alike own_law p node));
                 node = node;
               };
         };
@@ -85,7 +86,7 @@ module _ (plan : Planned) (g h : Graph) (alike : AreAlike plan g h) (ns : List �
         → ((p : Pair) → IsRecalled (kept_of kept.recall) p → p.node < length g.terms)
         → IsKeptOf plan.shapes ns h kept → IsKeptOf plan.shapes ns g kept
     IsKeptOf-shorter kept inside all = record {
-      records = AreRecorded-shorter kept.records all.records;
+      records = AreRecorded-shorter own_law kept.records all.records;
       results = AreResults-shorter kept.results all.results;
       count = all.count ∙ ap length (sym (pairs_alike plan g h alike ns));
       places = all.places;

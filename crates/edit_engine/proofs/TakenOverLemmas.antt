@@ -1,19 +1,18 @@
 -- A pair of a new plan that was one of the old plan, at an alike shape: what was kept of it is taken over.
-use Rattle.std.specs.Prelude.{◌≡◌, true, false, List, Some, None, Contains, slice_get}
+use Rattle.std.specs.Prelude.{◌≡◌, true, false, List, Some, None, Contains, map, slice_get}
 use Rattle.std.proofs.Common.{sym, ap, ◌∙◌, subst, inl, inr}
 use Rattle.shx_term.specs.declared.term.Term.{Term}
 use Rattle.shx_term.specs.Members.{SameMembers}
-use Rattle.shx_term.proofs.SetLemmas.{SameMembers-then}
 use Rattle.graph_view.specs.declared.key.Key.{Key}
 use Rattle.graph_view.specs.Graph.{Graph}
 use Rattle.graph_view.proofs.PatchedLemmas.{is_false}
 use Rattle.comp_core.specs.declared.memo.PairAnswer.{PairAnswer}
 use Rattle.comp_core.specs.declared.pair.Pair.{Pair}
+use Rattle.shape_eval.specs.Own.{own_reads}
 use Rattle.shape_eval.specs.Plan.{IsNumbered}
 use Rattle.shape_eval.specs.Report.{pairs}
-use Rattle.shape_eval.specs.Results.{pair_reads}
 use Rattle.plan_swap.specs.declared.swap.Swap.{Swap}
-use Rattle.plan_swap.specs.Renumbered.{AlikeShapesFindAlike, rows_renumbered}
+use Rattle.plan_swap.specs.Renumbered.{AlikeShapesFindAlike, key_renumbered, rows_renumbered}
 use Rattle.plan_swap.specs.Swap.{IsSwap, number_after, pair_before, plan_after, plan_before}
 use Rattle.pair_results.specs.PairResults.{rows_at}
 use Rattle.read_records.specs.declared.reader.Reader.TheVariants.{OfPair}
@@ -61,7 +60,7 @@ module _ (swap : Swap) (is : IsSwap swap) (numbered : IsNumbered (plan_before sw
       pub taken_over : AlikeShapesFindAlike → (node : Term) → slice_get g.terms q.node ≡ Some node
           → (found : PairAnswer (List Key))
           → found.rows.items ≡ rows_renumbered (number_after swap) (rows_at kept.results q.shape node)
-          → SameMembers found.reads reads
+          → SameMembers found.reads (map (key_renumbered (number_after swap)) reads)
           → (was_pair (plan_before swap) swap.alikes.now g p ≡ true)
           × IsRight (plan_after swap).shapes g (record { pair = p; answer = found })
       taken_over law node at found rows read =
@@ -72,9 +71,8 @@ module _ (swap : Swap) (is : IsSwap swap) (numbered : IsNumbered (plan_before sw
               rows = rows
                   ∙ ap (rows_renumbered (number_after swap)) (held.results.pairs q node is_old_pair at)
                   ∙ sym (results_after swap is numbered renumbered g law q p alike_before);
-              reads = SameMembers-then read
-                  (subst (λ keys. SameMembers keys (pair_reads (plan_after swap).shapes g p)) one
-                  (subst (SameMembers there.reads)
-                  (sym (reads_after swap is numbered renumbered g law q p alike_before)) there.same));
+              reads = reads_after swap is numbered renumbered g law q p alike_before reads found.reads read
+                  (subst (λ keys. SameMembers keys (own_reads (plan_before swap).shapes g q)) one
+                  there.same);
             },
           )

@@ -46,11 +46,11 @@ use Rattle.shape_eval.specs.declared.target.Target.{Target}
 use Rattle.shape_eval.specs.declared.target.Target.TheVariants as target
 use Rattle.shape_eval.specs.Targets.{nodes_of_target, nodes_of_targets, reads_of_target, target_nodes}
 use Rattle.shape_eval.specs.Targets.{target_reads, targets_of}
+use Rattle.shape_eval.proofs.AscendingLemmas.{IsDistinct-ascending}
 use Rattle.edit_engine.specs.Renewal.{IsDifference}
 use Rattle.edit_engine.specs.inner.Told.{NoSubclass, instances_told, is_class, is_node_of, is_node_of_any}
 use Rattle.edit_engine.specs.inner.Told.{is_only_in, is_subclass, node_told, nodes_told, told_by}
 use Rattle.edit_engine.proofs.RenewedPairLemmas.{among_or_not}
-use Rattle.edit_engine.proofs.TargetChangeLemmas.{IsDistinct-ascending}
 use Rattle.edit_engine.proofs.TestLemmas.{any_from, any_to, first_alone, only_first}
 
 -- ---- target nodes as a relation over triples

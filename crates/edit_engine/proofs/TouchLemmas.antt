@@ -2,16 +2,25 @@
 use Rattle.std.specs.Prelude.{◌≡◌, true, false, List, Contains, ◌↔◌}
 use Rattle.std.specs.List.{list_any}
 use Rattle.std.specs.Cmp.{both_ways}
-use Rattle.std.proofs.Common.{sym, ◌∙◌, true≢false}
+use Rattle.std.proofs.Common.{refl, sym, ◌∙◌, true≢false}
 use Rattle.shx_term.specs.Members.{SameMembers}
 use Rattle.shx_term.specs.declared.triple.Triple.{Triple}
 use Rattle.shx_term.proofs.SetLemmas.{SameMembers-sym}
 use Rattle.graph_view.specs.declared.key.Key.{Key}
-use Rattle.graph_view.specs.Key.{is_touching}
+use Rattle.graph_view.specs.declared.key.Key.TheVariants.{Answer, In, Out, Predicate, Subject}
+use Rattle.graph_view.specs.Key.{is_answer, is_touching, Touches}
 use Rattle.graph_view.specs.Reads.{IsTouchedBy}
 use Rattle.graph_view.proofs.KeyLemmas.{touching}
 use Rattle.edit_engine.specs.Touched.{is_any_touched}
 use Rattle.edit_engine.proofs.TestLemmas.{any_from, any_to}
+
+-- what a triple touches is a part of the graph
+pub touched_part : (t : Triple) (key : Key) → Touches t key → is_answer key ≡ false
+touched_part t (Out s p) touches = refl
+touched_part t (In p o) touches = refl
+touched_part t (Subject s) touches = refl
+touched_part t (Predicate p) touches = refl
+touched_part t (Answer shape node) touches = absurd touches
 
 -- one of the triples touches one of the keys
 pub record HasTouched (changed : List Triple) (keys : List Key) : Type 0 where

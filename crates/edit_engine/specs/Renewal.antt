@@ -9,7 +9,8 @@ use Rattle.comp_core.specs.Pairs.{same_pair}
 use Rattle.shape_eval.specs.declared.shape.PlanShape.{PlanShape}
 use Rattle.shape_eval.specs.Plan.{Planned}
 use Rattle.shape_eval.specs.Report.{pairs}
-use Rattle.shape_eval.specs.Results.{pair_reads, results}
+use Rattle.shape_eval.specs.Own.{own_reads}
+use Rattle.shape_eval.specs.Results.{results}
 use Rattle.shape_eval.specs.Targets.{target_reads}
 use Rattle.edit_engine.specs.declared.renewal.Evaluated.{Evaluated}
 use Rattle.edit_engine.specs.declared.renewal.Renewal.{Renewal}
@@ -25,7 +26,7 @@ pub record IsDifference {X : Type 0} (same : X → X → Bool) (xs ys found : Li
 -- what was found of a pair is what it comes to
 pub record IsRight (shapes : List PlanShape) (g : Graph) (found : Evaluated) : Type 0 where
   pub rows : found.answer.rows.items ≡ results shapes g found.pair
-  pub reads : SameMembers found.answer.reads (pair_reads shapes g found.pair)
+  pub reads : SameMembers found.answer.reads (own_reads shapes g found.pair)
 
 -- what is read for a target now
 pub record IsReadNow (shapes : List PlanShape) (g : Graph) (target : TargetReads) : Type 0 where

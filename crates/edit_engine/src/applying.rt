@@ -21,7 +21,9 @@ use crate::stated::{enter_all, has_room_for_terms, numbers_of};
 use crate::{Change, EditFault, Engine, edits_come_to_a_net};
 use edit_history::Net;
 use graph_view::{GraphEdit, GraphView, StoreFault};
-use shape_eval::{nested_pairs_are_read, results_depend_on_reads, targets_depend_on_reads};
+use shape_eval::{
+    nested_pairs_are_read, reads_are_own_or_below, results_depend_on_reads, targets_depend_on_reads,
+};
 use shx_term::{Edit, Memory, Steps, TermTriple, Triple};
 use std::alloc::{AllocError, Global};
 use std::slice;
@@ -83,10 +85,10 @@ impl<V: GraphEdit> Engine<V> {
     }
 
     /// Makes a change, or the one that takes it back, and evaluates exactly the pairs that it touches: those
-    /// that were none before, and those that have read a key that a changed triple touches. Each evaluation
-    /// counts a step. Of the pairs that are nested in these, exactly those are evaluated that are not
-    /// remembered, or that a changed triple touches: each once, which is counted in `nested`, and from then
-    /// on they are remembered.
+    /// that were none before, and those for which, or for a pair nested in which, a key was read that a
+    /// changed triple touches. Each evaluation counts a step. Of the pairs that are nested in these, exactly
+    /// those are evaluated that are not remembered, or that a changed triple touches: each once, which is
+    /// counted in `nested`, and from then on they are remembered.
     ///
     /// It costs what these pairs cost, and some look-ups for each triple; where a subclass is stated or taken
     /// back, also some for each instance of that, and for each subclass of the classes in the targets that
@@ -140,6 +142,7 @@ impl<V: GraphEdit> Engine<V> {
             fault self.new (counted_at steps.old nested.old) (counted_at steps.new nested.new)) }
     {
         changes_rest_on(&self.view);
+        reads_are_own_or_below();
         if added.is_empty() && removed.is_empty() {
             return Ok(UNCHANGED);
         }
@@ -197,6 +200,7 @@ impl<V: GraphEdit> Engine<V> {
         ensures refused { OnErr result (self.new ≡ self.old) }
     {
         changes_rest_on(&self.view);
+        reads_are_own_or_below();
         let Kept {
             records,
             recall,

@@ -6,8 +6,8 @@ use std::marker::Model;
 /// A graph and a plan, with the report of the plan on the graph, which edits keep current.
 ///
 /// It keeps the results of each pair of a targeted shape and one of its target nodes, and for each pair, and
-/// each target, the keys that were read; and both of the pairs that are nested in these. All of it is of the
-/// terms that are settled, so what was entered behind them can be cut off.
+/// each target, the keys that were read for it itself; and both of the pairs that are nested in these. All of
+/// it is of the terms that are settled, so what was entered behind them can be cut off.
 pub struct Engine<V: GraphEdit> {
     pub(crate) plan: Plan,
     pub(crate) view: V,

@@ -10,6 +10,7 @@ ghost use Rattle.edit_engine.specs.Applied.{SamePlan};
 use crate::Engine;
 use crate::applying::changes_rest_on;
 use graph_view::GraphEdit;
+use shape_eval::reads_are_own_or_below;
 use shx_term::{Id, PoolFault, Term};
 
 impl<V: GraphEdit> Engine<V> {
@@ -36,6 +37,7 @@ impl<V: GraphEdit> Engine<V> {
             → HasRoomFor (pooled self.old.graph self.old.term_limit) term.now) }
     {
         changes_rest_on(&self.view);
+        reads_are_own_or_below();
         self.view.enter(term)
     }
 
@@ -52,6 +54,7 @@ impl<V: GraphEdit> Engine<V> {
         } }
     {
         changes_rest_on(&self.view);
+        reads_are_own_or_below();
         self.view.cut(len);
     }
 }

@@ -13,7 +13,8 @@ use read_records::{Recall, Records};
 use shx_term::{Memory, Pool};
 use std::alloc::{AllocError, Global};
 
-/// What was read for each target and each pair, the results of each pair, and what nested pairs come to.
+/// What was read for each target and each pair itself, the results of each pair, and what nested pairs come
+/// to.
 pub(crate) struct Kept {
     pub(crate) records: Records,
     pub(crate) results: PairResults,

@@ -12,8 +12,8 @@ ghost use Rattle.edit_engine.specs.MayBeAsked.{MayBeAsked};
 ghost use Rattle.edit_engine.specs.inner.Recall.{ChangesLeaveWhatStays};
 
 use shape_eval::{
-    nested_pairs_are_read, nested_pairs_stand_below, results_depend_on_reads,
-    targets_depend_on_reads,
+    nested_pairs_are_read, nested_pairs_stand_below, reads_are_own_or_below,
+    results_depend_on_reads, targets_depend_on_reads,
 };
 
 /// A plan targets shapes of its own, each once.
@@ -50,4 +50,5 @@ pub(crate) fn changes_leave_what_stays()
     results_depend_on_reads();
     nested_pairs_are_read();
     nested_pairs_stand_below();
+    reads_are_own_or_below();
 }

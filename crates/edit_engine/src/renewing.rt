@@ -17,7 +17,9 @@ use crate::laws::changes_leave_what_stays;
 use crate::renewal::Renewal;
 use graph_view::{GraphView, Patched, Reads, look_ups_give_what_is_held, patches_agree};
 use read_records::{Recall, Records};
-use shape_eval::{Answers, Plan, targets_depend_on_reads};
+use shape_eval::{
+    Answers, Plan, nested_pairs_stand_below, reads_are_own_or_below, targets_depend_on_reads,
+};
 use shx_term::{Memory, Steps, Triple};
 use std::alloc::Global;
 use std::sync::ledger::Ledger;
@@ -106,11 +108,13 @@ fn renewal_beside<V: GraphView, W: GraphView, K: Ledger, L: Ledger>(
     ensures kept { KeepsSame recall.old recall.new }
 {
     targets_depend_on_reads();
+    reads_are_own_or_below();
+    nested_pairs_stand_below();
     look_ups_give_what_is_held();
     patches_agree();
     changes_leave_what_stays();
-    let touched = records.touched_by_change(alloc, added, removed)?;
-    recall.mask_change(alloc, added, removed)?;
+    let reached = recall.mask_change(alloc, added, removed)?;
+    let touched = records.touched_by_change(alloc, added, removed, reached.as_slice())?;
     let mut renewal = Renewal::new(alloc);
     renewal.renew_targets(alloc, view, after, plan, &touched, added, removed)?;
     renewal.evaluate_touched(alloc, after, plan, &touched, recall, nested, steps)?;

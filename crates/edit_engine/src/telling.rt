@@ -1,5 +1,5 @@
 //! What an engine tells of the present graph.
-ghost use Rattle.std.specs.Prelude.{◌≡◌, ◌≤◌, [], length, IfSome};
+ghost use Rattle.std.specs.Prelude.{◌≡◌, ◌≤◌, [], length, IfOk, IfSome};
 ghost use Rattle.std.specs.List.{IsDistinct};
 ghost use Rattle.std.specs.Option.{is_some};
 ghost use Rattle.shx_term.specs.Members.{SameMembers};
@@ -8,6 +8,7 @@ ghost use Rattle.comp_core.specs.Rows.{is_empty};
 ghost use Rattle.read_records.specs.Recall.{all_kept};
 ghost use Rattle.shape_eval.specs.Nested.{nested_pairs};
 ghost use Rattle.shape_eval.specs.Recalled.{AreRecalled, IsRecallOf};
+ghost use Rattle.shape_eval.specs.Own.{own_reads};
 ghost use Rattle.shape_eval.specs.Planned.{plan_of};
 ghost use Rattle.shape_eval.specs.Report.{pairs, report};
 ghost use Rattle.shape_eval.specs.Results.{pair_reads};
@@ -21,8 +22,9 @@ use comp_core::Pair;
 use graph_view::{GraphEdit, GraphView, Reads};
 use pair_results::{Rows, results_stand_in_term_order};
 use read_records::{Reader, Recall};
-use shape_eval::Plan;
-use shx_term::Term;
+use shape_eval::{Plan, nested_pairs_stand_below, reads_are_own_or_below};
+use shx_term::{Memory, Term};
+use std::alloc::Global;
 
 impl<V: GraphEdit> Engine<V> {
     /// Whether the report has no results. It takes no memory, and constant time, as the next two do.
@@ -59,14 +61,31 @@ impl<V: GraphEdit> Engine<V> {
         self.kept.results.rows(self.plan.targeted())
     }
 
-    /// What was read for a pair; `None` exactly where it is none of the graph. It takes no memory, and
-    /// logarithmic time.
+    /// What was read for a pair itself: parts of the graph, and what was found of the pairs that it asks;
+    /// `None` exactly where it is none of the graph. It takes no memory, and logarithmic time.
     pub fn record(&self, pair: &Pair) -> Option<&Reads>
         ensures reads { IfSome result (λ reads.
-            SameMembers (pair_reads self.now.plan.shapes self.now.graph pair.now) reads.now) }
+            SameMembers (own_reads self.now.plan.shapes self.now.graph pair.now) reads.now) }
         ensures pair { is_some result ≡ is_among_pairs (pairs self.now.plan self.now.graph) pair.now }
     {
         self.kept.records.reads_of(&Reader::OfPair(*pair))
+    }
+
+    /// The parts of the graph that were read for a pair, and for all that is nested in it; `None` exactly
+    /// where it is none of the graph. It takes time linear in what was read for the pairs that are nested in
+    /// it, each of which it looks up once.
+    pub fn reads(&self, alloc: Global, pair: &Pair) -> Result<Option<Reads>, Memory>
+        ensures reads { IfOk result (λ found. IfSome found (λ reads.
+            SameMembers (pair_reads self.now.plan.shapes self.now.graph pair.now) reads)) }
+        ensures pair { IfOk result (λ found.
+            is_some found ≡ is_among_pairs (pairs self.now.plan self.now.graph) pair.now) }
+    {
+        reads_are_own_or_below();
+        nested_pairs_stand_below();
+        match self.record(pair) {
+            Some(own) => Ok(Some(self.kept.recall.all_read(alloc, own)?)),
+            None => Ok(None),
+        }
     }
 
     /// The pair of a shape and a node, by their terms; `None` exactly where the graph has no such pair. It

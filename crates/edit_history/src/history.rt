@@ -10,13 +10,24 @@ use std::marker::Model;
 
 /// The latest changes of a graph, and how many of them are made; those behind were taken back. One more
 /// change may be staged, so that it is entered without memory.
-#[derive(Drop)]
 pub struct History {
     /// The changes, and the staged one behind them, if one is.
     changes: Vec<Net>,
     is_staged: bool,
     cursor: usize,
     depth: u32,
+}
+
+// A derived drop is no call: each place where one ends would split into one path for each of its parts.
+impl Drop for History {
+    fn drop(self) {
+        let History {
+            changes: _changes,
+            is_staged: _is_staged,
+            cursor: _cursor,
+            depth: _depth,
+        } = self;
+    }
 }
 
 impl Model for History {

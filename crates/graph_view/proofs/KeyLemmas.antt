@@ -1,13 +1,13 @@
 -- A test that decides whether a triple touches a key, and what looking a key up finds.
-use Rattle.std.specs.Prelude.{◌≡◌, ℕ, true, ◌&&◌, ◌==◌, List, [], ◌∷◌, Contains, ◌↔◌}
-use Rattle.std.proofs.Common.{refl, sym, ap, subst, inl, inr}
+use Rattle.std.specs.Prelude.{◌≡◌, ℕ, true, false, ◌&&◌, ◌==◌, List, [], ◌∷◌, Contains, ◌↔◌}
+use Rattle.std.proofs.Common.{refl, sym, ap, subst, inl, inr, true≢false}
 use Rattle.std.specs.Cmp.{first_so, second_so}
 use Rattle.std.proofs.lemmas.Bool.{eqb-true, eq-eqb, and_from}
 use Rattle.shx_term.specs.declared.triple.Triple.{Triple}
 use Rattle.shx_term.proofs.MemberLemmas.{Contains-head, Contains-tail, Contains-cases, Contains-one}
 use Rattle.shx_term.proofs.MemberLemmas.{Contains-filter, Contains-from_filter}
 use Rattle.graph_view.specs.declared.key.Key.{Key}
-use Rattle.graph_view.specs.declared.key.Key.TheVariants.{Out, In, Subject, Predicate}
+use Rattle.graph_view.specs.declared.key.Key.TheVariants.{Out, In, Subject, Predicate, Answer}
 use Rattle.graph_view.specs.Key.{Touches, is_touching, keys_of, look}
 
 both_equal : (a b c d : ℕ) → ((a == b) && (c == d) ≡ true) ↔ ((a ≡ b) × (c ≡ d))
@@ -22,6 +22,7 @@ touching t (Out s p) = both_equal t.s s t.p p
 touching t (In p o) = both_equal t.p p t.o o
 touching t (Subject s) = (eqb-true t.s s, eq-eqb t.s s)
 touching t (Predicate p) = (eqb-true t.p p, eq-eqb t.p p)
+touching t (Answer s n) = (λ h. true≢false (sym h), λ h. absurd h)
 
 pub Contains-look : (triples : List Triple) (key : Key) (t : Triple)
     → Contains (look triples key) t ↔ (Contains triples t × Touches t key)
@@ -66,6 +67,7 @@ module _ (t : Triple) where
       (Contains-tail (In t.p t.o) (Predicate t.p) (Subject t.s ∷ Predicate t.p ∷ [])
       (Contains-tail (Subject t.s) (Predicate t.p) (Predicate t.p ∷ [])
       (Contains-head (Predicate t.p) []))))
+  is_own (Answer s n) h = absurd h
 
   pub Contains-keys_of : (key : Key) → Contains (keys_of t) key ↔ Touches t key
   Contains-keys_of key = (touches_own key, is_own key)

@@ -6,14 +6,16 @@ use shx_term::{Id, Triple};
 use std::cmp::Ordering;
 use std::hash::{Hash, Hasher};
 
-/// A part of a graph that a look-up reads: the triples of a subject and predicate, of a predicate and
-/// object, of a subject, or of a predicate.
+/// What can be read: a part of a graph, which is the triples of a subject and predicate, of a predicate and
+/// object, of a subject, or of a predicate; or what was found of a node at a shape, by their numbers. Of the
+/// last a graph knows nothing, and no triple touches it.
 #[derive(Clone, Copy, Debug)]
 pub enum Key {
     Out(Id, Id),
     In(Id, Id),
     Subject(Id),
     Predicate(Id),
+    Answer(u32, Id),
 }
 
 fn kind(key: &Key) -> u8
@@ -24,6 +26,7 @@ fn kind(key: &Key) -> u8
         Key::In(_, _) => 1,
         Key::Subject(_) => 2,
         Key::Predicate(_) => 3,
+        Key::Answer(_, _) => 4,
     }
 }
 
@@ -35,6 +38,7 @@ fn first(key: &Key) -> Id
         Key::In(p, _) => *p,
         Key::Subject(s) => *s,
         Key::Predicate(p) => *p,
+        Key::Answer(shape, _) => *shape,
     }
 }
 
@@ -46,6 +50,7 @@ fn second(key: &Key) -> Id
         Key::In(_, o) => *o,
         Key::Subject(_) => 0,
         Key::Predicate(_) => 0,
+        Key::Answer(_, node) => *node,
     }
 }
 
@@ -132,6 +137,7 @@ pub fn touches(t: &Triple, key: &Key) -> bool
         Key::In(p, o) => t.p == *p && t.o == *o,
         Key::Subject(s) => t.s == *s,
         Key::Predicate(p) => t.p == *p,
+        Key::Answer(_, _) => false,
     }
 }
 

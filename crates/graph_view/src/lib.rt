@@ -3,7 +3,7 @@
 //!
 //! | file | what it holds |
 //! |---|---|
-//! | `key.rt` | `Key`: the part of a graph that a look-up reads, with an order; `touches`, `keys_of` |
+//! | `key.rt` | `Key`: a part of a graph, or an answer, that was read, with an order; `touches`, `keys_of` |
 //! | `reads.rt` | `Reads`: a set of keys, and whether a triple touches one of them |
 //! | `notes.rt` | `Notes`: what takes the keys that are read, as `Reads`, or keeps nothing of them |
 //! | `keys.rt` | the two forms of such a set, for a few keys and for many |

@@ -18,7 +18,6 @@ pub(crate) struct Place {
 
 /// The results of shapes at nodes. Changes are staged, which takes all the memory that they need, and then
 /// made at once.
-#[derive(Drop)]
 pub struct PairResults {
     /// Of each shape, by its number, its nodes. Whatever is staged has its place here.
     pub(crate) shapes: Vec<Nodes>,
@@ -27,6 +26,18 @@ pub struct PairResults {
     pub(crate) count: u64,
     /// At least as many as are staged.
     pub(crate) coming: u64,
+}
+
+// A derived drop is no call: each place where one ends would split into one path for each of its parts.
+impl Drop for PairResults {
+    fn drop(self) {
+        let PairResults {
+            shapes: _shapes,
+            staged: _staged,
+            count: _count,
+            coming: _coming,
+        } = self;
+    }
 }
 
 impl Model for PairResults {

@@ -10,10 +10,11 @@ use Rattle.shx_term.specs.TripleOrder.{in_triple_order}
 use Rattle.shx_term.proofs.MemberLemmas.{Contains-filter, Contains-from_filter}
 use Rattle.shx_term.proofs.MemberLemmas.{Contains-flat_map, Contains-from_flat_map}
 use Rattle.shx_term.proofs.MemberLemmas.{Contains-map, Contains-from_map, each_of_All, All_of_each}
+use Rattle.shx_term.proofs.MemberLemmas.{none_in_empty}
 use Rattle.shx_term.proofs.SetLemmas.{SameMembers-parts, SameMembers-sym, SameMembers-then}
 use Rattle.shx_term.proofs.TripleOrderLemmas.{in_triple_order_lists}
 use Rattle.graph_view.specs.declared.key.Key.{Key}
-use Rattle.graph_view.specs.declared.key.Key.TheVariants.{Out, In, Subject, Predicate}
+use Rattle.graph_view.specs.declared.key.Key.TheVariants.{Out, In, Subject, Predicate, Answer}
 use Rattle.graph_view.specs.Agree.{Agree}
 use Rattle.graph_view.specs.Graph.{AllKnown, Graph, IsKnownTriple, objects_of, subjects_of}
 use Rattle.graph_view.specs.Key.{Touches, is_touching, look}
@@ -63,6 +64,12 @@ module _ (g : Graph) where
       (λ t h. triple_is t (record { s = t.s; p = p; o = o }) refl h.0 h.1)
   look-touched (Subject s) = ordered (Subject s)
   look-touched (Predicate p) = ordered (Predicate p)
+  look-touched (Answer s n) = record {
+    each = λ t. (
+      λ c. absurd ((Contains-look g.triples (Answer s n) t).0 c).1,
+      λ c. absurd (none_in_empty t c),
+    );
+  }
 
 -- ---- what look-ups by some keys find
 

@@ -55,6 +55,7 @@ fn touching<V: GraphView>(alloc: Global, view: &V, key: &Key) -> Result<Vec<Trip
         Key::In(p, o) => with_subjects(alloc, p, o, &view.subjects(alloc, p, o, &mut unnoted)?),
         Key::Subject(s) => view.triples_of(alloc, s, &mut unnoted),
         Key::Predicate(p) => view.triples_with(alloc, p, &mut unnoted),
+        Key::Answer(_, _) => Ok(Vec::new(alloc)),
     }
 }
 

@@ -23,11 +23,21 @@ const MOST: usize = 1_000_000;
 
 /// Of classes that were asked about, the classes above them, with what was read to find these. They are right
 /// of one graph.
-#[derive(Drop)]
 pub struct Superclasses {
     pub(crate) found: IndexMap<Id, Wider>,
     known: usize,
     pub(crate) last: Last,
+}
+
+// A derived drop is no call: each place where one ends would split into one path for each of its parts.
+impl Drop for Superclasses {
+    fn drop(self) {
+        let Superclasses {
+            found: _found,
+            known: _known,
+            last: _last,
+        } = self;
+    }
 }
 
 impl Superclasses {

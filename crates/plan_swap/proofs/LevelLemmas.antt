@@ -14,7 +14,7 @@ use Rattle.shape_eval.specs.Content.{Demand, demand_of}
 use Rattle.shape_eval.specs.Plan.{IsNumbered, names_of, nodes_of, number_of, references}
 use Rattle.shape_eval.specs.Results.{reads_within, results_within, shape_reads, shape_results}
 use Rattle.plan_swap.specs.Alike.{AreAlikeWithin, IsAlike}
-use Rattle.plan_swap.specs.Renumbered.{AlikeShapesFindAlike, new_number, rows_renumbered}
+use Rattle.plan_swap.specs.Renumbered.{new_number, rows_renumbered}
 use Rattle.plan_swap.proofs.AskedLemmas.{AnswersAlike}
 use Rattle.plan_swap.proofs.DemandLemmas.{named_by, nodes_in}
 use Rattle.plan_swap.proofs.PlaceLemmas.{found_at, node_at, one_place}
@@ -83,7 +83,7 @@ module _ (old new : List PlanShape) where
           (reads_within l old g) (reads_within j new g) m n
 
       -- constraints of alike shapes, where the shapes that they name answer alike
-      demands_alike : (k l j m n : ℕ) (alike : IsAlike (AreAlikeWithin k old new) old new m n)
+      pub demands_alike : (k l j m n : ℕ) (alike : IsAlike (AreAlikeWithin k old new) old new m n)
           → ((a b : ℕ) → a < m → b < n → AreAlikeWithin k old new a b → AlikeAt l j a b)
           → InTurn (DemandAlike (new_number old new) (results_within l old g) (results_within j new g)
           (reads_within l old g) (reads_within j new g) (nodes_of old) (nodes_of new))
@@ -126,10 +126,3 @@ pub within_both : (old new : List PlanShape) (k m n : ℕ) → AreAlikeWithin k 
 within_both old new zero m n alike = absurd alike
 within_both old new (suc k) m n alike =
     (slice_get_within old m alike.before alike.old_is, slice_get_within new n alike.after alike.new_is)
-
-pub alike_shapes : AlikeShapesFindAlike
-alike_shapes old new numbered renumbered g m n alike node =
-    let within = within_both old new (length new) m n alike in
-    let both = finds_alike old new numbered renumbered g (length new) (length old) (length new) m n within.0
-    within.1 alike in
-    record { rows = both.rows node; reads = both.reads node }

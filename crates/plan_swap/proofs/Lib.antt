@@ -4,6 +4,7 @@ pub mod DemandLemmas
 pub mod FindingLemmas
 pub mod LevelLemmas
 pub mod NestLemmas
+pub mod OwnLemmas
 pub mod PlaceLemmas
 pub mod RenumberLemmas
 pub mod SameLemmas

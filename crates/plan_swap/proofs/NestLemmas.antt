@@ -121,7 +121,7 @@ module _ (old new : List PlanShape) (numbered : IsNumbered old) (renumbered : Is
         subst (λ b. AreLower k m n d.shape b) (sym (number_same d.shape both.0 both.1)) both.1
 
     module _ (g : Graph) (node : ℕ) where
-      below_same : pairs_below new g (at_shape n node)
+      pub below_same : pairs_below new g (at_shape n node)
           ≡ map renumber (pairs_below old g (at_shape m node))
       below_same =
           ap (λ o. filter (is_evaluated_at new) (asked_at_node g o node)) alike.new_is

@@ -1,12 +1,16 @@
 -- What a shape finds where its number is another one: alike shapes find the same but for that.
 use Rattle.std.specs.Prelude.{◌≡◌, ℕ, List, Contains, map, slice_get}
 use Rattle.std.specs.Option.{option_and_then, unwrap_or}
+use Rattle.shx_term.specs.Members.{SameMembers}
+use Rattle.graph_view.specs.declared.key.Key.{Key}
+use Rattle.graph_view.specs.declared.key.Key.TheVariants.{Out, In, Subject, Predicate, Answer}
 use Rattle.graph_view.specs.Graph.{Graph}
 use Rattle.comp_core.specs.declared.detail.DetailRow.{DetailRow}
 use Rattle.comp_core.specs.declared.pair.Pair.{Pair}
 use Rattle.comp_core.specs.declared.row.ResultRow.{ResultRow}
 use Rattle.shape_eval.specs.declared.shape.PlanShape.{PlanShape}
 use Rattle.shape_eval.specs.Nested.{nested_in}
+use Rattle.shape_eval.specs.Own.{own_reads}
 use Rattle.shape_eval.specs.Plan.{IsNumbered, nodes_of, number_of}
 use Rattle.shape_eval.specs.Report.{at_shape}
 use Rattle.shape_eval.specs.Results.{pair_reads, results}
@@ -27,12 +31,22 @@ row_renumbered f row =
 abbrev pub rows_renumbered : (ℕ → ℕ) → List ResultRow → List ResultRow
 rows_renumbered f rows = map (row_renumbered f) rows
 
+-- the same part of a graph, or what was found of the pair of another shape
+abbrev pub key_renumbered : (ℕ → ℕ) → Key → Key
+key_renumbered f (Out s p) = Out s p
+key_renumbered f (In p o) = In p o
+key_renumbered f (Subject s) = Subject s
+key_renumbered f (Predicate p) = Predicate p
+key_renumbered f (Answer shape node) = Answer (f shape) node
+
 -- the new shape has the results of the old one at the node, under new numbers, which were read from the same
--- keys in the same order
+-- keys in the same order; and for it itself the same was read, under new numbers
 pub record FindsAlike (old new : List PlanShape) (g : Graph) (m n node : ℕ) : Type 0 where
   pub rows : results new g (at_shape n node)
       ≡ rows_renumbered (new_number old new) (results old g (at_shape m node))
   pub reads : pair_reads new g (at_shape n node) ≡ pair_reads old g (at_shape m node)
+  pub own : SameMembers (own_reads new g (at_shape n node))
+      (map (key_renumbered (new_number old new)) (own_reads old g (at_shape m node)))
 
 abbrev pub AlikeShapesFindAlike : Type 0
 AlikeShapesFindAlike =

@@ -3,12 +3,13 @@ ghost use Rattle.std.specs.Prelude.{◌≡◌, ◌<◌, nat_eq, Some, length, ma
 ghost use Rattle.std.specs.Option.{option_eq};
 ghost use Rattle.shx_term.specs.Members.{SameMembers};
 ghost use Rattle.comp_core.specs.Rows.{detail_of};
-ghost use Rattle.plan_swap.specs.Renumbered.{detail_renumbered, row_renumbered, rows_renumbered};
+ghost use Rattle.plan_swap.specs.Renumbered.{detail_renumbered, key_renumbered, row_renumbered};
+ghost use Rattle.plan_swap.specs.Renumbered.{rows_renumbered};
 ghost use Rattle.plan_swap.specs.Swap.{IsSwap, number_after, pair_after, pair_before};
 
 use crate::Alikes;
 use comp_core::{DetailRow, Details, Pair, PairAnswer, ResultRow, ShapeNo};
-use graph_view::Reads;
+use graph_view::{Key, Reads};
 use shape_eval::Plan;
 use shx_term::Memory;
 use std::alloc::Global;
@@ -57,13 +58,33 @@ impl Swap<'_> {
     ) -> Result<PairAnswer<Reads>, Memory>
         ensures rows { IfOk result (λ found.
             found.rows.items ≡ rows_renumbered (number_after self.now) rows.now) }
-        ensures reads { IfOk result (λ found. SameMembers found.reads reads.now) }
+        ensures reads { IfOk result (λ found.
+            SameMembers found.reads (map (key_renumbered (number_after self.now)) reads.now)) }
     {
         let rows = self.rows(alloc, rows)?;
-        let mut read = Reads::new(alloc);
-        read.add_all(reads)?;
-        read.pack(alloc)?;
-        Ok(PairAnswer { rows, reads: read })
+        let reads = self.reads(alloc, reads)?;
+        Ok(PairAnswer { rows, reads })
+    }
+
+    fn reads(&self, alloc: Global, reads: &Reads) -> Result<Reads, Memory>
+        ensures { IfOk result (λ found.
+            SameMembers found (map (key_renumbered (number_after self.now)) reads.now)) }
+    {
+        let mut found = Reads::new(alloc);
+        for key in reads.keys() {
+            found.add(self.key(*key))?;
+        }
+        found.pack(alloc)?;
+        Ok(found)
+    }
+
+    fn key(&self, key: Key) -> Key
+        ensures { result ≡ key_renumbered (number_after self.now) key }
+    {
+        match key {
+            Key::Answer(shape, node) => Key::Answer(self.new_number(shape), node),
+            _ => key,
+        }
     }
 
     // The new shape that is alike with an old one.

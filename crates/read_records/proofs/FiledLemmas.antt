@@ -13,7 +13,7 @@ use Rattle.shx_term.specs.Members.{Adds}
 use Rattle.shx_term.proofs.MemberLemmas.{Contains-from_map, Contains-map, Contains-one}
 use Rattle.comp_core.specs.declared.pair.Pair.{Pair}
 use Rattle.graph_view.specs.declared.key.Key.{Key}
-use Rattle.graph_view.specs.declared.key.Key.TheVariants.{Out, In, Subject, Predicate}
+use Rattle.graph_view.specs.declared.key.Key.TheVariants.{Out, In, Subject, Predicate, Answer}
 use Rattle.graph_view.specs.Key.{key_first, key_kind, key_second}
 use Rattle.graph_view.specs.inner.KeyLaws.{same_key_exact}
 use Rattle.read_records.specs.declared.by_kind.ByKind.{ByKind}
@@ -34,18 +34,27 @@ same_tree (Out s p) (Out s' p') e all = refl
 same_tree (Out s p) (In p' o') e all = cc
 same_tree (Out s p) (Subject s') e all = cc
 same_tree (Out s p) (Predicate p') e all = cc
+same_tree (Out s p) (Answer s' n') e all = cc
 same_tree (In p o) (Out s' p') e all = cc
 same_tree (In p o) (In p' o') e all = refl
 same_tree (In p o) (Subject s') e all = cc
 same_tree (In p o) (Predicate p') e all = cc
+same_tree (In p o) (Answer s' n') e all = cc
 same_tree (Subject s) (Out s' p') e all = cc
 same_tree (Subject s) (In p' o') e all = cc
 same_tree (Subject s) (Subject s') e all = refl
 same_tree (Subject s) (Predicate p') e all = cc
+same_tree (Subject s) (Answer s' n') e all = cc
 same_tree (Predicate p) (Out s' p') e all = cc
 same_tree (Predicate p) (In p' o') e all = cc
 same_tree (Predicate p) (Subject s') e all = cc
 same_tree (Predicate p) (Predicate p') e all = refl
+same_tree (Predicate p) (Answer s' n') e all = cc
+same_tree (Answer s n) (Out s' p') e all = cc
+same_tree (Answer s n) (In p' o') e all = cc
+same_tree (Answer s n) (Subject s') e all = cc
+same_tree (Answer s n) (Predicate p') e all = cc
+same_tree (Answer s n) (Answer s' n') e all = refl
 
 same_side : (a b : Reader) → reader_kind a ≡ reader_kind b → (all : Filed) → side a all ≡ side b all
 same_side (OfTarget s) (OfTarget s') e all = refl
@@ -306,21 +315,35 @@ AreTargets-tried (Err refusal) key shape is added refused are = subst AreTargets
 
 -- ---- trees that are put in order
 
-pub HoldSame-each : (old : ByKind (List Posting)) {out into subject predicate : List Posting}
+pub HoldSame-each : (old : ByKind (List Posting)) {out into subject predicate answer : List Posting}
     → ((x : Posting) → Contains out x ↔ Contains old.out x)
     → ((x : Posting) → Contains into x ↔ Contains old.into x)
     → ((x : Posting) → Contains subject x ↔ Contains old.subject x)
     → ((x : Posting) → Contains predicate x ↔ Contains old.predicate x)
-    → HoldSame old (record { out = out; into = into; subject = subject; predicate = predicate })
-HoldSame-each old {out} {into} {subject} {predicate} a b c d = record { each = by }
+    → ((x : Posting) → Contains answer x ↔ Contains old.answer x)
+    → HoldSame old (record {
+      out = out;
+      into = into;
+      subject = subject;
+      predicate = predicate;
+      answer = answer;
+    })
+HoldSame-each old {out} {into} {subject} {predicate} {answer} a b c d f = record { each = by }
   where
     by : (key : Key) (x : Posting)
-        → Contains (tree key (record { out = out; into = into; subject = subject; predicate = predicate })) x
+        → Contains (tree key (record {
+          out = out;
+          into = into;
+          subject = subject;
+          predicate = predicate;
+          answer = answer;
+        })) x
         ↔ Contains (tree key old) x
     by (Out s p) x = a x
     by (In p o) x = b x
     by (Subject s) x = c x
     by (Predicate p) x = d x
+    by (Answer s n) x = f x
 
 pub Stands-same : (targets pairs : ByKind (List Posting)) {new_targets new_pairs : ByKind (List Posting)}
     → HoldSame targets new_targets → HoldSame pairs new_pairs → (x : Reading)

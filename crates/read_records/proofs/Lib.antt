@@ -1,12 +1,16 @@
 pub mod FiledLemmas
+pub mod GainLemmas
 pub mod GatheredLemmas
 pub mod MaskLemmas
 pub mod PairLemmas
+pub mod PartLemmas
 pub mod PostingLemmas
 pub mod RangeLemmas
 pub mod ReachedLemmas
 pub mod ReadingLemmas
 pub mod RecallLemmas
+pub mod RestLemmas
+pub mod SearchLemmas
 pub mod SeenLemmas
 pub mod StoreLemmas
 pub mod TouchedLemmas

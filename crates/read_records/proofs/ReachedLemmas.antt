@@ -1,6 +1,6 @@
--- Whom a triple reaches: the readers that are found under its keys, in order, each once.
-use Rattle.std.specs.Prelude.{ℕ, ◌+◌, ◌<◌, List, [], ◌∷◌, ◌++◌, length, take, Contains, ◌↔◌, ◌⊎◌}
-use Rattle.std.specs.Prelude.{IsPermutation}
+-- Whom a change reaches: the readers that are found under its keys, in order, each once.
+use Rattle.std.specs.Prelude.{◌≡◌, ℕ, ◌+◌, ◌<◌, List, [], ◌∷◌, ◌++◌, length, take, Contains, ◌↔◌, ◌⊎◌}
+use Rattle.std.specs.Prelude.{IsPermutation, Some, map}
 use Rattle.std.specs.List.{dedup}
 use Rattle.std.specs.List.Sorted.{IsSorted}
 use Rattle.std.proofs.Common.{refl, sym, ap, ◌∙◌, subst, inl, inr, get_or}
@@ -8,7 +8,9 @@ use Rattle.std.proofs.lemmas.List.Elements.{Contains-append_left, Contains-appen
 use Rattle.std.proofs.lemmas.List.Elements.{Contains-append_cases}
 use Rattle.shx_term.specs.InOrder.{IsExactOrder, Lists}
 use Rattle.shx_term.specs.declared.triple.Triple.{Triple}
-use Rattle.shx_term.proofs.MemberLemmas.{none_in_empty, Contains-one}
+use Rattle.shx_term.proofs.MemberLemmas.{none_in_empty, Contains-from_map, Contains-map, Contains-one}
+use Rattle.comp_core.specs.declared.pair.Pair.{Pair}
+use Rattle.comp_core.specs.Pairs.{answer_key}
 use Rattle.graph_view.specs.declared.key.Key.{Key}
 use Rattle.graph_view.specs.Key.{key_cmp}
 use Rattle.read_records.proofs.ReadingLemmas.{reader_cmp_exact, Contains-taken}
@@ -18,7 +20,8 @@ use Rattle.read_records.proofs.TouchedLemmas.{Lists-sorted}
 use Rattle.read_records.specs.declared.noted.Noted.{Noted}
 use Rattle.read_records.specs.declared.reader.Reader.{Reader}
 use Rattle.read_records.specs.Reader.{reader_cmp, same_reader}
-use Rattle.read_records.specs.Records.{IsTouched, IsTouchedByAny, Recorded}
+use Rattle.read_records.specs.Records.{IsReachedBy, IsTouched, IsTouchedByAny, Recorded, RestsOnAny}
+use Rattle.read_records.specs.Records.{reads_of}
 use Rattle.read_records.specs.Store.{Notes, Stored, if_noted, note_at}
 use Rattle.read_records.specs.inner.ReaderLaws.{reader_cmp_total, same_reader_equiv, same_reader_exact}
 use Rattle.read_records.specs.inner.Notes.{AreUnder, HasNoted, as_recorded, reads_noted}
@@ -140,61 +143,139 @@ module _ {T : Type 0} where
       Lists-sorted reader_cmp reader_order same_reader same_reader_equiv same_reader_exact found sorted
       are.each
 
-  -- ---- whom triples touch
+-- ---- whom triples touch, and who rests on answers
+
+-- what is recorded of the reader has the key
+record HasRead (state : Recorded) (r : Reader) (key : Key) : Type 0 where
+  reads : List Key
+  recorded : reads_of state r ≡ Some reads
+  read : Contains reads key
+
+module _ {T : Type 0} where
+  -- it has what is noted
+  has_read : (state : Stored (Noted T)) (r : Reader) (key : Key)
+      → HasNoted state.kept r key ↔ HasRead (as_recorded state) r key
+  has_read state r key = (
+    λ has. record {
+      reads = has.noted.reads;
+      recorded = kept_recorded state r ∙ ap (λ entry. reads_noted (if_noted entry)) has.stands;
+      read = has.read;
+    },
+    λ h.
+        let noted = recorded_noted state r h.reads h.recorded in
+        record {
+          noted = noted.0;
+          stands = noted_is (note_at state.kept r) noted.0 noted.1.0;
+          read = subst (λ keys. Contains keys key) (sym noted.1.1) h.read;
+        },
+  )
+
+  -- whoever has one of the keys
+  abbrev HasOne : Stored (Noted T) → List Key → Reader → Type 0
+  HasOne state keys r = (key : Key) × (Contains keys key × HasNoted state.kept r key)
 
   -- whom one of the triples touches has read one of their keys
   touched : (state : Stored (Noted T)) (ts : List Triple) (keys : List Key)
       → Lists key_cmp (IsTouchedKey ts) keys → (r : Reader)
-      → ((key : Key) × (Contains keys key × HasNoted state.kept r key))
-      ↔ IsTouchedByAny (as_recorded state) ts r
+      → HasOne state keys r ↔ IsTouchedByAny (as_recorded state) ts r
   touched state ts keys own r = (
     λ h.
         let by = (own.each h.0).0 h.1.0 in
+        let at = (has_read state r h.0).0 h.1.1 in
         record {
           triple = by.triple;
           changes = by.changes;
           touched = record {
-            reads = h.1.1.noted.reads;
-            recorded = kept_recorded state r ∙ ap (λ entry. reads_noted (if_noted entry)) h.1.1.stands;
-            touched = (h.0, (h.1.1.read, by.touches));
+            reads = at.reads;
+            recorded = at.recorded;
+            touched = (h.0, (at.read, by.touches));
           };
         },
     λ h.
-        let at = h.touched.touched in
-        let noted = recorded_noted state r h.touched.reads h.touched.recorded in (
+        let at = h.touched.touched in (
           at.0,
           (
             (own.each at.0).1 (record { triple = h.triple; changes = h.changes; touches = at.1.1 }),
-            record {
-              noted = noted.0;
-              stands = noted_is (note_at state.kept r) noted.0 noted.1.0;
-              read = subst (λ keys. Contains keys at.0) (sym noted.1.1) at.1.0;
-            },
+            (has_read state r at.0).1
+                (record { reads = h.touched.reads; recorded = h.touched.recorded; read = at.1.0 }),
           ),
         ),
   )
 
-  pub Lists-reached : (state : Stored (Noted T)) (ts : List Triple) (keys : List Key) (found : List Reader)
-      → Lists key_cmp (IsTouchedKey ts) keys
-      → Lists reader_cmp (λ r. (key : Key) × (Contains keys key × HasNoted state.kept r key)) found
-      → Lists reader_cmp (IsTouchedByAny (as_recorded state) ts) found
-  Lists-reached state ts keys found own lists = record {
+  -- who rests on one of the pairs has read the key of its answer
+  rests : (state : Stored (Noted T)) (answers : List Pair) (r : Reader)
+      → HasOne state (map answer_key answers) r ↔ RestsOnAny (as_recorded state) answers r
+  rests state answers r = (
+    λ h.
+        let of = Contains-from_map answer_key answers h.0 h.1.0 in
+        let at = (has_read state r h.0).0 h.1.1 in
+        record {
+          pair = of.0;
+          among = of.1;
+          reads = at.reads;
+          recorded = at.recorded;
+          read = subst (Contains at.reads) of.2 at.read;
+        },
+    λ h. (
+      answer_key h.pair,
+      (
+        Contains-map answer_key answers h.pair h.among,
+        (has_read state r (answer_key h.pair)).1
+            (record { reads = h.reads; recorded = h.recorded; read = h.read }),
+      ),
+    ),
+  )
+
+  pub Lists-reached : (state : Stored (Noted T)) (ts : List Triple) (answers : List Pair)
+      (own keys : List Key) (found : List Reader) → Lists key_cmp (IsTouchedKey ts) own
+      → keys ≡ own ++ map answer_key answers → Lists reader_cmp (HasOne state keys) found
+      → Lists reader_cmp (IsReachedBy (as_recorded state) ts answers) found
+  Lists-reached state ts answers own keys found lists_own are lists = record {
     sorted = lists.sorted;
     each = λ r.
-        let is = touched state ts keys own r in
-        (λ c. is.0 ((lists.each r).0 c), λ h. (lists.each r).1 (is.1 h));
+        let by = touched state ts own lists_own r in
+        let on = rests state answers r in (
+          λ c.
+              let h = (lists.each r).0 c in
+              elim (Contains-append_cases own (map answer_key answers) h.0
+              (subst (λ ks. Contains ks h.0) are h.1.0)) [
+                | inl k ↦ inl (by.0 (h.0, (k, h.1.1)))
+                | inr k ↦ inr (on.0 (h.0, (k, h.1.1)))
+              ],
+          λ h. (lists.each r).1 (elim h [
+            | inl touched ↦
+                let k = by.1 touched in (
+                  k.0,
+                  (
+                    subst (λ ks. Contains ks k.0) (sym are)
+                        (Contains-append_left own (map answer_key answers) k.0 k.1.0),
+                    k.1.1,
+                  ),
+                )
+            | inr rests ↦
+                let k = on.1 rests in (
+                  k.0,
+                  (
+                    subst (λ ks. Contains ks k.0) (sym are)
+                        (Contains-append_right own (map answer_key answers) k.0 k.1.0),
+                    k.1.1,
+                  ),
+                )
+          ]),
+        );
   }
 
--- of one triple
+-- of one triple, and no answers
 pub Lists-one : {state : Recorded} {t : Triple} {found : List Reader}
-    → Lists reader_cmp (IsTouchedByAny state (t ∷ [])) found → Lists reader_cmp (IsTouched state t) found
+    → Lists reader_cmp (IsReachedBy state (t ∷ []) []) found → Lists reader_cmp (IsTouched state t) found
 Lists-one {state} {t} lists = record {
   sorted = lists.sorted;
   each = λ r. (
-    λ c.
-        let h = (lists.each r).0 c in
-        subst (λ u. IsTouched state u r) ((Contains-one t h.triple).0 h.changes) h.touched,
+    λ c. elim ((lists.each r).0 c) [
+      | inl h ↦ subst (λ u. IsTouched state u r) ((Contains-one t h.triple).0 h.changes) h.touched
+      | inr h ↦ absurd (none_in_empty h.pair h.among)
+    ],
     λ h. (lists.each r).1
-        (record { triple = t; changes = (Contains-one t t).1 refl; touched = h }),
+        (inl (record { triple = t; changes = (Contains-one t t).1 refl; touched = h })),
   );
 }

@@ -1,6 +1,6 @@
 -- What is remembered of pairs, by what is kept and staged for their readers.
 use Rattle.std.specs.Prelude.{◌≡◌, Bool, true, false, List, [], ◌∷◌, ◌++◌, Option, Some, None, is_some}
-use Rattle.std.specs.Prelude.{if◌then◌else◌, map, flat_map, ◌==◌}
+use Rattle.std.specs.Prelude.{if◌then◌else◌, map, flat_map, ◌==◌, Contains, ◌↔◌}
 use Rattle.std.specs.BTreeMap as tree
 use Rattle.std.specs.BTreeMap.{BTreeMap}
 use Rattle.std.specs.Cmp.{IsTotalOrder, both_tied, nat_cmp_total, on_total, then_total, unsigned_ties}
@@ -13,10 +13,8 @@ use Rattle.std.proofs.Common.{refl, sym, ap, ◌∙◌, subst, inl, inr, true≢
 use Rattle.std.proofs.lemmas.Bool.{cond-false, cond-true}
 use Rattle.std.proofs.lemmas.Map.Views.{tells_apart}
 use Rattle.std.proofs.lemmas.Simd.{map-map}
-use Rattle.shx_term.specs.InOrder.{Lists}
 use Rattle.shx_term.specs.declared.triple.Triple.{Triple}
 use Rattle.graph_view.specs.declared.key.Key.{Key}
-use Rattle.graph_view.specs.Reads.{IsTouchedBy}
 use Rattle.comp_core.specs.declared.memo.PairAnswer.{PairAnswer}
 use Rattle.comp_core.specs.declared.pair.Pair.{Pair}
 use Rattle.comp_core.specs.declared.row.ResultRow.{ResultRow}
@@ -24,8 +22,7 @@ use Rattle.comp_core.specs.Memo.{remembered_of}
 use Rattle.comp_core.specs.Pairs.{same_pair, same_pair_exact}
 use Rattle.read_records.proofs.GatheredLemmas.{as_note, kept_of_all}
 use Rattle.read_records.proofs.SeenLemmas.{MakesStaged-seen, SameNotes-seen, SameStaged-seen, StagesFor-seen}
-use Rattle.read_records.proofs.SeenLemmas.{change_seen, coming_seen, kept_recorded, kept_seen}
-use Rattle.read_records.proofs.SeenLemmas.{recorded_noted, seen_kept}
+use Rattle.read_records.proofs.SeenLemmas.{change_seen, coming_seen, kept_seen}
 use Rattle.read_records.proofs.StoreLemmas.{is_at}
 use Rattle.read_records.specs.declared.noted.Noted.{Noted}
 use Rattle.read_records.specs.declared.reader.Reader.{Reader}
@@ -34,11 +31,9 @@ use Rattle.read_records.specs.Reader.{reader_cmp, same_reader}
 use Rattle.read_records.specs.Recall.{IsReached, KeepsRecalled, KeepsSame, MasksAtMost, MasksReached}
 use Rattle.read_records.specs.Recall.{Answer, RecallState, StagesAnswer, StagesSame, all_kept, entry_at}
 use Rattle.read_records.specs.Recall.{entry_of, kept_of, pair_cmp, recalled, staged_of}
-use Rattle.read_records.specs.Records.{IsTouchedByAny}
 use Rattle.read_records.specs.Store.{MakesStaged, SameNotes, SameStaged, StagesFor, change_for}
 use Rattle.read_records.specs.Store.{coming_for, if_noted, note_at}
 use Rattle.read_records.specs.inner.Masks.{AreStaged, MasksAmong}
-use Rattle.read_records.specs.inner.Notes.{as_recorded, reads_noted}
 use Rattle.read_records.specs.inner.ReaderLaws.{reader_cmp_ties}
 use Rattle.read_records.specs.inner.Remembered.{NotedRows, as_recalled, as_remembered}
 
@@ -69,42 +64,10 @@ StagesAnswer-noted {old} {new} {p} {noted} is stages = record {
     staged : Pair → Bool → Answer → Option (Option Answer)
     staged q b answer = if b then Some (Some answer) else staged_of (as_recalled old) q
 
--- ---- whom triples reach
-
--- whose record they touch
-reached : (state : NotedRows) (changed : List Triple) (p : Pair)
-    → IsTouchedByAny (as_recorded state) changed (OfPair p) → IsReached (as_recalled state) changed p
-reached state changed p h =
-    let noted = recorded_noted state (OfPair p) h.touched.reads h.touched.recorded in
-    record {
-      answer = as_remembered noted.0;
-      kept = kept_seen as_remembered state (OfPair p) ∙ ap (option_map as_remembered) noted.1.0;
-      triple = h.triple;
-      changes = h.changes;
-      touched = subst (IsTouchedBy h.triple) (sym noted.1.1) h.touched.touched;
-    }
-
-touched : (state : NotedRows) (changed : List Triple) (p : Pair)
-    → IsReached (as_recalled state) changed p → IsTouchedByAny (as_recorded state) changed (OfPair p)
-touched state changed p h =
-    let noted = seen_kept as_remembered state (OfPair p) h.answer h.kept in
-    record {
-      triple = h.triple;
-      changes = h.changes;
-      touched = record {
-        reads = noted.0.reads;
-        recorded = kept_recorded state (OfPair p) ∙ ap reads_noted noted.1.0;
-        touched = subst (λ (a : Answer). IsTouchedBy h.triple a.reads) (sym noted.1.1) h.touched;
-      };
-    }
-
 -- ---- masks
 
-pub MasksAtMost-itself : (state : RecallState) (changed : List Triple) → MasksAtMost state state changed
-MasksAtMost-itself state changed = record { each = λ p. inl refl }
-
 module _ (old new : NotedRows) (changed : List Triple) (readers : List Reader)
-    (lists : Lists reader_cmp (IsTouchedByAny (as_recorded old) changed) readers)
+    (are : (p : Pair) → Contains readers (OfPair p) ↔ IsReached (as_recalled old) changed p)
     (only : MasksAmong old new readers)
   where
     pub MasksAtMost-among : MasksAtMost (as_recalled old) (as_recalled new) changed
@@ -115,7 +78,7 @@ module _ (old new : NotedRows) (changed : List Triple) (readers : List Reader)
             ∙ ap (option_map (option_map as_remembered)) same
             ∙ sym (change_seen as_remembered old (OfPair p)))
         | inr m ↦ inr (record {
-          reached = reached old changed p ((lists.each (OfPair p)).0 m.among);
+          reached = (are p).0 m.among;
           before = change_seen as_remembered old (OfPair p)
               ∙ ap (option_map (option_map as_remembered)) m.before;
           now = change_seen as_remembered new (OfPair p)
@@ -136,10 +99,8 @@ module _ (old new : NotedRows) (changed : List Triple) (readers : List Reader)
     pub MasksReached-among : AreStaged new readers → MasksReached (as_recalled old) (as_recalled new) changed
     MasksReached-among staged = record {
       each = λ p h none. elim (only.each (OfPair p)) [
-        | inl same ↦ absurd (true≢false (
-            sym (staged.each (OfPair p) ((lists.each (OfPair p)).1 (touched old changed p h)))
-            ∙ ap is_some same
-            ∙ bare p none))
+        | inl same ↦ absurd (true≢false
+            (sym (staged.each (OfPair p) ((are p).1 h)) ∙ ap is_some same ∙ bare p none))
         | inr m ↦ change_seen as_remembered new (OfPair p) ∙ ap (option_map (option_map as_remembered)) m.now
       ];
     }

@@ -1,8 +1,10 @@
 -- What is recorded: which keys each reader has read, whom a triple touches, and what is staged.
-use Rattle.std.specs.Prelude.{◌≡◌, List, Option, Some, Contains}
+use Rattle.std.specs.Prelude.{◌≡◌, List, Option, Some, Contains, ◌⊎◌}
 use Rattle.shx_term.specs.declared.triple.Triple.{Triple}
 use Rattle.graph_view.specs.declared.key.Key.{Key}
 use Rattle.graph_view.specs.Reads.{IsTouchedBy}
+use Rattle.comp_core.specs.declared.pair.Pair.{Pair}
+use Rattle.comp_core.specs.Pairs.{answer_key}
 use Rattle.read_records.specs.declared.reader.Reader.{Reader}
 use Rattle.read_records.specs.Store.{MakesStaged, SameNotes, SameStaged, StagesFor, Stored}
 use Rattle.read_records.specs.Store.{change_for, changed_to, kept_for}
@@ -30,6 +32,19 @@ pub record IsTouchedByAny (state : Recorded) (changed : List Triple) (reader : R
   pub triple : Triple
   pub changes : Contains changed triple
   pub touched : IsTouched state triple reader
+
+-- its record has the answer of one of these pairs
+pub record RestsOnAny (state : Recorded) (answers : List Pair) (reader : Reader) : Type 0 where
+  pub pair : Pair
+  pub among : Contains answers pair
+  pub reads : List Key
+  pub recorded : reads_of state reader ≡ Some reads
+  pub read : Contains reads (answer_key pair)
+
+-- whom a change reaches, which reaches the answers of these pairs
+abbrev pub IsReachedBy : Recorded → List Triple → List Pair → Reader → Type 0
+IsReachedBy state changed answers reader =
+    IsTouchedByAny state changed reader ⊎ RestsOnAny state answers reader
 
 -- the same is recorded
 abbrev pub SameRecords : Recorded → Recorded → Type 0

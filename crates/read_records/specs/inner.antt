@@ -3,6 +3,7 @@ pub mod Masks
 pub mod Notes
 pub mod Postings
 pub mod ReaderLaws
+pub mod Reached
 pub mod Readings
 pub mod Remembered
 pub mod Touched

@@ -1,8 +1,8 @@
-ghost use Rattle.std.specs.Prelude.{◌≡◌, ◌↔◌, [], ◌∷◌, Contains, IfOk, OnOk, OnErr};
+ghost use Rattle.std.specs.Prelude.{◌≡◌, ◌↔◌, ◌∷◌, [], Contains, IfOk, OnOk, OnErr};
 ghost use Rattle.shx_term.specs.Members.{Adds};
 ghost use Rattle.read_records.specs.declared.posting.Whom.{Whom};
 ghost use Rattle.read_records.specs.inner.Postings.{IsWithout, place, posting};
-ghost use Rattle.read_records.specs.inner.Readings.{ChangesOne, tree};
+ghost use Rattle.read_records.specs.inner.Readings.{ChangesOne, no_postings, tree};
 
 use crate::posting::{Whom, place_of};
 use crate::postings::Postings;
@@ -17,18 +17,20 @@ pub(crate) struct ByKind<S: Drop> {
     pub(crate) into: S,
     pub(crate) subject: S,
     pub(crate) predicate: S,
+    pub(crate) answer: S,
 }
 
 impl ByKind<Postings> {
     /// No postings. It takes no memory.
     pub(crate) fn new(alloc: Global) -> ByKind<Postings>
-        ensures { result ≡ record { out = []; into = []; subject = []; predicate = [] } }
+        ensures { result ≡ no_postings }
     {
         ByKind {
             out: Postings::new(alloc),
             into: Postings::new(alloc),
             subject: Postings::new(alloc),
             predicate: Postings::new(alloc),
+            answer: Postings::new(alloc),
         }
     }
 
@@ -43,6 +45,7 @@ impl ByKind<Postings> {
             Key::In(_, _) => self.into.insert(place, whom),
             Key::Subject(_) => self.subject.insert(place, whom),
             Key::Predicate(_) => self.predicate.insert(place, whom),
+            Key::Answer(_, _) => self.answer.insert(place, whom),
         }
     }
 
@@ -56,6 +59,7 @@ impl ByKind<Postings> {
             Key::In(_, _) => self.into.remove(place, whom),
             Key::Subject(_) => self.subject.remove(place, whom),
             Key::Predicate(_) => self.predicate.remove(place, whom),
+            Key::Answer(_, _) => self.answer.remove(place, whom),
         }
     }
 
@@ -70,6 +74,7 @@ impl ByKind<Postings> {
             Key::In(_, _) => self.into.under(alloc, place),
             Key::Subject(_) => self.subject.under(alloc, place),
             Key::Predicate(_) => self.predicate.under(alloc, place),
+            Key::Answer(_, _) => self.answer.under(alloc, place),
         }
     }
 }

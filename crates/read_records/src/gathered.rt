@@ -4,7 +4,8 @@ ghost use Rattle.graph_view.specs.declared.key.Key.{Key};
 ghost use Rattle.read_records.specs.declared.posting.Posting.{Posting};
 ghost use Rattle.read_records.specs.inner.Postings.{place, posting};
 ghost use Rattle.read_records.specs.inner.Readings.{AddsOne, ChangesOne, HoldSame, Reading, Stands};
-ghost use Rattle.read_records.specs.inner.Readings.{StandsUnderEach, StaysIn, nothing_filed, reading};
+ghost use Rattle.read_records.specs.inner.Readings.{StandsUnderEach, StaysIn, no_postings};
+ghost use Rattle.read_records.specs.inner.Readings.{nothing_filed, reading};
 
 use crate::Reader;
 use crate::by_kind::ByKind;
@@ -61,13 +62,14 @@ impl PostingList {
 
 impl ByKind<PostingList> {
     fn none(alloc: Global) -> ByKind<PostingList>
-        ensures { result ≡ record { out = []; into = []; subject = []; predicate = [] } }
+        ensures { result ≡ no_postings }
     {
         ByKind {
             out: PostingList::new(alloc),
             into: PostingList::new(alloc),
             subject: PostingList::new(alloc),
             predicate: PostingList::new(alloc),
+            answer: PostingList::new(alloc),
         }
     }
 
@@ -82,6 +84,7 @@ impl ByKind<PostingList> {
             Key::In(_, _) => self.into.push(place, whom),
             Key::Subject(_) => self.subject.push(place, whom),
             Key::Predicate(_) => self.predicate.push(place, whom),
+            Key::Answer(_, _) => self.answer.push(place, whom),
         }
     }
 
@@ -94,6 +97,7 @@ impl ByKind<PostingList> {
             into: self.into.in_order(alloc)?,
             subject: self.subject.in_order(alloc)?,
             predicate: self.predicate.in_order(alloc)?,
+            answer: self.answer.in_order(alloc)?,
         })
     }
 }

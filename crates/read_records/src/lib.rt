@@ -1,11 +1,11 @@
-//! Who read what: which keys of a graph were read for the target nodes of a shape or for a pair, and so whom
-//! an edit touches; and what is remembered of pairs until an edit touches them.
+//! Who read what: which parts of a graph, and which answers, were read for the target nodes of a shape or for
+//! a pair itself, and so whom an edit reaches; and what is remembered of pairs until an edit reaches them.
 //!
 //! | file | what it holds |
 //! |---|---|
 //! | `records.rt` | `Records`: what each reader has read; changes are staged, and made at once |
 //! | `reader.rt` | `Reader`: the target of a shape, or a pair |
-//! | `recall.rt` | `Recall`: the results of pairs, with what these were read from |
+//! | `recall.rt` | `Recall`: the results of pairs, with what was read for each itself |
 //! | `store.rt` | `Store`: for each reader a value beside its keys; `Records` is one with no value |
 //! | `noted.rt` | `Noted`: a value, and the keys that were read for it |
 //! | `notes.rt` | what is noted for each reader, and under which keys it stands for that |
@@ -13,6 +13,7 @@
 //! | `by_kind.rt` | postings for each kind of key |
 //! | `postings.rt` | the postings of one kind, as a tree |
 //! | `posting.rt` | `Posting`: the numbers of a key and of a reader |
+//! | `reached.rt` | searches along answers that were read for others |
 //! | `touched.rt` | the keys that triples touch |
 //! | `gathered.rt` | readings that are gathered, and then put in order at once |
 //!
@@ -27,6 +28,7 @@ mod noted;
 mod notes;
 mod posting;
 mod postings;
+mod reached;
 mod reader;
 mod readings;
 mod recall;

@@ -56,6 +56,10 @@ pub(crate) fn place_of(key: &Key) -> Place
             first: *p,
             second: 0,
         },
+        Key::Answer(shape, node) => Place {
+            first: *shape,
+            second: *node,
+        },
     }
 }
 

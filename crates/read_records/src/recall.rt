@@ -1,21 +1,25 @@
-ghost use Rattle.std.specs.Prelude.{◌≡◌, ◌++◌, [], ◌∷◌, IsSome, IfOk, OnOk, OnErr};
+ghost use Rattle.std.specs.Prelude.{◌≡◌, ◌↔◌, ◌++◌, [], ◌∷◌, Contains, IsSome, IfOk, OnOk, OnErr};
 ghost use Rattle.std.specs.List.{IsDistinct};
 ghost use Rattle.std.specs.Map.{keys_of, lookup};
 ghost use Rattle.std.specs.Option.{option_map};
 ghost use Rattle.shx_term.specs.InOrder.{Lists};
+ghost use Rattle.graph_view.specs.declared.key.Key.{Key};
 ghost use Rattle.comp_core.specs.declared.pair.Pair.{Pair};
 ghost use Rattle.comp_core.specs.Memo.{lent, remembered_of};
 ghost use Rattle.comp_core.specs.Pairs.{same_pair};
-ghost use Rattle.read_records.specs.Recall.{KeepsRecalled, KeepsSame, MasksAtMost, MasksReached};
+ghost use Rattle.read_records.specs.Recall.{IsReadInAll, IsReached, KeepsRecalled, KeepsSame};
+ghost use Rattle.read_records.specs.Recall.{MasksAtMost, MasksReached};
 ghost use Rattle.read_records.specs.Recall.{StagesAnswer, StagesSame, kept_count, kept_of, pair_cmp};
 ghost use Rattle.read_records.specs.Recall.{recalled};
 ghost use Rattle.read_records.specs.inner.Remembered.{as_remembered};
 
 use crate::Reader;
 use crate::noted::Noted;
+use crate::reached::{add_parts, reached_by};
 use crate::store::Store;
 use comp_core::{Memo, Pair, PairAnswer, Recalled, ResultRow, RowList};
 use graph_view::Reads;
+use indexmap::IndexSet;
 use shx_term::{Memory, Triple};
 use std::alloc::Global;
 use std::marker::Model;
@@ -23,9 +27,15 @@ use std::marker::Model;
 /// The results of pairs, and what these were read from. Of a pair that is remembered which is staged for it,
 /// and what is kept where nothing is; a mask is staged where nothing is to be remembered. Changes are staged,
 /// which takes all the memory that they need, and then made at once, or dropped.
-#[derive(Drop)]
 pub struct Recall {
     store: Store<RowList>,
+}
+
+// A derived drop is no call: each place where one ends would split into one path for each of its parts.
+impl Drop for Recall {
+    fn drop(self) {
+        let Recall { store: _store } = self;
+    }
 }
 
 impl Model for Recall {
@@ -93,32 +103,62 @@ impl Recall {
         self.store.pairs(alloc)
     }
 
-    /// Masks what is kept of each pair that was read from a key which the triple touches, beside what is
-    /// masked. What is staged stays. It takes four look-ups, and some more for each of these pairs. Where it
-    /// is refused, some of them may be masked.
+    /// Masks what is kept of each pair that was read from a key which the triple touches, or from the answer
+    /// of one that is masked, beside what is masked. What is staged stays. It takes four look-ups, and some
+    /// more for each of these pairs. Where it is refused, some of them may be masked.
     pub fn mask(&mut self, alloc: Global, t: &Triple) -> Result<(), Memory>
         ensures kept { KeepsSame self.old self.new }
         ensures only { MasksAtMost self.old self.new (t.now ∷ []) }
         ensures masked { OnOk result (MasksReached self.old self.new (t.now ∷ [])) }
     {
-        self.mask_change(alloc, &[*t], &[])
+        self.mask_change(alloc, &[*t], &[])?;
+        Ok(())
     }
 
-    /// Masks what is kept of each pair that was read from a key which one of the triples touches, beside what
-    /// is masked. What is staged stays. It sorts the keys that the triples touch, and takes a look-up for
-    /// each, and some more for each of these pairs. Where it is refused, some of them may be masked.
+    /// Masks what is kept of each pair that was read from a key which one of the triples touches, or from the
+    /// answer of one that is masked, beside what is masked; and gives these pairs. What is staged stays. It
+    /// sorts the keys that the triples touch, and takes a look-up for each, and some more for each of these
+    /// pairs. Where it is refused, some of them may be masked.
     pub fn mask_change(
         &mut self,
         alloc: Global,
         added: &[Triple],
         removed: &[Triple],
-    ) -> Result<(), Memory>
+    ) -> Result<IndexSet<Pair>, Memory>
         ensures kept { KeepsSame self.old self.new }
         ensures only { MasksAtMost self.old self.new (added.now ++ removed.now) }
         ensures masked { OnOk result (MasksReached self.old self.new (added.now ++ removed.now)) }
+        ensures reached { IfOk result (λ reached. (p : Pair)
+            → Contains reached.keys p ↔ IsReached self.old (added.now ++ removed.now) p) }
     {
-        let reached = self.store.reached_by(alloc, added, removed)?;
-        self.store.mask(&reached)
+        let reached = reached_by(alloc, &self.store, added, removed)?;
+        let mut readers = Vec::with_capacity(alloc, reached.len())?;
+        for pair in &reached {
+            readers.push(Reader::OfPair(*pair))?;
+        }
+        self.store.mask(&readers)?;
+        Ok(reached)
+    }
+
+    /// These keys, and with each answer among them what was read for it, in however many steps: the parts of
+    /// the graph alone. It takes time linear in what was read for all of these answers, each of which it
+    /// looks up once.
+    pub fn all_read(&self, alloc: Global, reads: &Reads) -> Result<Reads, Memory>
+        ensures { IfOk result (λ all. (key : Key)
+            → Contains all key ↔ IsReadInAll self.now reads.now key) }
+    {
+        let mut all = Reads::new(alloc);
+        let mut answers = IndexSet::new(alloc);
+        add_parts(reads, &mut answers, &mut all)?;
+        let mut at = 0;
+        while at < answers.as_slice().len() {
+            let pair = answers.as_slice()[at];
+            if let Some(found) = self.find(&pair) {
+                add_parts(found.reads, &mut answers, &mut all)?;
+            }
+            at += 1;
+        }
+        Ok(all)
     }
 
     /// Stages the answer of a pair, in the place of what is staged for it: it is remembered from now on. It

@@ -6,12 +6,14 @@ ghost use Rattle.std.specs.Ordering.{eq_by_cmp};
 ghost use Rattle.shx_term.specs.InOrder.{Lists};
 ghost use Rattle.read_records.specs.declared.reader.Reader.{Reader};
 ghost use Rattle.read_records.specs.Reader.{reader_cmp, same_reader};
-ghost use Rattle.read_records.specs.Records.{reads_of, IsTouched, IsTouchedByAny};
+ghost use Rattle.read_records.specs.Records.{reads_of, IsReachedBy, IsTouched};
 ghost use Rattle.read_records.specs.Records.{SameRecords, SameChanges, Stages, Commits};
 
 use crate::Reader;
 use crate::noted::Noted;
 use crate::store::Store;
+use crate::touched::touched_keys;
+use comp_core::Pair;
 use graph_view::Reads;
 use shx_term::{Memory, Triple};
 use std::alloc::Global;
@@ -21,9 +23,15 @@ use std::marker::Model;
 /// they need, and then made at once.
 ///
 /// A reader and its keys take 28 bytes for each key, and some 60 bytes beside.
-#[derive(Drop)]
 pub struct Records {
     store: Store<()>,
+}
+
+// A derived drop is no call: each place where one ends would split into one path for each of its parts.
+impl Drop for Records {
+    fn drop(self) {
+        let Records { store: _store } = self;
+    }
 }
 
 impl Model for Records {
@@ -79,22 +87,27 @@ impl Records {
     pub fn touched_by(&self, alloc: Global, t: &Triple) -> Result<Vec<Reader>, Memory>
         ensures { IfOk result (λ found. Lists reader_cmp (IsTouched self.now t.now) found.items) }
     {
-        self.touched_by_change(alloc, &[*t], &[])
+        self.touched_by_change(alloc, &[*t], &[], &[])
     }
 
-    /// The readers whose record has a key that one of the triples touches, each once and in the order of
-    /// `touched_by`. It sorts the keys that the triples touch, and takes a look-up for each, and one more for
-    /// each reader that it finds.
+    /// The readers whose record has a key that one of the triples touches, or the answer of one of these
+    /// pairs, each once and in the order of `touched_by`. It sorts the keys that the triples touch, and takes
+    /// a look-up for each, and for each of the pairs, and one more for each reader that it finds.
     pub fn touched_by_change(
         &self,
         alloc: Global,
         added: &[Triple],
         removed: &[Triple],
+        answers: &[Pair],
     ) -> Result<Vec<Reader>, Memory>
-        ensures { IfOk result (λ found.
-            Lists reader_cmp (IsTouchedByAny self.now (added.now ++ removed.now)) found.items) }
+        ensures { IfOk result (λ found. Lists reader_cmp
+            (IsReachedBy self.now (added.now ++ removed.now) answers.now) found.items) }
     {
-        self.store.reached_by(alloc, added, removed)
+        let mut keys = touched_keys(alloc, added, removed)?;
+        for pair in answers {
+            keys.push(pair.answer_key())?;
+        }
+        self.store.readers_of(alloc, &keys)
     }
 
     /// Stages what is to be recorded for a reader, in the place of what is staged for it. It takes all the

@@ -1,5 +1,5 @@
 //! What is kept for readers, found by reader and by key.
-ghost use Rattle.std.specs.Prelude.{◌≡◌, ◌↔◌, ◌⊎◌, ◌+◌, ◌++◌, [], ◌∷◌, length, filter, is_some};
+ghost use Rattle.std.specs.Prelude.{◌≡◌, ◌↔◌, ◌⊎◌, ◌+◌, [], ◌∷◌, length, filter, is_some};
 ghost use Rattle.std.specs.Prelude.{Contains, IsSome, IfOk, OnOk, OnErr};
 ghost use Rattle.std.specs.Bool.{OnTrue, OnFalse};
 ghost use Rattle.std.specs.Map.{values_of};
@@ -10,11 +10,10 @@ ghost use Rattle.read_records.specs.declared.reader.Reader.{Reader};
 ghost use Rattle.read_records.specs.declared.reader.Reader.TheVariants.{OfPair};
 ghost use Rattle.read_records.specs.Reader.{reader_cmp};
 ghost use Rattle.read_records.specs.Recall.{pair_cmp};
-ghost use Rattle.read_records.specs.Records.{IsTouchedByAny};
 ghost use Rattle.read_records.specs.Store.{MakesStaged, SameNotes, SameStaged, StagesFor};
 ghost use Rattle.read_records.specs.Store.{coming_for, kept_for};
 ghost use Rattle.read_records.specs.inner.Masks.{AreStaged, MasksAmong};
-ghost use Rattle.read_records.specs.inner.Notes.{ComesToSame, HasNoted, as_recorded};
+ghost use Rattle.read_records.specs.inner.Notes.{ComesToSame, HasNoted};
 
 use crate::Reader;
 use crate::noted::Noted;
@@ -22,10 +21,9 @@ use crate::notes::{
     Notes, enter_note, forget_note, gathered_from, has_noted, replace_note, vacate_place,
 };
 use crate::readings::Readings;
-use crate::touched::touched_keys;
 use comp_core::Pair;
 use graph_view::Key;
-use shx_term::{Memory, Triple};
+use shx_term::Memory;
 use std::alloc::{AllocError, AllocFailed, Global};
 use std::collections::BTreeMap;
 use std::marker::Model;
@@ -123,25 +121,10 @@ impl<T: Drop> Store<T> {
         Ok(pairs)
     }
 
-    /// The readers for which something is kept that was found by a key that one of the triples touches, each
-    /// once: targets by the numbers of their shapes, and then pairs by the numbers of shape and node. It
-    /// sorts the keys that the triples touch, and takes a look-up for each, and one more for each reader that
-    /// it finds.
-    pub(crate) fn reached_by(
-        &self,
-        alloc: Global,
-        added: &[Triple],
-        removed: &[Triple],
-    ) -> Result<Vec<Reader>, Memory>
-        ensures { IfOk result (λ found. Lists reader_cmp
-            (IsTouchedByAny (as_recorded self.now) (added.now ++ removed.now)) found.items) }
-    {
-        let keys = touched_keys(alloc, added, removed)?;
-        self.readers_of(alloc, &keys)
-    }
-
-    /// The readers that have read one of these keys, in order and each once.
-    fn readers_of(&self, alloc: Global, keys: &[Key]) -> Result<Vec<Reader>, Memory>
+    /// The readers for which something is kept that was read from one of these keys, each once: targets by
+    /// the numbers of their shapes, and then pairs by the numbers of shape and node. It takes a look-up for
+    /// each key, and one more for each reader that it finds.
+    pub(crate) fn readers_of(&self, alloc: Global, keys: &[Key]) -> Result<Vec<Reader>, Memory>
         ensures { IfOk result (λ found. Lists reader_cmp
             (λ r. (key : Key) × (Contains keys.now key × HasNoted self.now.kept r key)) found.items) }
     {

@@ -41,9 +41,9 @@ pub fn slice(
     let Some(pair) = script.engine.pair_of(shape, node) else {
         return Ok(refuse_line(script, NO_PAIR, None));
     };
-    let Some(reads) = script.engine.record(&pair) else {
+    let Some(reads) = script.engine.reads(alloc, &pair)? else {
         unreachable!()
     };
-    let slice = slice_of(alloc, script.engine.view(), reads)?;
+    let slice = slice_of(alloc, script.engine.view(), &reads)?;
     Ok(said(script, Reply::Slice(slice)))
 }

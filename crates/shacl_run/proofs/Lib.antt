@@ -11,6 +11,7 @@ pub mod LoadedLinesLemmas
 pub mod MissingLemmas
 pub mod NestedLemmas
 pub mod NoPatternLemmas
+pub mod NodeRowLemmas
 pub mod OpenedLemmas
 pub mod PatternEndLemmas
 pub mod PrepareLemmas

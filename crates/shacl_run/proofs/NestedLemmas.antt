@@ -12,7 +12,9 @@ use Rattle.std.proofs.lemmas.List.Elements.{Contains-append_cases, Contains-appe
 use Rattle.std.proofs.lemmas.List.Elements.{Contains-append_right}
 use Rattle.std.proofs.lemmas.Map.Made.{length-from_keys}
 use Rattle.indexmap.specs.IndexMap.{IsEmpty}
+use Rattle.shx_term.specs.Members.{SameMembers}
 use Rattle.shx_term.proofs.MemberLemmas.{Contains-test, none_in_empty}
+use Rattle.shx_term.proofs.SetLemmas.{SameMembers-flat_map, SameMembers-itself}
 use Rattle.graph_view.specs.declared.key.Key.{Key}
 use Rattle.graph_view.specs.Graph.{Graph}
 use Rattle.comp_core.specs.Memo.{Remembered, remembered_of}
@@ -87,6 +89,22 @@ module _ {N : Type 0} (has : N → List Key → Type 0) (shapes : List PlanShape
             (Brings-then old mid new (before ++ behind) m n k
             (Brings-more (before ++ behind) (λ d c. Contains-append_left before behind d c) first.brings)
             (Brings-more (before ++ behind) (λ d c. Contains-append_right before behind d c) later.brings));
+      }
+
+  -- in whatever order they come, and however often
+  pub BringsNested-same : (old new : Pair → Option (Remembered N)) (ps qs : List Pair) (m n : ℕ)
+      → SameMembers ps qs → BringsNested has shapes g old new ps m n
+      → BringsNested has shapes g old new qs m n
+  BringsNested-same old new ps qs m n same done =
+      let nested : SameMembers (nested_of ps) (nested_of qs) =
+      SameMembers-flat_map (nested_in shapes g) (nested_in shapes g) ps qs same
+      (λ p c. SameMembers-itself (nested_in shapes g p)) in
+      record {
+        remembers = record {
+          recall = done.remembers.recall;
+          nested = record { each = λ d c. done.remembers.nested.each d ((nested.each d).1 c) };
+        };
+        brings = Brings-more (nested_of qs) (λ d c. (nested.each d).0 c) done.brings;
       }
 
   -- where nothing was remembered before, exactly the nested pairs were counted

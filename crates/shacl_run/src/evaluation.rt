@@ -1,5 +1,6 @@
 //! All results of a graph.
 ghost use Rattle.std.specs.Prelude.{◌≡◌, ◌+◌, ◌<◌, ◌++◌, flat_map, length, map, IfOk, OnOk};
+ghost use Rattle.graph_view.specs.Graph.{HasTerms};
 ghost use Rattle.graph_view.specs.Valid.{IsValidView};
 ghost use Rattle.shx_term.specs.declared.limits.Limits.{Limits as LimitsOf};
 ghost use Rattle.text_output.specs.declared.format.Format.{Format};
@@ -16,13 +17,15 @@ ghost use Rattle.script_run.specs.Script.{first_work};
 ghost use Rattle.script_run.specs.ScriptState.{ScriptState};
 ghost use Rattle.script_run.specs.Work.{and_then, evaluating};
 ghost use Rattle.script_run.specs.Stored.{IsValidation, Stands};
+ghost use Rattle.shacl_run.specs.inner.NodeRows.{AreRowsAt};
 
+use crate::node_rows::{NodeRows, add_in_term_order, keep_rows};
 use comp_core::{ResultRow, ShapeNo};
 use edit_engine::same_graphs_answer_alike;
 use graph_view::{GraphView, Notes, Unnoted};
 use script_run::Validation;
-use shape_eval::{Answers, Known, Plan, eval_pair, eval_target};
-use shx_term::{Memory, Steps};
+use shape_eval::{Answers, Known, Plan, eval_pair, eval_target_by_number};
+use shx_term::{Id, Memory, Steps};
 use std::alloc::Global;
 use std::sync::ledger::Ledger;
 
@@ -84,7 +87,8 @@ fn evaluate<V: GraphView, K: Ledger, L: Ledger>(
     Ok(rows)
 }
 
-// Adds the results of a shape at each of its target nodes.
+// Adds the results of a shape at each of its target nodes, by the nodes in term order. It evaluates them in
+// the order of their numbers, and sorts those that have results.
 fn add_shape<'p, V: GraphView, K: Ledger, L: Ledger>(
     alloc: Global,
     view: &V,
@@ -113,12 +117,48 @@ fn add_shape<'p, V: GraphView, K: Ledger, L: Ledger>(
         (map (at_shape shape) (target_nodes (plan_of plan.now).shapes (V.graph view.now) shape))
         nested.old nested.new) }
 {
-    let nodes = eval_target(alloc, view, plan, shape, &mut Unnoted::new(alloc))?;
-    for node in &nodes {
-        let mut found = eval_pair(
+    let nodes = eval_target_by_number(alloc, view, plan, shape, &mut Unnoted::new(alloc))?;
+    let found = rows_at(
+        alloc, view, plan, known, shape, &nodes, answers, nested, steps,
+    )?;
+    add_in_term_order(view.pool(), found, rows)?;
+    Ok(())
+}
+
+// The results of a shape at some nodes, by node, without the nodes that have none.
+fn rows_at<'p, V: GraphView, K: Ledger, L: Ledger>(
+    alloc: Global,
+    view: &V,
+    plan: &'p Plan,
+    known: &mut Known<'p>,
+    shape: ShapeNo,
+    nodes: &[Id],
+    answers: &mut Answers<Unnoted>,
+    nested: &mut Steps<K>,
+    steps: &mut Steps<L>,
+) -> Result<Vec<NodeRows>, Memory>
+    requires valid { IsValidView (V.graph view.now) }
+    requires plan { IsKnownPlan (V.graph view.now).terms (plan_of plan.now).shapes }
+    requires shape { shape < length (plan_of plan.now).shapes }
+    requires nodes { HasTerms (V.graph view.now) nodes.now }
+    requires known { IsKnownOf known.old (V.graph view.now) }
+    requires recall { IsRecallOf ⟦<Unnoted as Notes>⟧.has (plan_of plan.now).shapes (V.graph view.now)
+        (answered answers.old) }
+    ensures known { IsKnownOf known.new (V.graph view.now) }
+    ensures rows { IfOk result (λ found. AreRowsAt
+        (λ node. results (plan_of plan.now).shapes (V.graph view.now) (at_shape shape node))
+        nodes.now found.items) }
+    ensures steps { OnOk result (steps.new ≡ steps.old + length nodes.now) }
+    ensures nested { OnOk result (BringsNested ⟦<Unnoted as Notes>⟧.has (plan_of plan.now).shapes
+        (V.graph view.now) (answered answers.old) (answered answers.new)
+        (map (at_shape shape) nodes.now) nested.old nested.new) }
+{
+    let mut found = Vec::new(alloc);
+    for node in nodes {
+        let answer = eval_pair(
             alloc, view, plan, known, shape, *node, answers, nested, steps,
         )?;
-        rows.append(&mut found.rows)?;
+        keep_rows(&mut found, *node, answer.rows)?;
     }
-    Ok(())
+    Ok(found)
 }

@@ -10,6 +10,7 @@
 //! | `open_validation.rt` | from the data text to a validation |
 //! | `run_validation.rt` | the report of a validation, and its script where there is one |
 //! | `evaluation.rt` | all results of a graph, where there is none |
+//! | `node_rows.rt` | results by node, and how they come into term order |
 //! | `serve.rt`, `take_line.rt` | a script line by line: taken, and answered |
 //!
 //! It stands on `shape_text` for what texts state and what shapes come to, on `script_run` for what each line
@@ -20,6 +21,7 @@
 mod complete;
 mod ending;
 mod evaluation;
+mod node_rows;
 mod open_validation;
 mod prepare;
 mod run_validation;

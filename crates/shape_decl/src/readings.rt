@@ -5,17 +5,37 @@ use indexmap::{IndexMap, IndexSet};
 use shx_term::Id;
 
 /// What was read of nodes, by their numbers: what they are in lists, and the lists that they head.
-#[derive(Drop)]
 pub(crate) struct Readings {
     pub(crate) cells: IndexMap<Id, Cell>,
     pub(crate) lists: IndexMap<Id, Option<IdList>>,
 }
 
+// A derived drop is no call: each place where one ends would split into one path for each of its parts.
+impl Drop for Readings {
+    fn drop(self) {
+        let Readings {
+            cells: _cells,
+            lists: _lists,
+        } = self;
+    }
+}
+
 /// The same, with the paths that were read, and the instances of the two classes that declarations tell of.
-#[derive(Drop)]
 pub(crate) struct Known {
     pub(crate) readings: Readings,
     pub(crate) paths: IndexMap<Id, PathReading>,
     pub(crate) node_shapes: IndexSet<Id>,
     pub(crate) classes: IndexSet<Id>,
+}
+
+// A derived drop is no call: each place where one ends would split into one path for each of its parts.
+impl Drop for Known {
+    fn drop(self) {
+        let Known {
+            readings: _readings,
+            paths: _paths,
+            node_shapes: _node_shapes,
+            classes: _classes,
+        } = self;
+    }
 }

@@ -21,6 +21,7 @@ use Rattle.shape_eval.specs.declared.constraint.Constraint.{Constraint}
 use Rattle.shape_eval.specs.declared.shape.PlanShape.{PlanShape}
 use Rattle.shape_eval.specs.Constraint.{constraint_asks}
 use Rattle.shape_eval.specs.Nested.{asked_at_node, asked_pairs, is_evaluated_at, nested_in, pairs_below}
+use Rattle.shape_eval.specs.Own.{asked_key, own_reads}
 use Rattle.shape_eval.specs.Plan.{IsKnownPlan, RefersLower}
 use Rattle.shape_eval.specs.Recalled.{AreRecalled, AreRight, Brings, IsRecallOf, IsRecalled}
 use Rattle.shape_eval.specs.Results.{at_of, hits_of_each, pair_reads, reads_of_each, results}
@@ -32,7 +33,7 @@ use Rattle.shape_eval.proofs.LevelLemmas.{Agree-itself, asked_below, levels, num
 use Rattle.shape_eval.proofs.NestedLemmas.{below_asked, below_evaluated, nested_is, nested_unfolds}
 use Rattle.shape_eval.proofs.RecalledLemmas.{Brings-more, Brings-one, Brings-then, by_pair, recalled_here}
 use Rattle.shape_eval.proofs.ShapeLemmas.{PathsAgree, unless_alike}
-use Rattle.shape_eval.proofs.ToldLemmas.{keys_told, told_same}
+use Rattle.shape_eval.proofs.ToldLemmas.{told_same}
 
 -- ---- the answer of a pair
 
@@ -218,18 +219,15 @@ off_nests_none asks shapes lower g p sh at off =
 
 -- ---- the answer of a pair that is passed over, and of any other
 
--- what is noted after nothing was is all that is there
-noted : {N : Type 0} {notes : N → N → List Key → Type 0} → IsNoting notes → (has : N → List Key → Type 0)
-    → ((a b : N) (keys more : List Key) → has a keys → notes a b more → has b (keys ++ more)) → (a b : N)
-    → has a [] → (keys all : List Key) → notes a b keys → SameMembers keys all → has b all
-noted laws has has_more a b none keys all step same = has_more a b [] all none (laws.same keys all same step)
-
 module _ (follows : AnswersFollow) (shapes : List PlanShape) (lower : RefersLower shapes) (g : Graph)
     (known : AllKnown g) (plan : IsKnownPlan g.terms shapes) (p : Pair) (sh : PlanShape)
     (e : slice_get shapes p.shape ≡ Some sh) (inside : p.node < length g.terms) {N : Type 0}
-    {notes : N → N → List Key → Type 0} (laws : IsNoting notes) (has : N → List Key → Type 0)
-    (has_more : (a b : N) (keys more : List Key) → has a keys → notes a b more → has b (keys ++ more))
+    (has : N → List Key → Type 0)
   where
+    -- what is read for the pair itself is what its shape reads
+    own_is : own_reads shapes g p ≡ shape_reads g (asked_key shapes) (Some sh) p
+    own_is = ap (λ o. shape_reads g (asked_key shapes) o p) e
+
     -- a deactivated shape
     pub off_answer : sh.deactivated ≡ true → (answer : PairAnswer N) → answer.rows.items ≡ []
         → has answer.reads [] → IsAnswer has shapes g p answer
@@ -240,34 +238,38 @@ module _ (follows : AnswersFollow) (shapes : List PlanShape) (lower : RefersLowe
         let cs = sh.constraints.items in
         let rows : shape_results g (results shapes g) (Some sh) p ≡ [] =
         ap (λ b. if b then [] else hits_of_each g (results shapes g) cs (at_of p) vs) off in
-        let reads : shape_reads g (pair_reads shapes g) (Some sh) p ≡ [] =
+        let reads : shape_reads g (asked_key shapes) (Some sh) p ≡ [] =
         ap (λ b. if b then [] else value_reads g sh.path p.node
-        ++ reads_of_each g (pair_reads shapes g) cs (at_of p) vs) off in
+        ++ reads_of_each g (asked_key shapes) cs (at_of p) vs) off in
         record {
           rows = no_rows ∙ sym rows ∙ found.rows;
-          reads = noted laws has has_more answer.reads answer.reads no_reads [] (pair_reads shapes g p)
-              (laws.none answer.reads)
-              (subst (λ ks. SameMembers ks (pair_reads shapes g p)) reads found.reads);
+          reads = subst (has answer.reads) (sym (own_is ∙ reads)) no_reads;
         }
 
     -- a shape over answers for all that it asks; ks and vs are its constraints and value nodes, as they are
     -- read, and what was noted may be packed
-    pub on_answer : (t : Pair → Option (Remembered N)) → AreRight has shapes g t → sh.deactivated ≡ false
+    pub on_answer : {notes : N → N → List Key → Type 0} → IsNoting notes
+        → ((a b : N) (keys more : List Key) → has a keys → notes a b more → has b (keys ++ more))
+        → (t : Pair → Option (Remembered N)) → AreRight has shapes g t → sh.deactivated ≡ false
         → All (IsHeld shapes t) (asked_pairs sh.constraints.items (value_nodes g sh.path p.node))
         → (ks : List Constraint) → ks ≡ sh.constraints.items → (vs us : List ℕ) → vs ≡ us
         → us ≡ value_nodes g sh.path p.node → (answer : PairAnswer N)
         → answer.rows.items ≡ hits_of_each g (rows_told shapes t) ks (at_of p) vs
         → (old mid new : N) → has old [] → notes old mid (value_reads g sh.path p.node)
-        → notes mid new (reads_of_each g (keys_told shapes g t) ks (at_of p) vs)
+        → notes mid new (reads_of_each g (asked_key shapes) ks (at_of p) vs)
         → ((keys : List Key) → has new keys → has answer.reads keys) → IsAnswer has shapes g p answer
-    on_answer t right on held ks stated vs us found values answer rows old mid new none first second packed =
+    on_answer {notes} laws has_more t right on held ks stated vs us found values answer rows old mid new none
+        first second packed =
         let cs = sh.constraints.items in
         let ws = value_nodes g sh.path p.node in
         let m = rows_told shapes t in
-        let r = keys_told shapes g t in
-        let follow = follows shapes lower g known plan p sh e inside m r
-        (λ d c. told_same has shapes g t right d
-        (each_of_All (IsHeld shapes t) (asked_pairs cs ws) held d c)) in
+        let r = asked_key shapes in
+        let follow = follows shapes lower g known plan p sh e inside m (pair_reads shapes g)
+        (λ d c. record {
+          rows = told_same shapes t d has g right
+              (each_of_All (IsHeld shapes t) (asked_pairs cs ws) held d c);
+          reads = SameMembers-itself (pair_reads shapes g d);
+        }) in
         let all_rows : shape_results g m (Some sh) p ≡ hits_of_each g m cs (at_of p) ws =
         ap (λ b. if b then [] else hits_of_each g m cs (at_of p) ws) on in
         let reads = value_reads g sh.path p.node in
@@ -280,8 +282,7 @@ module _ (follows : AnswersFollow) (shapes : List PlanShape) (lower : RefersLowe
         record {
           rows = rows ∙ ap (λ ds. hits_of_each g m ds (at_of p) vs) stated
               ∙ ap (hits_of_each g m cs (at_of p)) (found ∙ values) ∙ sym all_rows ∙ follow.rows;
-          reads = packed (pair_reads shapes g p)
-              (noted laws has has_more old new none (reads ++ more) (pair_reads shapes g p)
-              (laws.then reads more first added)
-              (subst (λ keys. SameMembers keys (pair_reads shapes g p)) all_reads follow.reads));
+          reads = packed (own_reads shapes g p)
+              (subst (has new) (sym (own_is ∙ all_reads))
+              (has_more old new [] (reads ++ more) none (laws.then reads more first added)));
         }

@@ -4,6 +4,7 @@ use Rattle.std.specs.Prelude.{Contains, flat_map}
 use Rattle.std.proofs.Common.{refl, sym, ◌∙◌, subst, arith, inl, inr}
 use Rattle.std.proofs.lemmas.Bool.{cases_lt}
 use Rattle.std.proofs.lemmas.Option.{get_or_from_slice_get, slice_get_past, slice_get_within}
+use Rattle.shx_term.specs.Members.{SameMembers}
 use Rattle.shx_term.proofs.MemberLemmas.{Contains-at, Contains-flat_map, each_of_All}
 use Rattle.shx_term.proofs.SetLemmas.{SameMembers-itself, SameMembers-is}
 use Rattle.graph_view.specs.declared.key.Key.{Key}
@@ -18,7 +19,7 @@ use Rattle.shape_eval.specs.Constraint.{constraint_asks, constraint_numbers, sha
 use Rattle.shape_eval.specs.Laws.{IsSamePair}
 use Rattle.shape_eval.specs.Plan.{HasTermsOf, IsKnownPlan, RefersLower, names_of}
 use Rattle.shape_eval.specs.Results.{pair_reads, reads_within, results_within}
-use Rattle.shape_eval.specs.Results.{value_nodes}
+use Rattle.shape_eval.specs.Results.{shape_reads, value_nodes}
 use Rattle.shape_eval.proofs.AskLemmas.{asked_is_named}
 use Rattle.shape_eval.proofs.ConstraintLemmas.{AgreesAt, AsksValuesAt}
 use Rattle.shape_eval.proofs.NumberLemmas.{all_that_matter}
@@ -104,3 +105,17 @@ module _ (paths_agree : PathsAgree) (agrees : (c : Constraint) → AgreesAt c)
         (reads_within l shapes g) p
     levels g known plan k l p a b inside =
         pair_alike k l g g known known plan p a b inside (Agree-itself g)
+
+    -- what is read for a pair is what its shape reads, by what is read for others
+    pub reads_unfold : (g : Graph) → AllKnown g → IsKnownPlan g.terms shapes → (p : Pair)
+        → p.node < length g.terms
+        → SameMembers (pair_reads shapes g p)
+        (shape_reads g (pair_reads shapes g) (slice_get shapes p.shape) p)
+    reads_unfold g known plan p inside =
+        let n = length shapes in
+        elim (cases_lt p.shape n) [
+          | inl within ↦ (levels g known plan n (suc n) p within (omega (arith, within)) inside).reads
+          | inr past ↦
+              SameMembers-is (pair_reads shapes g p) (reads_within (suc n) shapes g p)
+              ((none_past n g p past).1 ∙ sym (none_past (suc n) g p past).1)
+        ]

@@ -1,4 +1,5 @@
 pub mod AnswerLemmas
+pub mod AscendingLemmas
 pub mod AskLemmas
 pub mod ConstraintLemmas
 pub mod EditLemmas
@@ -8,6 +9,7 @@ pub mod KnownRowLemmas
 pub mod LevelLemmas
 pub mod NestedLemmas
 pub mod NumberLemmas
+pub mod OwnLemmas
 pub mod PartLemmas
 pub mod PlaceLemmas
 pub mod RecalledLemmas

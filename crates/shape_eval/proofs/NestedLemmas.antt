@@ -13,11 +13,8 @@ use Rattle.graph_view.specs.declared.key.Key.{Key}
 use Rattle.graph_view.specs.Agree.{Agree}
 use Rattle.graph_view.specs.Graph.{Graph, AllKnown}
 use Rattle.graph_view.proofs.AgreeLemmas.{Agree-fewer}
-use Rattle.comp_core.specs.declared.pair.At.{At}
 use Rattle.comp_core.specs.declared.pair.Pair.{Pair}
-use Rattle.comp_core.specs.Asking.{asked_keys, pairs_asked, pairs_at}
 use Rattle.shape_eval.specs.declared.constraint.Constraint.{Constraint}
-use Rattle.shape_eval.specs.declared.constraint.Constraint.TheVariants as any
 use Rattle.shape_eval.specs.declared.shape.PlanShape.{PlanShape}
 use Rattle.shape_eval.specs.Constraint.{constraint_asks, constraint_reads}
 use Rattle.shape_eval.specs.Laws.{IsNestedPair}
@@ -28,58 +25,8 @@ use Rattle.shape_eval.specs.Results.{at_of, pair_reads, reads_of_each, results, 
 use Rattle.shape_eval.specs.Results.{value_reads}
 use Rattle.shape_eval.specs.inner.Answers.{AnswersFollow, AsksBelow}
 use Rattle.shape_eval.proofs.ConstraintLemmas.{AgreesAt}
+use Rattle.shape_eval.proofs.OwnLemmas.{constraint_adds}
 use Rattle.shape_eval.proofs.ShapeLemmas.{PathsAgree, values_known, values_same}
-
--- ---- what a constraint asks is read for it
-
-read_of_pairs : (r : Pair → List Key) (shapes vs : List ℕ) (d : Pair) → Contains (pairs_asked shapes vs) d
-    → (key : Key) → Contains (r d) key → Contains (asked_keys r shapes vs) key
-read_of_pairs r shapes vs d asked key read =
-    let at = Contains-from_flat_map (pairs_at shapes) vs d asked in
-    Contains-flat_map (λ v. flat_map r (pairs_at shapes v)) vs at.0 key at.1
-    (Contains-flat_map r (pairs_at shapes at.0) d key at.2 read)
-
--- no component leaves out what was read for a pair that it asks
-abbrev pub ReadsWhatItAsks : Constraint → Type 0
-ReadsWhatItAsks c =
-    (g : Graph) (r : Pair → List Key) (at : At) (vs : List ℕ) (d : Pair) → Contains (constraint_asks c vs) d
-    → (key : Key) → Contains (r d) key → Contains (constraint_reads c g r at vs) key
-
-pub asked_is_read : (c : Constraint) → ReadsWhatItAsks c
-asked_is_read (any.Class c) g r at vs d asked key read = absurd (none_in_empty d asked)
-asked_is_read (any.Datatype c) g r at vs d asked key read = absurd (none_in_empty d asked)
-asked_is_read (any.NodeKind c) g r at vs d asked key read = absurd (none_in_empty d asked)
-asked_is_read (any.MinCount c) g r at vs d asked key read = absurd (none_in_empty d asked)
-asked_is_read (any.MaxCount c) g r at vs d asked key read = absurd (none_in_empty d asked)
-asked_is_read (any.MinExclusive c) g r at vs d asked key read = absurd (none_in_empty d asked)
-asked_is_read (any.MinInclusive c) g r at vs d asked key read = absurd (none_in_empty d asked)
-asked_is_read (any.MaxExclusive c) g r at vs d asked key read = absurd (none_in_empty d asked)
-asked_is_read (any.MaxInclusive c) g r at vs d asked key read = absurd (none_in_empty d asked)
-asked_is_read (any.MinLength c) g r at vs d asked key read = absurd (none_in_empty d asked)
-asked_is_read (any.MaxLength c) g r at vs d asked key read = absurd (none_in_empty d asked)
-asked_is_read (any.Pattern c) g r at vs d asked key read = absurd (none_in_empty d asked)
-asked_is_read (any.LanguageIn c) g r at vs d asked key read = absurd (none_in_empty d asked)
-asked_is_read (any.UniqueLang c) g r at vs d asked key read = absurd (none_in_empty d asked)
-asked_is_read (any.Equals c) g r at vs d asked key read = absurd (none_in_empty d asked)
-asked_is_read (any.Disjoint c) g r at vs d asked key read = absurd (none_in_empty d asked)
-asked_is_read (any.LessThan c) g r at vs d asked key read = absurd (none_in_empty d asked)
-asked_is_read (any.LessThanOrEquals c) g r at vs d asked key read = absurd (none_in_empty d asked)
-asked_is_read (any.Not c) g r at vs d asked key read =
-    read_of_pairs r (c.shape ∷ []) vs d asked key read
-asked_is_read (any.And c) g r at vs d asked key read = read_of_pairs r c.shapes.items vs d asked key read
-asked_is_read (any.Or c) g r at vs d asked key read = read_of_pairs r c.shapes.items vs d asked key read
-asked_is_read (any.Xone c) g r at vs d asked key read = read_of_pairs r c.shapes.items vs d asked key read
-asked_is_read (any.Node c) g r at vs d asked key read =
-    read_of_pairs r (c.shape ∷ []) vs d asked key read
-asked_is_read (any.Property c) g r at vs d asked key read =
-    read_of_pairs r (c.shape ∷ []) vs d asked key read
-asked_is_read (any.QualifiedMinCount c) g r at vs d asked key read =
-    read_of_pairs r (c.shape ∷ c.siblings.items) vs d asked key read
-asked_is_read (any.QualifiedMaxCount c) g r at vs d asked key read =
-    read_of_pairs r (c.shape ∷ c.siblings.items) vs d asked key read
-asked_is_read (any.Closed c) g r at vs d asked key read = absurd (none_in_empty d asked)
-asked_is_read (any.HasValue c) g r at vs d asked key read = absurd (none_in_empty d asked)
-asked_is_read (any.In c) g r at vs d asked key read = absurd (none_in_empty d asked)
 
 -- ---- the pairs right below a pair
 
@@ -254,7 +201,8 @@ module _ (follows : AnswersFollow) (asks : AsksBelow) (shapes : List PlanShape) 
       read_for_pair p is.shape is.at is.on inside key
       (Contains-append_right (value_reads g is.shape.path p.node) (constraint_keys p is.shape) key
       (Contains-flat_map (λ b. constraint_reads b g r (at_of p) vs) cs one.0 key one.1
-      (asked_is_read one.0 g r (at_of p) vs d one.2 key read)))
+      (((constraint_adds one.0 g r (at_of p) vs).each key).1
+      (inr (Contains-flat_map r (constraint_asks one.0 vs) d key one.2 read)))))
 
   pub nested_read : (k : ℕ) (p : Pair) → p.node < length g.terms → (d : Pair)
       → Contains (nested_within k shapes g p) d → (key : Key) → Contains (pair_reads shapes g d) key

@@ -1,19 +1,23 @@
 -- What is true of results and targets, over any graphs.
-use Rattle.std.specs.Prelude.{◌≡◌, ℕ, ◌<◌, true, List, ◌∷◌, flat_map, length, All, Contains, IfSome}
+use Rattle.std.specs.Prelude.{◌≡◌, ℕ, ◌<◌, true, false, List, ◌∷◌, flat_map, length, All, Contains, IfSome}
+use Rattle.std.specs.Prelude.{◌↔◌, ◌⊎◌}
 use Rattle.shx_term.specs.declared.term.Term.{Term}
 use Rattle.shx_term.specs.Members.{SameMembers}
 use Rattle.shx_term.specs.Vocabulary.{HasVocabulary}
 use Rattle.graph_view.specs.declared.key.Key.{Key}
-use Rattle.graph_view.specs.declared.key.Key.TheVariants.{In, Out, Predicate, Subject}
+use Rattle.graph_view.specs.declared.key.Key.TheVariants.{Answer, In, Out, Predicate, Subject}
 use Rattle.graph_view.specs.Agree.{Agree}
 use Rattle.graph_view.specs.Graph.{Graph, AllKnown}
+use Rattle.graph_view.specs.Key.{is_answer}
 use Rattle.comp_core.specs.declared.pair.Pair.{Pair}
 use Rattle.comp_core.specs.declared.detail.DetailRow.{DetailRow}
 use Rattle.comp_core.specs.declared.row.ResultRow.{ResultRow}
 use Rattle.comp_core.specs.Laws.{SameAnswers}
+use Rattle.comp_core.specs.Pairs.{answer_key}
 use Rattle.comp_core.specs.Rows.{detail_of}
 use Rattle.shape_eval.specs.declared.shape.PlanShape.{PlanShape}
 use Rattle.shape_eval.specs.Nested.{is_evaluated_at, nested_in, pairs_below}
+use Rattle.shape_eval.specs.Own.{own_reads}
 use Rattle.shape_eval.specs.Plan.{IsKnownPlan, RefersLower}
 use Rattle.shape_eval.specs.Results.{pair_reads, reads_within, results, results_within}
 use Rattle.shape_eval.specs.Targets.{target_nodes, target_reads}
@@ -89,6 +93,35 @@ NestedAreBelow =
     (shapes : List PlanShape) → RefersLower shapes → (g : Graph) (p : Pair)
     → nested_in shapes g p ≡ flat_map (λ d. d ∷ nested_in shapes g d) (pairs_below shapes g p)
 
+-- ---- what is read for a pair itself
+
+-- a part of the graph is read for a pair where it is read for the pair itself, or for one right below
+pub record IsReadThrough (shapes : List PlanShape) (g : Graph) (p : Pair) (key : Key) : Type 0 where
+  pub below : Pair
+  pub stands : Contains (pairs_below shapes g p) below
+  pub read : Contains (pair_reads shapes g below) key
+
+abbrev pub ReadsAreOwnOrBelow : Type 0
+ReadsAreOwnOrBelow =
+    (shapes : List PlanShape) → RefersLower shapes → (g : Graph) → AllKnown g → IsKnownPlan g.terms shapes
+    → (p : Pair) → p.node < length g.terms → (key : Key)
+    → Contains (pair_reads shapes g p) key
+    ↔ ((Contains (own_reads shapes g p) key × (is_answer key ≡ false)) ⊎ IsReadThrough shapes g p key)
+
+-- and exactly of the pairs right below what was found of them is read
+abbrev pub AnswersReadAreBelow : Type 0
+AnswersReadAreBelow =
+    (shapes : List PlanShape) (g : Graph) (p d : Pair)
+    → Contains (own_reads shapes g p) (answer_key d) ↔ Contains (pairs_below shapes g p) d
+
+-- nothing but that matters to what is read for the pair itself
+abbrev pub OwnReadsDependOnThemselves : Type 0
+OwnReadsDependOnThemselves =
+    (shapes : List PlanShape) → RefersLower shapes → (g h : Graph) → AllKnown g → AllKnown h
+    → IsKnownPlan g.terms shapes → (p : Pair) → p.node < length g.terms
+    → Agree g h (Contains (own_reads shapes g p))
+    → SameMembers (own_reads shapes g p) (own_reads shapes h p)
+
 -- ---- the numbers in what is found and read
 
 -- the numbers in what was found have terms, and its shape is one of so many
@@ -103,12 +136,13 @@ pub record IsKnownRow (terms : List Term) (count : ℕ) (row : ResultRow) : Type
   pub found : IsKnownFinding terms count (detail_of row)
   pub details : All (IsKnownFinding terms count) row.details
 
--- the numbers in a key have terms
+-- the key is of a part of the graph, and its numbers have terms
 abbrev pub IsKnownKey : List Term → Key → Type 0
 IsKnownKey terms (Out s p) = (s < length terms) × (p < length terms)
 IsKnownKey terms (In p o) = (p < length terms) × (o < length terms)
 IsKnownKey terms (Subject s) = s < length terms
 IsKnownKey terms (Predicate p) = p < length terms
+IsKnownKey terms (Answer shape node) = ⊥
 
 -- where the node of a pair has a term, the numbers in its results do, and their shapes are of the plan
 abbrev pub ResultsHaveTerms : Type 0

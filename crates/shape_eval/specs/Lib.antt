@@ -4,6 +4,7 @@ pub mod Content
 pub mod Known
 pub mod Laws
 pub mod Nested
+pub mod Own
 pub mod Plan
 pub mod Planned
 pub mod Recalled

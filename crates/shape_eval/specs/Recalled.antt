@@ -10,7 +10,8 @@ use Rattle.comp_core.specs.declared.pair.Pair.{Pair}
 use Rattle.comp_core.specs.Pairs.{same_pair}
 use Rattle.shape_eval.specs.declared.shape.PlanShape.{PlanShape}
 use Rattle.shape_eval.specs.Nested.{nested_in}
-use Rattle.shape_eval.specs.Results.{pair_reads, results}
+use Rattle.shape_eval.specs.Own.{own_reads}
+use Rattle.shape_eval.specs.Results.{results}
 
 module _ {N : Type 0} where
   -- something is remembered of the pair
@@ -21,7 +22,7 @@ module _ {N : Type 0} where
   pub record IsRightOf (has : N → List Key → Type 0) (shapes : List PlanShape) (g : Graph) (p : Pair)
       (answer : Remembered N) : Type 0 where
     pub rows : answer.rows ≡ results shapes g p
-    pub reads : has answer.reads (pair_reads shapes g p)
+    pub reads : has answer.reads (own_reads shapes g p)
     pub node : p.node < length g.terms
 
   -- of each pair of which something is

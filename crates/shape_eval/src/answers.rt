@@ -12,9 +12,15 @@ use shx_term::Memory;
 use std::alloc::Global;
 
 /// The answers of some pairs, found by hash. Nothing is taken back of what it remembers.
-#[derive(Drop)]
 pub struct Answers<N: Notes> {
     answers: IndexMap<Pair, PairAnswer<N>>,
+}
+
+// A derived drop is no call: each place where these end would split into one path for each of their parts.
+impl<N: Notes> Drop for Answers<N> {
+    fn drop(self) {
+        let Answers { answers: _answers } = self;
+    }
 }
 
 impl<N: Notes> Answers<N> {
@@ -32,9 +38,10 @@ impl<N: Notes> Answers<N> {
         ensures entries { IfOk result (λ all. all.items ≡ self.answers.entries) }
         ensures once { IfOk result (λ all. IsDistinct same_pair (keys_of all.items)) }
     {
+        let Answers { answers } = self;
         // Its keys are distinct.
-        let _ = self.answers.len();
-        Ok(self.answers.into_iter().collect(alloc)?)
+        let _ = answers.len();
+        Ok(answers.into_iter().collect(alloc)?)
     }
 }
 

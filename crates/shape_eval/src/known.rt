@@ -7,10 +7,19 @@ use path_eval::Superclasses;
 use std::alloc::Global;
 
 /// What evaluations of a plan's shapes over one graph find at one pair and know at the next.
-#[derive(Drop)]
 pub struct Known<'p> {
     pub(crate) superclasses: Superclasses,
     pub(crate) matchers: Matchers<'p>,
+}
+
+// A derived drop is no call: each place where this ends would split into one path for each of its parts.
+impl<'p> Drop for Known<'p> {
+    fn drop(self) {
+        let Known {
+            superclasses: _superclasses,
+            matchers: _matchers,
+        } = self;
+    }
 }
 
 impl<'p> Known<'p> {

@@ -8,6 +8,8 @@ ghost use Rattle.comp_core.specs.declared.pair.Pair.{Pair};
 ghost use Rattle.shape_eval.specs.declared.shape.PlanShape.{PlanShape};
 ghost use Rattle.shape_eval.specs.Laws.{IsSamePair, LevelsDoNotMatter, ResultsDependOnReads};
 ghost use Rattle.shape_eval.specs.Laws.{NestedAreBelow, NestedAreClosed, NestedAreLower};
+ghost use Rattle.shape_eval.specs.Laws.{AnswersReadAreBelow, OwnReadsDependOnThemselves};
+ghost use Rattle.shape_eval.specs.Laws.{ReadsAreOwnOrBelow};
 ghost use Rattle.shape_eval.specs.Laws.{NestedDependOnReads, NestedReadsAreRead};
 ghost use Rattle.shape_eval.specs.Laws.{PairReadsHaveTerms, ResultsHaveTerms, TargetReadsHaveTerms};
 ghost use Rattle.shape_eval.specs.Laws.{TargetsDependOnReads};
@@ -81,6 +83,19 @@ pub fn nested_pairs_stand_below()
     ensures closed { NestedAreClosed }
 {
     answers_follow();
+}
+
+/// What is read for a pair is what is read for it itself, without answers, and what is read for the pairs
+/// right below it: those whose answers are read for it. Nothing but what is read for it itself matters to
+/// that.
+pub fn reads_are_own_or_below()
+    ensures parts { ReadsAreOwnOrBelow }
+    ensures answers { AnswersReadAreBelow }
+    ensures depend { OwnReadsDependOnThemselves }
+{
+    answers_follow();
+    Constraint::laws();
+    paths_depend_on_their_reads();
 }
 
 /// The numbers in the results of a pair have terms, and their shapes are of the plan.

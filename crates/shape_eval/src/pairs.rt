@@ -4,11 +4,12 @@ ghost use Rattle.graph_view.specs.Valid.{IsValidView};
 ghost use Rattle.comp_core.specs.Memo.{RemembersSame};
 ghost use Rattle.shape_eval.specs.Known.{IsKnownOf};
 ghost use Rattle.shape_eval.specs.Nested.{nested_in};
+ghost use Rattle.shape_eval.specs.Own.{own_reads};
 ghost use Rattle.shape_eval.specs.Plan.{IsKnownPlan};
 ghost use Rattle.shape_eval.specs.Planned.{plan_of};
 ghost use Rattle.shape_eval.specs.Recalled.{AreRecalled, AreRight, Brings, IsRecallOf};
 ghost use Rattle.shape_eval.specs.Report.{at_shape};
-ghost use Rattle.shape_eval.specs.Results.{pair_reads, results};
+ghost use Rattle.shape_eval.specs.Results.{results};
 
 use crate::answering::answer;
 use crate::{Known, Plan};
@@ -18,8 +19,9 @@ use shx_term::{Id, Memory, Steps};
 use std::alloc::Global;
 use std::sync::ledger::Ledger;
 
-/// The results of a shape at a node (SHACL, section 3.4), in order, and the keys that were read for them. It
-/// counts one step, also where memory is refused.
+/// The results of a shape at a node (SHACL, section 3.4), in order, and the keys that were read for them:
+/// those of parts of the graph, and of the pairs that it asks the keys of what was found of these. It counts
+/// one step, also where memory is refused.
 ///
 /// Each pair of a shape and a node that is asked on the way, and is not remembered, is evaluated once, is
 /// counted in `nested`, and is remembered; the pair itself is not. It recurses as deep as shapes refer to one
@@ -47,7 +49,7 @@ pub fn eval_pair<'p, V: GraphView, M: Memo, K: Ledger, L: Ledger>(
     ensures rows { IfOk result (λ answer. answer.rows.items
         ≡ results (plan_of plan.now).shapes (V.graph view.now) (at_shape shape node)) }
     ensures reads { IfOk result (λ answer. M.Noted.has answer.reads
-        (pair_reads (plan_of plan.now).shapes (V.graph view.now) (at_shape shape node))) }
+        (own_reads (plan_of plan.now).shapes (V.graph view.now) (at_shape shape node))) }
     ensures recall { OnOk result (IsRecallOf M.Noted.has (plan_of plan.now).shapes (V.graph view.now)
         (M.recalled memo.new)) }
     ensures nested { OnOk result (AreRecalled (M.recalled memo.new)

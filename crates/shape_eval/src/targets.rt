@@ -1,9 +1,12 @@
 //! The target nodes of a shape.
-ghost use Rattle.std.specs.Prelude.{◌≡◌, ◌<◌, length, IfOk, OnOk};
+ghost use Rattle.std.specs.Prelude.{◌≡◌, ◌<◌, flat_map, length, slice_get, Contains, IfOk, OnOk};
+ghost use Rattle.std.specs.Ordering.{nat_cmp};
+ghost use Rattle.shx_term.specs.InOrder.{Lists};
 ghost use Rattle.graph_view.specs.Graph.{HasTerms};
 ghost use Rattle.shape_eval.specs.Planned.{plan_of};
 ghost use Rattle.shape_eval.specs.Plan.{IsKnownPlan, target_number};
-ghost use Rattle.shape_eval.specs.Targets.{nodes_of_target, reads_of_target, target_nodes, target_reads};
+ghost use Rattle.shape_eval.specs.Targets.{nodes_of_target, reads_of_target};
+ghost use Rattle.shape_eval.specs.Targets.{target_nodes, target_reads, targets_of};
 
 use crate::{Plan, Target};
 use comp_core::ShapeNo;
@@ -29,12 +32,55 @@ pub fn eval_target<V: GraphView, N: Notes>(
     ensures reads { OnOk result (N.notes reads.old reads.new
         (target_reads (plan_of plan.now).shapes (V.graph view.now) shape)) }
 {
+    let found = nodes_in_turn(alloc, view, plan, shape, reads)?;
+    Ok(view.pool().in_order(found))
+}
+
+/// The same nodes in the order of their numbers, each once. It reads the same keys, and its sort compares no
+/// terms.
+pub fn eval_target_by_number<V: GraphView, N: Notes>(
+    alloc: Global,
+    view: &V,
+    plan: &Plan,
+    shape: ShapeNo,
+    reads: &mut N,
+) -> Result<Vec<Id>, Memory>
+    requires plan { IsKnownPlan (V.graph view.now).terms (plan_of plan.now).shapes }
+    requires shape { shape < length (plan_of plan.now).shapes }
+    ensures nodes { IfOk result (λ found. Lists nat_cmp
+        (Contains (target_nodes (plan_of plan.now).shapes (V.graph view.now) shape)) found.items) }
+    ensures known { IfOk result (λ found. HasTerms (V.graph view.now) found.items) }
+    ensures reads { OnOk result (N.notes reads.old reads.new
+        (target_reads (plan_of plan.now).shapes (V.graph view.now) shape)) }
+{
+    let mut found = nodes_in_turn(alloc, view, plan, shape, reads)?;
+    found.sort_unstable();
+    found.dedup();
+    Ok(found)
+}
+
+// The nodes of each target in turn, some of them perhaps more than once.
+fn nodes_in_turn<V: GraphView, N: Notes>(
+    alloc: Global,
+    view: &V,
+    plan: &Plan,
+    shape: ShapeNo,
+    reads: &mut N,
+) -> Result<Vec<Id>, Memory>
+    requires plan { IsKnownPlan (V.graph view.now).terms (plan_of plan.now).shapes }
+    requires shape { shape < length (plan_of plan.now).shapes }
+    ensures nodes { IfOk result (λ found. found.items ≡ flat_map (nodes_of_target (V.graph view.now))
+        (targets_of (slice_get (plan_of plan.now).shapes shape))) }
+    ensures known { IfOk result (λ found. HasTerms (V.graph view.now) found.items) }
+    ensures reads { OnOk result (N.notes reads.old reads.new
+        (target_reads (plan_of plan.now).shapes (V.graph view.now) shape)) }
+{
     let mut found = Vec::new(alloc);
     for target in &plan.shape(shape).targets {
         let nodes = nodes_of_target(alloc, view, *target, reads)?;
         found.extend_from_slice(&nodes)?;
     }
-    Ok(view.pool().in_order(found))
+    Ok(found)
 }
 
 // The nodes of one target.

@@ -50,12 +50,12 @@ impl<'a, M: Memo> Conform for Told<'a, M> {
 
     ghost rows_of = { λ told p. rows_told told.shapes.now (M.recalled told.memo.now) p };
 
-    ghost tells = { λ told r. Tells M.Noted.has told.shapes.now (M.recalled told.memo.now) r };
+    ghost tells = { λ told r. Tells told.shapes.now r };
 
     fn conforms(&self, pair: &Pair, reads: &mut M::Noted) -> Result<bool, Memory> {
         match self.answer(pair) {
             Some(answer) => {
-                reads.add_all(answer.reads)?;
+                reads.add(pair.answer_key())?;
                 Ok(answer.rows.is_empty())
             }
             None => Ok(true),
@@ -65,7 +65,7 @@ impl<'a, M: Memo> Conform for Told<'a, M> {
     fn results(&self, pair: &Pair, reads: &mut M::Noted) -> Result<&[ResultRow], Memory> {
         match self.answer(pair) {
             Some(answer) => {
-                reads.add_all(answer.reads)?;
+                reads.add(pair.answer_key())?;
                 Ok(answer.rows)
             }
             None => Ok(&[]),

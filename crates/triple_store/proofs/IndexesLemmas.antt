@@ -15,7 +15,9 @@ use Rattle.shx_term.specs.Triple.{same_triple}
 use Rattle.shx_term.specs.inner.TripleLaws.{same_triple_equiv, same_triple_exact}
 use Rattle.shx_term.specs.declared.triple.Triple.{Triple}
 use Rattle.shx_term.proofs.InOrderLemmas.{same_lists}
+use Rattle.graph_view.specs.declared.key.Key.TheVariants.{Answer}
 use Rattle.graph_view.specs.Graph.{HasAlso, IsWithout}
+use Rattle.graph_view.specs.Key.{look}
 use Rattle.shx_term.specs.Members.{SameMembers, Adds}
 use Rattle.shx_term.proofs.MemberLemmas.{Contains-one, each_of_All}
 use Rattle.graph_view.specs.Patched.{without}
@@ -30,6 +32,11 @@ use Rattle.triple_store.specs.inner.Index.{Arranged, IsArranged, IsIndex, AreInd
 use Rattle.triple_store.specs.declared.arrangement.Arrangement.TheVariants.{SubjectPredicateObject}
 use Rattle.triple_store.specs.inner.Index.{led_by, led_by_pair, third_of}
 use Rattle.triple_store.specs.declared.arrangement.Arrangement.{Arrangement}
+
+-- nothing touches what was found of a pair
+pub none_look : (triples : List Triple) (shape node : ℕ) → look triples (Answer shape node) ≡ []
+none_look [] shape node = refl
+none_look (t ∷ ts) shape node = none_look ts shape node
 
 module _ {triples : List Triple} {a : Arrangement} {index : Arranged} where
   IsIndex-holds : IsIndex triples a index → SameMembers index.triples triples

@@ -17,7 +17,6 @@ use std::alloc::Global;
 use std::collections::{BTreeMap, BTreeSet};
 
 /// What a reader of a text knows at a place, and what it has read.
-#[derive(Drop)]
 pub struct ReaderState {
     pub(crate) alloc: Global,
     pub(crate) scope: Scope,
@@ -31,6 +30,25 @@ pub struct ReaderState {
     pub(crate) held_at: usize,
     pub(crate) stated: Stated,
     pub(crate) fault: Option<TermFault>,
+}
+
+// A derived drop is no call: each place where one ends would split into one path for each of its parts.
+impl Drop for ReaderState {
+    fn drop(self) {
+        let ReaderState {
+            alloc: _alloc,
+            scope: _scope,
+            base: _base,
+            prefixes: _prefixes,
+            labels: _labels,
+            next: _next,
+            contexts: _contexts,
+            held: _held,
+            held_at: _held_at,
+            stated: _stated,
+            fault: _fault,
+        } = self;
+    }
 }
 
 impl ReaderState {
@@ -85,12 +103,16 @@ impl ReaderState {
     {
         let ReaderState {
             alloc,
+            scope: _scope,
             base,
             prefixes,
             labels,
             next,
+            contexts: _contexts,
+            held: _held,
+            held_at: _held_at,
             stated,
-            ..
+            fault: _fault,
         } = self;
         Ok(Document {
             triples: stated.into_triples(),

@@ -1,5 +1,5 @@
 -- What is taken over from under an old plan, while a new one is adopted.
-use Rattle.std.specs.Prelude.{◌≡◌, true, false, List, Option, Some, MatchOption}
+use Rattle.std.specs.Prelude.{◌≡◌, true, false, List, Option, Some, MatchOption, map}
 use Rattle.shx_term.specs.Members.{SameMembers}
 use Rattle.graph_view.specs.declared.key.Key.{Key}
 use Rattle.graph_view.specs.Graph.{Graph}
@@ -8,7 +8,7 @@ use Rattle.comp_core.specs.declared.pair.Pair.{Pair}
 use Rattle.shape_eval.specs.declared.shape.PlanShape.{PlanShape}
 use Rattle.shape_eval.specs.Recalled.{IsRecalled}
 use Rattle.plan_swap.specs.declared.swap.Swap.{Swap}
-use Rattle.plan_swap.specs.Renumbered.{rows_renumbered}
+use Rattle.plan_swap.specs.Renumbered.{key_renumbered, rows_renumbered}
 use Rattle.plan_swap.specs.Swap.{number_after, pair_after, plan_before}
 use Rattle.read_records.specs.Recall.{Answer}
 use Rattle.edit_engine.specs.Renewal.{IsRight}
@@ -17,7 +17,7 @@ use Rattle.edit_engine.specs.Swapped.{was_pair}
 -- an answer, under new numbers
 pub record IsCopy (swap : Swap) (old new : Answer) : Type 0 where
   pub rows : new.rows ≡ rows_renumbered (number_after swap) old.rows
-  pub reads : SameMembers new.reads old.reads
+  pub reads : SameMembers new.reads (map (key_renumbered (number_after swap)) old.reads)
 
 -- each answer that was remembered of an alike shape is so under the new number
 pub record IsCopied (swap : Swap) (old new : Pair → Option Answer) (q p : Pair) : Type 0 where

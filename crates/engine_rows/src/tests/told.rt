@@ -2,7 +2,7 @@
 use super::watched::Watched;
 use comp_core::Pair;
 use edit_engine::Engine;
-use graph_view::GraphView;
+use graph_view::{GraphView, Reads};
 use shx_term::Memory;
 use std::alloc::Global;
 
@@ -10,7 +10,19 @@ fn add(text: &str, told: &mut Vec<u8>) -> Result<(), Memory> {
     told.extend_from_slice(text.as_bytes())
 }
 
-// Adds what was read for a pair, and what is remembered of it.
+// Adds what was read for a pair.
+fn add_reads(
+    alloc: Global,
+    pair: Pair,
+    what: &str,
+    reads: &Reads,
+    told: &mut Vec<u8>,
+) -> Result<(), Memory> {
+    let text = format!(in alloc; "{pair:?} {what} {:?}\n", reads.keys())?;
+    add(text.as_str(), told)
+}
+
+// Adds what was read for a pair itself, what was read for it in all, and what is remembered of it.
 fn add_pair(
     alloc: Global,
     engine: &Engine<Watched>,
@@ -18,8 +30,10 @@ fn add_pair(
     told: &mut Vec<u8>,
 ) -> Result<(), Memory> {
     if let Some(reads) = engine.record(&pair) {
-        let text = format!(in alloc; "{pair:?} reads {:?}\n", reads.keys())?;
-        add(text.as_str(), told)?;
+        add_reads(alloc, pair, "reads itself", reads, told)?;
+    }
+    if let Some(reads) = engine.reads(alloc, &pair)? {
+        add_reads(alloc, pair, "reads in all", &reads, told)?;
     }
     if let Some(found) = engine.recall().find(&pair) {
         let text = format!(in alloc;

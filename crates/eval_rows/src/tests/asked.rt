@@ -1,6 +1,6 @@
 //! A block of Turtle, which states shapes and data, and questions. A question is a line
-//! `? ASKED = DUE | KEYS`: this is due, and these keys are read for it, and no others. With `not` before it,
-//! this is not so.
+//! `? ASKED = DUE | KEYS`: this is due, and these keys are read for it, and no others; of answers those that
+//! are read for the pair itself. With `not` before it, this is not so.
 ghost use Rattle.graph_view.specs.ListGraph.{plain_graph};
 ghost use Rattle.graph_view.specs.Valid.{IsValidView};
 ghost use Rattle.shape_eval.specs.Plan.{IsKnownPlan};
@@ -73,7 +73,7 @@ fn is_so(alloc: Global, graph: &ListGraph, plan: &Plan, text: &str) -> Result<bo
 {
     let (asked, rest) = cut(text, " =")?;
     let (due, keys) = rest.split_once(" | ").unwrap_or((rest, ""));
-    let keys = keys_of(alloc, graph.pool(), keys.trim_end())?;
+    let keys = keys_of(alloc, graph.pool(), plan, keys.trim_end())?;
     is_answered(alloc, graph, plan, &keys, &question_of(asked, due))
 }
 

@@ -11,16 +11,16 @@ use super::kinds::name_of;
 use super::words::{id_of, take_any, take_term};
 use comp_core::{Component, DetailRow, Pair, ResultRow, ShapeNo};
 use due_view::{DueView, is_known};
-use graph_view::{GraphView, ListGraph, Reads};
+use graph_view::{GraphView, Key, ListGraph, Reads};
 use row_tools::{RowFault, cut};
 use shape_eval::{
     Answers, Constraint, Known, PairAnswer, Plan, a_report_is_empty_where_all_conform,
     edits_beside_a_pair, eval_pair, levels_do_not_matter, nested_pairs_are_read,
-    nested_pairs_stand_below, reads_have_terms, results_depend_on_reads, results_have_terms,
-    targets_depend_on_reads,
+    nested_pairs_stand_below, reads_are_own_or_below, reads_have_terms, results_depend_on_reads,
+    results_have_terms, targets_depend_on_reads,
 };
 use shape_order::{an_order_has_no_cycle, levels_are_the_longest_chains};
-use shx_term::{Pool, Steps};
+use shx_term::{Memory, Pool, Steps};
 use std::alloc::Global;
 use std::sync::ledger::{Blank, Ledger};
 
@@ -73,7 +73,27 @@ fn take_row(pool: &Pool, plan: &Plan, row: &ResultRow, due: &mut Due) {
     due.take(")");
 }
 
-// The answer of a pair, which takes one step, whatever nests.
+// Adds the keys of parts of the graph.
+fn add_parts(reads: &Reads, all: &mut Reads) -> Result<(), Memory> {
+    for key in reads.keys() {
+        match *key {
+            Key::Answer(_, _) => {}
+            _ => all.add(*key)?,
+        }
+    }
+    Ok(())
+}
+
+// Adds the parts of the graph that were read for answers.
+fn add_nested(alloc: Global, nested: Answers<Reads>, all: &mut Reads) -> Result<(), Memory> {
+    for (_, answer) in &nested.into_all(alloc)? {
+        add_parts(&answer.reads, all)?;
+    }
+    Ok(())
+}
+
+// The answer of a pair, which takes one step, whatever nests. Beside what was read for the pair itself stand
+// the parts of the graph that were read for what is nested in it.
 fn found<V: GraphView, K: Ledger, L: Ledger>(
     alloc: Global,
     view: &V,
@@ -104,13 +124,17 @@ fn found<V: GraphView, K: Ledger, L: Ledger>(
         steps,
     );
     match found {
-        Ok(answer) => Ok(answer),
+        Ok(mut answer) => {
+            add_nested(alloc, answers, &mut answer.reads)?;
+            Ok(answer)
+        }
         Err(_) => Err(RowFault::Unread),
     }
 }
 
-/// Whether a pair has the results that are due. Nothing but these keys may be looked up: a look-up beside
-/// them is one for which memory is refused.
+/// Whether a pair has the results that are due, and these keys are read for it: of the graph in all, and of
+/// answers those that it asks itself. Nothing but these keys may be looked up: a look-up beside them is one
+/// for which memory is refused.
 pub(super) fn is_pair<K: Ledger, L: Ledger>(
     alloc: Global,
     graph: &ListGraph,
@@ -151,6 +175,7 @@ fn laws_are_at_hand() {
     reads_have_terms();
     nested_pairs_are_read();
     nested_pairs_stand_below();
+    reads_are_own_or_below();
     a_report_is_empty_where_all_conform();
     Constraint::laws();
     an_order_has_no_cycle();

@@ -78,6 +78,7 @@ impl Found {
                 let found = view.triples_with(alloc, p, &mut self.reads);
                 self.add_triples(found)
             }
+            Key::Answer(_, _) => Ok(()),
         }
     }
 

@@ -1,4 +1,5 @@
-//! Terms by letters, triples by words of three letters, keys by words with `?` for what is looked up.
+//! Terms by letters, triples by words of three letters, keys by words with `?` for what is looked up, or with
+//! `!` before the numbers of a pair.
 use due_view::is_known_triple;
 use graph_view::{GraphEdit, GraphView, Key, ListGraph};
 use row_tools::{RowFault, term, vocabulary_pool};
@@ -42,9 +43,10 @@ pub(super) fn triple_of(word: &str) -> Result<Triple, RowFault> {
     }
 }
 
-/// The key of a word with a `?`.
+/// The key of a word with a `?`, or with a `!` that of what was found of a pair.
 pub(super) fn key_of(word: &str) -> Result<Key, RowFault> {
     match word.as_bytes() {
+        [b'!', shape, node] => Ok(Key::Answer(number(*shape)?, number(*node)?)),
         [b'?', p, b'?'] => Ok(Key::Predicate(number(*p)?)),
         [s, b'?', b'?'] => Ok(Key::Subject(number(*s)?)),
         [b'?', p, o] => Ok(Key::In(number(*p)?, number(*o)?)),

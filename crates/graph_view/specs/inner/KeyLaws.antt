@@ -6,7 +6,7 @@ use Rattle.std.specs.Ordering.{nat_cmp, eq_by_cmp}
 use Rattle.std.proofs.Common.{ap}
 use Rattle.std.proofs.lemmas.Bool.{eqb-true}
 use Rattle.graph_view.specs.declared.key.Key.{Key}
-use Rattle.graph_view.specs.declared.key.Key.TheVariants.{Out, In, Subject, Predicate}
+use Rattle.graph_view.specs.declared.key.Key.TheVariants.{Out, In, Subject, Predicate, Answer}
 use Rattle.graph_view.specs.Key.{key_kind, key_first, key_second, same_key, key_cmp}
 
 pub same_key_equiv : IsEquivalence same_key
@@ -20,18 +20,27 @@ same_parts (Out s p) (Out s' p') k f e = λ i. Out (f i) (e i)
 same_parts (Out s p) (In p' o') k f e = cc
 same_parts (Out s p) (Subject s') k f e = cc
 same_parts (Out s p) (Predicate p') k f e = cc
+same_parts (Out s p) (Answer s' n') k f e = cc
 same_parts (In p o) (Out s' p') k f e = cc
 same_parts (In p o) (In p' o') k f e = λ i. In (f i) (e i)
 same_parts (In p o) (Subject s') k f e = cc
 same_parts (In p o) (Predicate p') k f e = cc
+same_parts (In p o) (Answer s' n') k f e = cc
 same_parts (Subject s) (Out s' p') k f e = cc
 same_parts (Subject s) (In p' o') k f e = cc
 same_parts (Subject s) (Subject s') k f e = ap Subject f
 same_parts (Subject s) (Predicate p') k f e = cc
+same_parts (Subject s) (Answer s' n') k f e = cc
 same_parts (Predicate p) (Out s' p') k f e = cc
 same_parts (Predicate p) (In p' o') k f e = cc
 same_parts (Predicate p) (Subject s') k f e = cc
 same_parts (Predicate p) (Predicate p') k f e = ap Predicate f
+same_parts (Predicate p) (Answer s' n') k f e = cc
+same_parts (Answer s n) (Out s' p') k f e = cc
+same_parts (Answer s n) (In p' o') k f e = cc
+same_parts (Answer s n) (Subject s') k f e = cc
+same_parts (Answer s n) (Predicate p') k f e = cc
+same_parts (Answer s n) (Answer s' n') k f e = λ i. Answer (f i) (e i)
 
 pub same_key_exact : (a b : Key) → same_key a b ≡ true → a ≡ b
 same_key_exact a b h =

@@ -1,7 +1,7 @@
 -- Readings: a key and one of its readers; where it is filed by their kinds, and what is filed.
 use Rattle.std.specs.Prelude.{◌≡◌, ◌↔◌, ◌⊎◌, List, [], Contains}
 use Rattle.graph_view.specs.declared.key.Key.{Key}
-use Rattle.graph_view.specs.declared.key.Key.TheVariants.{Out, In, Subject, Predicate}
+use Rattle.graph_view.specs.declared.key.Key.TheVariants.{Out, In, Subject, Predicate, Answer}
 use Rattle.graph_view.specs.Key.{key_kind}
 use Rattle.read_records.specs.declared.by_kind.ByKind.{ByKind}
 use Rattle.read_records.specs.declared.posting.Posting.{Posting}
@@ -24,7 +24,7 @@ pub record Filed : Type 0 where
   pub pairs : ByKind (List Posting)
 
 abbrev pub no_postings : ByKind (List Posting)
-no_postings = record { out = []; into = []; subject = []; predicate = [] }
+no_postings = record { out = []; into = []; subject = []; predicate = []; answer = [] }
 
 abbrev pub nothing_filed : Filed
 nothing_filed = record { targets = no_postings; pairs = no_postings }
@@ -35,6 +35,7 @@ tree (Out s p) all = all.out
 tree (In p o) all = all.into
 tree (Subject s) all = all.subject
 tree (Predicate p) all = all.predicate
+tree (Answer shape node) all = all.answer
 
 -- those of the kind of a reader
 abbrev pub side : Reader → Filed → ByKind (List Posting)

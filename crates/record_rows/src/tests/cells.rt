@@ -71,6 +71,17 @@ pub(super) fn pair(word: &str) -> Result<Pair, RowFault> {
     }
 }
 
+/// Pairs, which are told apart by spaces.
+pub(super) fn pairs(alloc: Global, words: &str) -> Result<Vec<Pair>, RowFault> {
+    let mut all = Vec::new(alloc);
+    for word in words.split(' ') {
+        if !word.is_empty() {
+            all.push(pair(word)?)?;
+        }
+    }
+    Ok(all)
+}
+
 /// Whether these are the readers that the words say, in this order.
 pub(super) fn are_readers(found: &[Reader], words: &str) -> Result<bool, RowFault> {
     let mut rest = words;
@@ -150,8 +161,11 @@ fn part(word: &str) -> Result<Option<Id>, RowFault> {
     }
 }
 
-/// The key of a triple in which a line stands for what the key leaves open.
+/// The key of a triple in which a line stands for what the key leaves open, or that of the answer of a pair.
 fn key(word: &str) -> Result<Key, RowFault> {
+    if let Some((shape, node)) = word.split_once('/') {
+        return Ok(Key::Answer(number(shape)?, number(node)?));
+    }
     let (s, p, o) = in_three(word, ".")?;
     match (part(s)?, part(p)?, part(o)?) {
         (None, Some(p), None) => Ok(Key::Predicate(p)),

@@ -1,6 +1,7 @@
 //! Steps and a question about what is remembered after them, with the answer, a row each. A pair is the
 //! numbers of its shape and of its node. What is remembered of it is results, which are numbers, and behind a
-//! bar the keys that they were read from.
+//! bar the keys that they were read from; of the answer of a pair the key is that pair. What was read in all
+//! is asked by `all`.
 ghost use Rattle.std.specs.Prelude.{◌≡◌, OnOk};
 ghost use Rattle.std.specs.List.{IsDistinct, list_any};
 ghost use Rattle.std.specs.Map.{keys_of};
@@ -69,6 +70,50 @@ stage 1/7 5 | 1.2._; stage 1/8 6 | 6._._; commit; changed 1.2.3 | 6.5.4; find 1/
 stage 1/7 5 | 1.2._; stage 1/8 6 | 7._._; commit; changed 1.2.3 | 6.5.4; find 1/8 → 6 | 7._._
 stage 1/7 5 | 1.2._; stage 1/8 6 | 6._._; commit; changed 1.2.3 | 6.5.4; commit; len → 0
 
+== a mask goes up along answers
+stage 1/7 5 | 2/9; stage 2/9 6 | 1.2._; commit; mask 1.2.3; find 1/7 → nothing
+stage 1/7 5 | 2/9; stage 2/9 6 | 1.2._; commit; mask 1.2.3; find 2/9 → nothing
+stage 1/7 5 | 2/9; stage 2/9 6 | 1.2._; commit; mask 1.3.3; find 1/7 → 5 | 2/9
+stage 1/7 5 | 2/9; stage 2/9 6 | 1.2._; commit; mask 1.2.3; len → 2
+stage 1/7 5 | 2/9; stage 2/9 6 | 1.2._; commit; mask 1.2.3; commit; len → 0
+stage 1/7 5 | 2/9; stage 2/9 6 | 1.2._; commit; changed 1.2.3 | ; find 1/7 → nothing
+stage 1/7 5 | 2/9; stage 2/9 6 | 1.2._; commit; changed 8.8.8 | 1.2.3; find 1/7 → nothing
+load 1/7 5 | 2/9, 2/9 6 | 1.2._; mask 1.2.3; find 1/7 → nothing
+load 1/7 5 | 4294967295/0, 4294967295/0 6 | 1.2._; mask 1.2.3; find 1/7 → nothing
+load 1/7 5 | 2/9, 1/8 5 | 2/9, 2/9 6 | 1.2._, 3/3 |; mask 1.2.3; commit; pairs → 3/3
+
+== in two steps
+stage 1/7 5 | 2/9; stage 2/9 6 | 3/4; stage 3/4 8 | 1.2._; commit; mask 1.2.3; find 1/7 → nothing
+stage 1/7 5 | 2/9; stage 2/9 6 | 3/4; stage 3/4 8 | 1.2._; commit; mask 1.2.3; find 2/9 → nothing
+stage 1/7 5 | 2/9; stage 2/9 6 | 3/4 1.2._; stage 3/4 8 |; commit; mask 1.2.3; commit; pairs → 3/4
+
+== past a diamond
+load 1/7 5 | 2/8 2/9, 2/8 6 | 3/4, 2/9 6 | 3/4, 3/4 8 | 1.2._; mask 1.2.3; find 1/7 → nothing
+load 1/7 5 | 2/8 2/9, 2/8 6 | 3/4, 2/9 6 | 3/4, 3/4 8 | 1.2._; mask 1.2.3; commit; len → 0
+load 1/7 5 | 2/8 2/9, 2/8 6 | 1.2._, 2/9 6 | 5._._; mask 1.2.3; commit; pairs → 2/9
+load 1/7 5 | 2/8 2/9, 2/8 6 | 1.2._, 2/9 6 | 5._._; changed 1.2.3 | 5.6.7; commit; len → 0
+
+== round a circle
+load 1/7 5 | 1/7 1.2._, 1/8 5 | 1/8; mask 1.2.3; commit; pairs → 1/8
+load 1/7 5 | 2/9, 2/9 6 | 1/7 1.2._; mask 1.2.3; commit; len → 0
+
+== not to whoever reads another answer, and not down
+load 1/7 5 | 2/9, 2/8 6 | 1.2._, 2/9 6 | 5._._; mask 1.2.3; find 1/7 → 5 | 2/9
+load 1/7 5 | 3/8, 2/8 6 | 1.2._; mask 1.2.3; find 1/7 → 5 | 3/8
+load 1/7 5 | 2/9 1.2._, 2/9 6 | 5._._; mask 1.2.3; find 2/9 → 6 | 5._._
+load 1/7 5 | 2/9; mask 2.9.9; find 1/7 → 5 | 2/9
+load 1/7 5 | 2/9, 2/9 6 | 1.2._; stage 1/7 5 | 3/9; commit; mask 1.2.3; find 1/7 → 5 | 3/9
+
+== along what is kept, and not along what is staged
+stage 1/7 5 | 2/9; stage 3/4 8 | 1.2._; commit; stage 2/9 6 | 3/4; mask 1.2.3; find 1/7 → 5 | 2/9
+stage 1/7 5 | 2/9; stage 3/4 8 | 1.2._; commit; stage 2/9 6 | 1.2._; mask 1.2.3; find 1/7 → 5 | 2/9
+load 2/9 6 | 1.2._; stage 1/7 5 | 2/9; mask 1.2.3; find 1/7 → 5 | 2/9
+load 1/7 5 | 2/9, 2/9 6 | 1.2._; stage 2/9 6 | 5._._; mask 1.2.3; find 1/7 → nothing
+load 1/7 5 | 2/9, 2/9 6 | 1.2._; stage 2/9 6 | 5._._; mask 1.2.3; find 2/9 → 6 | 5._._
+load 1/7 5 | 2/9, 2/9 6 | 1.2._; stage 1/7 5 | 2/8; mask 1.2.3; find 1/7 → 5 | 2/8
+load 1/7 5 | 2/9, 2/9 6 | 3/4, 3/4 8 | 1.2._; stage 2/9 6 |; mask 1.2.3; find 1/7 → nothing
+load 1/7 5 | 2/9, 2/9 6 | 1.2._; mask 1.2.3; drop; find 1/7 → 5 | 2/9
+
 == masks add up
 stage 1/7 5 | 1.2._; stage 1/8 6 | _.2.4; commit; mask 1.2.3; mask 6.2.4; find 1/7 → nothing
 stage 1/7 5 | 1.2._; stage 1/8 6 | _.2.4; commit; mask 1.2.3; mask 6.2.4; find 1/8 → nothing
@@ -100,6 +145,27 @@ stage 1/7 5 | 1.2._; commit; stage 1/7 6 | 5._._; commit; pairs → 1/7
 stage 1/7 5 | 1.2._; stage 1/8 6 | _.2.4; commit; mask 1.2.3; pairs → 1/7 1/8
 stage 1/7 5 | 1.2._; stage 1/8 6 | _.2.4; commit; mask 1.2.3; commit; pairs → 1/8
 stage 1/7 5 | 1.2._; drop; pairs →
+
+== what was read in all: the parts of the graph, also for the answers that were read
+all 1/7 → nothing
+stage 1/7 5 |; all 1/7 →
+stage 1/7 5 | 1.2._ _.2.3 1._._ _.2._; all 1/7 → 1.2._ _.2.3 1._._ _.2._
+stage 1/7 5 | 2/9; all 1/7 →
+stage 1/7 5 | 2/9; stage 2/9 6 | 1.2._; all 1/7 → 1.2._
+stage 1/7 5 | 2/9; stage 2/9 6 | 1.2._; commit; all 1/7 → 1.2._
+stage 1/7 5 | 5._._ 2/9; stage 2/9 6 | 1.2._ 5._._; all 1/7 → 5._._ 1.2._
+stage 1/7 5 | 2/9 5._._; stage 2/9 6 | 1.2._; all 2/9 → 1.2._
+stage 1/7 5 | 2/9; stage 2/8 6 | 1.2._; stage 3/9 6 | 1.3._; all 1/7 →
+load 1/7 5 | 2/9, 2/9 6 | 3/4 5._._, 3/4 8 | 1.2._; all 1/7 → 5._._ 1.2._
+load 1/7 5 | 2/8 2/9, 2/8 6 | 3/4, 2/9 6 | 3/4 _.2._, 3/4 8 | 1.2._ _.2._; all 1/7 → 1.2._ _.2._
+load 1/7 5 | 2/9 5._._, 2/9 6 | 1/7 1.2._; all 1/7 → 5._._ 1.2._
+load 1/7 5 | 2/9 5._._, 2/9 6 | 1/7 1.2._; all 2/9 → 1.2._ 5._._
+
+== what is remembered counts there
+load 1/7 5 | 2/9, 2/9 6 | 1.2._; stage 2/9 6 | 5._._; all 1/7 → 5._._
+load 1/7 5 | 2/9, 2/9 6 | 1.2._; mask 1.2.3; all 1/7 → nothing
+load 1/7 5 | 2/9, 2/9 6 | 1.2._; stage 1/7 5 | 2/9 5._._; mask 1.2.3; all 1/7 → 5._._
+load 1/7 5 | 2/9, 2/9 6 | 1.2._; stage 2/9 6 | 5._._; drop; all 1/7 → 1.2._
 
 == loaded at once
 load 1/7 5 6 | 1.2._; find 1/7 → 5 6 | 1.2._
@@ -211,13 +277,15 @@ fn is_among(all: &[(Pair, PairAnswer<Reads>)], pair: Pair) -> bool
 
 fn mask_change(alloc: Global, recall: &mut Recall, of: &str) -> Result<(), RowFault> {
     let change = Change::of(alloc, of)?;
-    Ok(recall.mask_change(alloc, &change.added, &change.removed)?)
+    recall.mask_change(alloc, &change.added, &change.removed)?;
+    Ok(())
 }
 
 fn answers(alloc: Global, recall: &Recall, question: &str, answer: &str) -> Result<bool, RowFault> {
     let (verb, of) = verb_of(question)?;
     match verb {
         Verb::Find => is_found(recall.find(&pair(of)?), answer),
+        Verb::All => is_read(alloc, recall, &pair(of)?, answer),
         Verb::Len => Ok(recall.len() as u64 == u64::from(number(answer)?)),
         Verb::Pairs => are_pairs(&recall.pairs(alloc)?, answer),
         _ => Err(RowFault::Unread),
@@ -230,6 +298,14 @@ fn is_found(found: Option<Recalled<'_, Reads>>, answer: &str) -> Result<bool, Ro
     };
     let (numbers, keys) = cut(answer, "|")?;
     Ok(are_numbered(found.rows, numbers) && are_said(found.reads, keys)?)
+}
+
+// Whether these keys are what the answer of the pair was read from, in all.
+fn is_read(alloc: Global, recall: &Recall, pair: &Pair, answer: &str) -> Result<bool, RowFault> {
+    match recall.find(pair) {
+        Some(found) => are_said(&recall.all_read(alloc, found.reads)?, answer),
+        None => Ok(answer == "nothing"),
+    }
 }
 
 // Whether these are results of these numbers, in this order.

@@ -1,6 +1,6 @@
 //! Steps and a question about what is recorded after them, with the answer, a row each. A reader is the
 //! number of a shape, or those of a shape and of a node; a key is a triple with a line for what it leaves
-//! open.
+//! open, or the pair whose answer was read.
 use super::steps::is_answered;
 use row_tools::all_met;
 use std::test::Fail;
@@ -46,6 +46,35 @@ load 1/7 1.2._, 1/8 _.2.4, 2 6._._, 3 _.9._; changed 1.2.3 | 6.5.4 → 2 1/7
 load 1/7 1.2._, 1/8 _.2.4, 2 6._._, 3 _.9._; changed | 6.2.4 1.2.3 6.9.4 → 2 3 1/7 1/8
 load 1/7 1.2._ _.2._, 1/8 _.2.4 1._._; changed 1.2.3 1.2.4 1.2.5 | 1.2.6 → 1/7 1/8
 load 1/7 1.2._; stage 1/8 1.2._; changed 1.2.3 | 1.2.4 → 1/7
+
+== by the answers of pairs, behind a comma
+load 1/7 2/9 1.2._; reads 1/7 → 1.2._ 2/9
+load 1/7 2/9; changed | →
+load 1/7 2/9; changed |, 2/9 → 1/7
+load 1/7 2/9; changed |, 2/8 →
+load 1/7 2/9; changed |, 3/9 →
+load 1/7 2/9; changed |, 9/2 →
+load 1/7 4294967295/0, 1 0/4294967295; changed |, 4294967295/0 → 1/7
+load 1/7 2/9, 2 2/9, 3 2/8, 1/8 _.2._; changed |, 2/9 → 2 1/7
+load 1/7 2/9, 2 2/9, 3 2/8, 1/8 _.2._; changed |, 2/8 2/9 → 2 3 1/7
+load 1/7 2/9 2/8 1.2._; changed 1.2.3 |, 2/9 2/8 → 1/7
+load 1/7 2/9, 1/8 1.2._, 2 5._._, 3 3/9; changed 1.2.3 | 5.6.7, 2/9 → 2 1/7 1/8
+load 1/7 2/9, 1/8 1.2._, 2 5._._, 3 3/9; changed 1.2.3 | 5.6.7 → 2 1/8
+
+== no triple touches an answer, and who is touched leads no further
+load 1/7 2/9; touched 2.9.9 →
+load 1/7 2/9; changed 2.9.2 | 9.2.9 →
+load 1/7 2/9, 2/9 1.2._; touched 1.2.3 → 2/9
+load 1/7 2/9, 2/9 3/4; changed |, 3/4 → 2/9
+
+== answers that are recorded, and not those that are staged or went
+stage 1/7 2/9; changed |, 2/9 →
+stage 1/7 2/9; commit; changed |, 2/9 → 1/7
+stage 1/7 2/9; commit; stage 1/7 2/8; changed |, 2/9 → 1/7
+stage 1/7 2/9; commit; stage 1/7 2/8; commit; changed |, 2/9 →
+stage 1/7 2/9; commit; stage 1/7 2/8; commit; changed |, 2/8 → 1/7
+load 1/7 2/9, 1/8 2/9; remove 1/7; commit; changed |, 2/9 → 1/8
+stage 1/7 2/9; drop; commit; changed |, 2/9 →
 
 == what is staged shows at the commit alone
 stage 1/7 1.2._; reads 1/7 → nothing

@@ -4,7 +4,7 @@ ghost use Rattle.std.specs.List.{IsDistinct, list_any};
 ghost use Rattle.std.specs.Map.{keys_of};
 ghost use Rattle.read_records.specs.Reader.{same_reader};
 
-use super::cells::{Change, Verb, are_readers, are_said, reader, reads, triple, verb_of};
+use super::cells::{Change, Verb, are_readers, are_said, pairs, reader, reads, triple, verb_of};
 use graph_view::Reads;
 use read_records::{Reader, Records};
 use row_tools::{RowFault, cut};
@@ -101,7 +101,10 @@ fn touched(alloc: Global, records: &Records, by: &str) -> Result<Vec<Reader>, Ro
     Ok(records.touched_by(alloc, &triple(by)?)?)
 }
 
+// The pairs whose answers the change reaches stand behind a comma.
 fn changed(alloc: Global, records: &Records, by: &str) -> Result<Vec<Reader>, RowFault> {
-    let change = Change::of(alloc, by)?;
-    Ok(records.touched_by_change(alloc, &change.added, &change.removed)?)
+    let (triples, answers) = by.split_once(", ").unwrap_or((by, ""));
+    let change = Change::of(alloc, triples)?;
+    let answers = pairs(alloc, answers)?;
+    Ok(records.touched_by_change(alloc, &change.added, &change.removed, &answers)?)
 }

@@ -8,6 +8,7 @@ use Rattle.comp_core.specs.declared.row.ResultRow.{ResultRow}
 use Rattle.comp_core.specs.Laws.{SameAnswers, SameFindings}
 use Rattle.shape_eval.specs.declared.shape.PlanShape.{PlanShape}
 use Rattle.shape_eval.specs.Nested.{asked_pairs}
+use Rattle.shape_eval.specs.Own.{own_reads}
 use Rattle.shape_eval.specs.Plan.{IsKnownPlan, RefersLower}
 use Rattle.shape_eval.specs.Results.{pair_reads, results, shape_reads, shape_results, value_nodes}
 
@@ -15,7 +16,7 @@ use Rattle.shape_eval.specs.Results.{pair_reads, results, shape_reads, shape_res
 pub record IsAnswer {N : Type 0} (has : N → List Key → Type 0) (shapes : List PlanShape) (g : Graph)
     (p : Pair) (answer : PairAnswer N) : Type 0 where
   pub rows : answer.rows.items ≡ results shapes g p
-  pub reads : has answer.reads (pair_reads shapes g p)
+  pub reads : has answer.reads (own_reads shapes g p)
 
 -- where the asked pairs have their results, one shape's are the results of the pair
 abbrev pub AnswersFollow : Type 0

@@ -6,17 +6,13 @@ use Rattle.comp_core.specs.declared.pair.Pair.{Pair}
 use Rattle.comp_core.specs.declared.row.ResultRow.{ResultRow}
 use Rattle.shape_eval.specs.declared.shape.PlanShape.{PlanShape}
 use Rattle.shape_eval.specs.Nested.{is_evaluated_at}
+use Rattle.shape_eval.specs.Own.{asked_key}
 use Rattle.shape_eval.specs.Recalled.{IsRecalled}
 
 module _ {N : Type 0} where
   abbrev pub rows_if_any : Option (Remembered N) → List ResultRow
   rows_if_any None = []
   rows_if_any (Some answer) = answer.rows
-
-  -- these keys were read for an answer, and none for what has no answer
-  abbrev pub AreReadsOf : (N → List Key → Type 0) → Option (Remembered N) → List Key → Type 0
-  AreReadsOf has None keys = keys ≡ []
-  AreReadsOf has (Some answer) keys = has answer.reads keys
 
   module _ (shapes : List PlanShape) (recalled : Pair → Option (Remembered N)) where
     -- what is remembered, of shapes that are evaluated
@@ -35,7 +31,6 @@ module _ {N : Type 0} where
       pub evaluated : is_evaluated_at shapes p ≡ true
       pub absent : recalled p ≡ None
 
-  -- by pair, what its answer was read from
-  pub record Tells (has : N → List Key → Type 0) (shapes : List PlanShape)
-      (recalled : Pair → Option (Remembered N)) (r : Pair → List Key) : Type 0 where
-    pub each : (p : Pair) → AreReadsOf has (told_of shapes recalled p) (r p)
+-- by pair, the key of its answer, where its shape is evaluated
+abbrev pub Tells : List PlanShape → (Pair → List Key) → Type 0
+Tells shapes r = (p : Pair) → r p ≡ asked_key shapes p

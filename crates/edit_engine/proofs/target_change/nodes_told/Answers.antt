@@ -3,7 +3,7 @@ use Rattle.std.proofs.lemmas.Iterator.{YieldsList-from_slice}
 use Rattle.std.proofs.lemmas.Iterator.Consumers.{YieldsList-at, YieldsList-end, YieldsList-from_chain}
 use Rattle.std.proofs.lemmas.List.{map-append}
 use Rattle.std.proofs.lemmas.List.Filters.{dedup_is}
-use Rattle.edit_engine.proofs.TargetChangeLemmas.{Lists-ascending}
+use Rattle.shape_eval.proofs.AscendingLemmas.{Lists-ascending}
 use Rattle.edit_engine.proofs.ToldLemmas.{told_more}
 use Rattle.edit_engine.proofs.target_change.nodes_told.Goals as goal
 

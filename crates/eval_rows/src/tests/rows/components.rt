@@ -47,7 +47,12 @@ e:a e:p, e:b rdf:type, e:a e:equals, e:a e:disjoint, e:a e:less, e:a e:least, \
 e:b e:not, 'a'@fr e:not, 'c'@fr e:not, e:b e:and, 'a'@fr e:and, 'c'@fr e:and, \
 e:b e:or, 'a'@fr e:or, 'c'@fr e:or, e:b e:xone, 'a'@fr e:xone, 'c'@fr e:xone, \
 e:b e:node, 'a'@fr e:node, 'c'@fr e:node, e:b e:property, 'a'@fr e:property, 'c'@fr e:property, \
-e:b e:counted, 'a'@fr e:counted, 'c'@fr e:counted, e:b, 'a'@fr, 'c'@fr
+e:b e:counted, 'a'@fr e:counted, 'c'@fr e:counted, e:b, 'a'@fr, 'c'@fr, \
+?e:Not e:b, ?e:Not 'a'@fr, ?e:Not 'c'@fr, ?e:Any e:b, ?e:Any 'a'@fr, ?e:Any 'c'@fr, \
+?e:And e:b, ?e:And 'a'@fr, ?e:And 'c'@fr, ?e:Or e:b, ?e:Or 'a'@fr, ?e:Or 'c'@fr, \
+?e:Xone e:b, ?e:Xone 'a'@fr, ?e:Xone 'c'@fr, ?e:Node e:b, ?e:Node 'a'@fr, ?e:Node 'c'@fr, \
+?e:Property e:b, ?e:Property 'a'@fr, ?e:Property 'c'@fr, \
+?e:Counted e:b, ?e:Counted 'a'@fr, ?e:Counted 'c'@fr
 ? pair e:S e:x = (MinCount e:S e:x - -) (QualifiedMinCount e:S e:x - -) (HasValue e:S e:x - -) | \
 e:x e:p, e:x e:equals, e:x e:disjoint, e:x e:less, e:x e:least
 
@@ -78,23 +83,25 @@ e:E rdfs:subClassOf
 e:And sh:and ( e:P e:Q ) . e:Or sh:or ( e:P e:Q ) . e:Xone sh:xone ( e:P e:Q e:R ) . e:Node sh:node e:M .
 e:M sh:property e:P . e:P sh:path e:p ; sh:minCount 1 . e:Q sh:path e:q ; sh:minCount 1 .
 e:R sh:path e:r ; sh:minCount 1 . e:b e:p e:c . e:c e:p e:a ; e:q e:a .
-? pair e:And e:a = (And e:And e:a - e:a) | e:a e:p, e:a e:q
-? pair e:And e:b = (And e:And e:b - e:b) | e:b e:p, e:b e:q
-? pair e:And e:c = | e:c e:p, e:c e:q
-? pair e:Or e:a = (Or e:Or e:a - e:a) | e:a e:p, e:a e:q
-? pair e:Or e:b = | e:b e:p, e:b e:q
-? pair e:Xone e:a = (Xone e:Xone e:a - e:a) | e:a e:p, e:a e:q, e:a e:r
-? pair e:Xone e:b = | e:b e:p, e:b e:q, e:b e:r
-? pair e:Xone e:c = (Xone e:Xone e:c - e:c) | e:c e:p, e:c e:q, e:c e:r
-? pair e:Node e:a = (Node e:Node e:a - e:a < MinCount e:P e:a - -) | e:a e:p
-? pair e:Node e:b = | e:b e:p
+? pair e:And e:a = (And e:And e:a - e:a) | e:a e:p, e:a e:q, ?e:P e:a, ?e:Q e:a
+? pair e:And e:b = (And e:And e:b - e:b) | e:b e:p, e:b e:q, ?e:P e:b, ?e:Q e:b
+? pair e:And e:c = | e:c e:p, e:c e:q, ?e:P e:c, ?e:Q e:c
+? pair e:Or e:a = (Or e:Or e:a - e:a) | e:a e:p, e:a e:q, ?e:P e:a, ?e:Q e:a
+? pair e:Or e:b = | e:b e:p, e:b e:q, ?e:P e:b, ?e:Q e:b
+? pair e:Xone e:a = (Xone e:Xone e:a - e:a) | e:a e:p, e:a e:q, e:a e:r, ?e:P e:a, ?e:Q e:a, ?e:R e:a
+? pair e:Xone e:b = | e:b e:p, e:b e:q, e:b e:r, ?e:P e:b, ?e:Q e:b, ?e:R e:b
+? pair e:Xone e:c = (Xone e:Xone e:c - e:c) | e:c e:p, e:c e:q, e:c e:r, ?e:P e:c, ?e:Q e:c, ?e:R e:c
+? pair e:Node e:a = (Node e:Node e:a - e:a < MinCount e:P e:a - -) | e:a e:p, ?e:M e:a
+? pair e:Node e:b = | e:b e:p, ?e:M e:b
+? pair e:M e:a = (MinCount e:P e:a - -) | e:a e:p, ?e:P e:a
+? pair e:P e:a = (MinCount e:P e:a - -) | e:a e:p
 
 # Longer lists: seventeen members, predicates that are permitted, and objects.
 e:In sh:path e:p ; sh:in ( 1 2 3 4 5 6 7 8 9 10 11 12 13 14 15 16 17 ) ; sh:equals e:q .
 e:Closed sh:closed true ; sh:ignoredProperties ( e:b e:c e:d e:e e:f e:g e:h e:i e:j e:k e:l e:m e:n e:o e:q
-e:r e:s ) ; sh:property [ sh:path e:p ] .
+e:r e:s ) ; sh:property e:P . e:P sh:path e:p .
 e:a e:p 1 , 2 , 3 , 4 , 5 , 6 , 7 , 8 , 9 , 10 , 11 , 12 , 13 , 14 , 15 , 16 , 18 ;
 e:q 17 , 2 , 3 , 4 , 5 , 6 , 7 , 8 , 9 , 10 , 11 , 12 , 13 , 14 , 15 , 16 , 18 ; e:s 1 ; e:t 1 .
 ? pair e:In e:a = (Equals e:In e:a - '1'^^integer) (Equals e:In e:a - '17'^^integer) \
 (In e:In e:a - '18'^^integer) | e:a e:p, e:a e:q
-? pair e:Closed e:a = (Closed e:Closed e:a e:t '1'^^integer) | e:a, e:a e:p";
+? pair e:Closed e:a = (Closed e:Closed e:a e:t '1'^^integer) | e:a, e:a e:p, ?e:P e:a";

@@ -42,6 +42,7 @@ apc apb bpc aqb cqb: bqd|cqb|?qb|a
 apc apb bpc aqb cqb: bqd|cqb|b??|bpc bqd
 apc apb bpc aqb cqb: |bpc|ap?|b c
 apc apb bpc aqb cqb: |apc|?pc|b
+apc apb bpc aqb cqb: apa|apb|!ap#9|0
 apc apb bpc aqb cqb: dqd||dq?|d
 apc apb bpc aqb cqb: dqd||d??|dqd
 apc apb bpc aqb cqb: |cqb|c??|-";

@@ -50,6 +50,8 @@ x??#2 → 0
 ?p?#10 → 10
 ?p?#11 → 10
 ?a?#1 → 0
+!ap#0 → 0
+!ap#9 → 0
 -bqa → absent
 len → 12
 a?? → apb apr apu apt apz apy apx aqb

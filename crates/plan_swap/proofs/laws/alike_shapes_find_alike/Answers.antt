@@ -1,4 +1,4 @@
-use Rattle.plan_swap.proofs.LevelLemmas.{alike_shapes}
+use Rattle.plan_swap.proofs.OwnLemmas.{alike_shapes}
 use Rattle.plan_swap.proofs.laws.alike_shapes_find_alike.Goals as goal
 
 pub returns : goal.returns

@@ -26,12 +26,14 @@ returns-clause-replies c = λ manner s work is.
     let law = c.same_graphs_answer_alike.ensures in
     let asked = c.view.ensures.asked in
     let alike = law.pairs script.engine.plan s.graph script.engine.graph is.stores asked in
+    let reads = c.in-Some-2.reads in
+    let read = rw c.in-Some-2.is at c.in_ok-reads.ensures.reads in
     let step = slice_kept manner.limits manner.format s script is alike c.args.shape.now c.args.node.now
     c.pair_of.result (sym c.pair_of.ensures) c.results_depend_on_reads.ensures asked c.in-Some.pair
-    c.in-Some.is c.in-Some-record.reads.now c.in-Some-record.ensures.reads in
-    let told : slice_triples script.engine.graph c.in-Some-record.reads.now ≡ c.in_ok-slice.slice =
+    c.in-Some.is reads read in
+    let told : slice_triples script.engine.graph reads ≡ c.in_ok-slice.slice =
     sym (c.in_ok-slice.ensures
-    ∙ ap (λ (g : Graph). slice_triples g c.in-Some-record.reads.now) c.view-2.ensures.graph) in
+    ∙ ap (λ (g : Graph). slice_triples g reads) c.view-2.ensures.graph) in
     subst (λ (step : Step). Replies manner step c.said.result c.said.new.script work work)
     (sym (step ∙ ap (λ (slice : List Triple). stays s (map answers (slice_answers slice))) told))
     (rw (c.said.ensures.reply, c.said.ensures.counted)

@@ -7,6 +7,7 @@ use Rattle.comp_core.specs.Memo.{remembered_of}
 use Rattle.comp_core.specs.declared.pair.Pair.{Pair}
 use Rattle.shape_eval.specs.Constraint.{constraint_numbers}
 use Rattle.shape_eval.specs.Nested.{asked_pairs, nested_in}
+use Rattle.shape_eval.specs.Own.{asked_key}
 use Rattle.shape_eval.specs.Recalled.{AreRecalled, Brings}
 use Rattle.shape_eval.specs.Results.{value_nodes}
 use Rattle.shape_eval.specs.inner.Told.{IsHeld}
@@ -17,7 +18,6 @@ use Rattle.shape_eval.proofs.LevelLemmas.{numbers_known}
 use Rattle.shape_eval.proofs.RecalledLemmas.{AreRight-same, Brings-more, Brings-none, IsRecallOf-one}
 use Rattle.shape_eval.proofs.RecalledLemmas.{RemembersSame-then}
 use Rattle.shape_eval.proofs.ShapeLemmas.{values_known}
-use Rattle.shape_eval.proofs.ToldLemmas.{keys_told, told_tells}
 use Rattle.shape_eval.proofs.answering.+answer.Given.{Over}
 use Rattle.shape_eval.proofs.answering.+answer.Goals.{After-deref-3, After-deref-below-items, After-pool}
 use Rattle.shape_eval.proofs.answering.+answer.Goals as goal
@@ -60,7 +60,7 @@ returns-then-shape-clause-answer g t c =
     off_answer c.answers_follow.ensures.follow c.args.shapes.now c.requires.refers
     (g.V.GraphView.graph c.args.view.now) c.pool.ensures.known c.requires.plan c.args.pair
     c.index-shapes-pair.result (shape_is g t (goal.at.returns-then-shape-clause-answer g t c).After-pool)
-    c.requires.node g.met.M.Noted.Notes.laws g.M.Noted.Notes.has g.met.M.Noted.Notes.has_more c.if-shape.true
+    c.requires.node g.M.Noted.Notes.has c.if-shape.true
     (record { rows = c.new.result; reads = c.new-reads.result })
     c.new.ensures.items c.new-reads.ensures
 
@@ -226,12 +226,10 @@ returns-clause-answer g t c =
     let at = goal.at.returns-clause-answer g t c in
     on_answer c.answers_follow.ensures.follow shapes c.requires.refers view c.pool.ensures.known
     c.requires.plan c.args.pair c.index-shapes-pair.result (shape_is g t at.After-pool) c.requires.node
-    g.met.M.Noted.Notes.laws g.M.Noted.Notes.has g.met.M.Noted.Notes.has_more state right c.if-shape.false
+    g.M.Noted.Notes.has g.met.M.Noted.Notes.laws g.met.M.Noted.Notes.has_more state right c.if-shape.false
     (all_are_held g t at.After-deref-3 (all_asked g t at.After-deref-below-items)) c.deref-3.result.now
     c.deref-3.ensures.value c.deref-4.result.now c.in_ok-values.values.items c.deref-4.ensures.value
     c.in_ok-values.ensures.values (record { rows = c.in_ok-rows.rows; reads = c.pack.new.self })
     c.in_ok-rows.ensures.rows c.new-reads.result c.find_values.new.reads c.check_each.new.reads
     c.new-reads.ensures c.in_ok-values.ensures.reads
-    (c.in_ok-rows.ensures.reads (keys_told shapes view state)
-    (told_tells g.M.Noted.Notes.has shapes view state right))
-    c.in_ok-pack.ensures
+    (c.in_ok-rows.ensures.reads (asked_key shapes) (λ d. refl)) c.in_ok-pack.ensures

@@ -32,6 +32,7 @@ invariant_of-self g c =
     (g.V.GraphView.graph c.enter_all.new.graph) c.self.inside.kept c.self.inside.settled c.self.invariant
     c.enter_all.ensures.more (c.enter_all.ensures.valid c.self.invariant.0.valid c.requires.added_valid)
     c.changes_rest_on.ensures.results c.changes_rest_on.ensures.targets c.changes_rest_on.ensures.nested
+    c.reads_are_own_or_below.ensures.depend
 
 pub invariant_of-self-2 : goal.invariant_of-self-2
 invariant_of-self-2 g c =
@@ -39,6 +40,7 @@ invariant_of-self-2 g c =
     (g.V.GraphView.graph c.enter_all.new.graph) c.self.inside.kept c.self.inside.settled c.self.invariant
     c.enter_all.ensures.more (c.enter_all.ensures.valid c.self.invariant.0.valid c.requires.added_valid)
     c.changes_rest_on.ensures.results c.changes_rest_on.ensures.targets c.changes_rest_on.ensures.nested
+    c.reads_are_own_or_below.ensures.depend
 
 pub make-requires-clause-patch : goal.make-requires-clause-patch
 make-requires-clause-patch g c =

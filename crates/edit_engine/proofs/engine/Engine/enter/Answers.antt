@@ -9,4 +9,4 @@ invariant_of-self g c =
     is_whole_entered (plan_of c.self.inside.plan) (g.V.GraphView.graph c.self.inside.view)
     (g.V.GraphView.graph c.enter.new.self) c.self.inside.kept c.self.inside.settled c.args.term.now
     c.enter.result c.self.invariant c.requires entered.entered entered.triples entered.refused law.results
-    law.targets law.nested
+    law.targets law.nested c.reads_are_own_or_below.ensures.depend

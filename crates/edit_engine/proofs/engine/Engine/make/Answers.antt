@@ -11,7 +11,7 @@ use Rattle.edit_engine.specs.EngineState.{EngineState}
 use Rattle.edit_engine.specs.declared.kept.Kept.{Kept}
 use Rattle.edit_engine.specs.inner.Staged.{IsStaged, MayBeStaged}
 use Rattle.edit_engine.proofs.ChangedLemmas.{IsKeptOf-made, MayBeAsked-exchanged}
-use Rattle.edit_engine.proofs.ChangedLemmas.{MayBeStaged-changed, SameGraph-exchanged}
+use Rattle.edit_engine.proofs.ChangedLemmas.{MayBeStaged-changed, ReadsDepend, SameGraph-exchanged}
 use Rattle.edit_engine.proofs.ChangedLemmas.{SameKept-beside, SameKept-dropped, length-evaluated}
 use Rattle.edit_engine.proofs.RememberedLemmas.{brings_told, recalled_settled, told_same}
 use Rattle.edit_engine.proofs.RenewLemmas.{AreKept-beside}
@@ -36,10 +36,16 @@ stage-requires-clause-known g c =
     (sym c.self.view_is) c.requires.valid in
     let recall = c.renewal_of-found.new.recall in
     let kept : Kept = record c.self.inside.kept { recall = recall } in
+    let own = c.reads_are_own_or_below.ensures in
+    let laws : ReadsDepend = record {
+      results = c.changes_rest_on.ensures.results;
+      parts = own.parts;
+      own = own.depend;
+    } in
     subst (λ ts. MayBeStaged ts kept c.in-Ok.renewal) (sym c.pool.ensures.terms)
-    (MayBeStaged-changed c.changes_rest_on.ensures.results (plan_of c.self.inside.plan)
-    (g.V.GraphView.graph c.self.inside.view) c.args.added.now c.args.removed.now c.in-Ok.renewal
-    c.self.invariant.0 fit c.in-Ok.ensures.renewal kept (AreKept-beside recall c.self.invariant.1))
+    (MayBeStaged-changed laws (plan_of c.self.inside.plan) (g.V.GraphView.graph c.self.inside.view)
+    c.args.added.now c.args.removed.now c.in-Ok.renewal c.self.invariant.0 fit c.in-Ok.ensures.renewal kept
+    (AreKept-beside recall c.self.invariant.1))
 
 -- ---- where it is refused
 
@@ -104,6 +110,8 @@ invariant_of-self-in-Ok-exchange g c =
     let fit = subst (λ (state : EngineState). All (IsValidTriple state.graph.terms) c.args.added.now)
     (sym c.self.view_is) c.requires.valid in
     let law = c.changes_rest_on.ensures in
+    let own = c.reads_are_own_or_below.ensures in
+    let laws : ReadsDepend = record { results = law.results; parts = own.parts; own = own.depend } in
     let recall = c.renewal_of-found.new.recall in
     let kept : Kept = record c.self.inside.kept { recall = recall } in
     let staged = subst (λ ts. IsStaged ts kept c.stage.new.self c.in-Ok.renewal) c.pool.ensures.terms
@@ -112,7 +120,7 @@ invariant_of-self-in-Ok-exchange g c =
     c.in_ok-stage.ensures.recall commit.recall in
     let asked = MayBeAsked-exchanged plan before after c.args.added.now c.args.removed.now
     c.self.invariant.0 fit made.terms made.exchanged in
-    let held = IsKeptOf-made law.results law.targets law.nested plan before after c.args.added.now
+    let held = IsKeptOf-made laws law.targets law.nested plan before after c.args.added.now
     c.args.removed.now c.in-Ok.renewal c.self.invariant.0 fit c.in-Ok.ensures.renewal made.terms
     made.exchanged law.terms kept c.stage.new.self c.commit.new.self
     (AreKept-beside recall c.self.invariant.1) staged commit.records commit.rows commit.places

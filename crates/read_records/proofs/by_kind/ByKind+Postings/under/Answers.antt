@@ -11,3 +11,6 @@ returns-in-Subject c = rw (← c.place_of-place.ensures, c.in-Subject.is) c.unde
 
 pub returns-in-Predicate : goal.returns-in-Predicate
 returns-in-Predicate c = rw (← c.place_of-place.ensures, c.in-Predicate.is) c.under-in-Predicate.ensures
+
+pub returns-in-Answer : goal.returns-in-Answer
+returns-in-Answer c = rw (← c.place_of-place.ensures, c.in-Answer.is) c.under-in-Answer.ensures

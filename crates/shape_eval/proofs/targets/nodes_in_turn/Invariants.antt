@@ -2,7 +2,7 @@ use Rattle.std.proofs.Common.{◌≡◌}
 use Rattle.std.specs.Prelude.{take, flat_map}
 use Rattle.graph_view.specs.Graph.{HasTerms}
 use Rattle.shape_eval.specs.Targets.{nodes_of_target, reads_of_target}
-use Rattle.shape_eval.proofs.targets.eval_target.Given as goal
+use Rattle.shape_eval.proofs.targets.nodes_in_turn.Given as goal
 
 abbrev pub invariant-loop-target : goal.invariant-loop-target
 invariant-loop-target g l = record {

@@ -13,7 +13,7 @@ use Rattle.shx_term.proofs.MemberLemmas.{All_of_each, Contains-test, each_of_All
 use Rattle.edit_history.specs.declared.net.Net.{Net}
 use Rattle.graph_view.specs.Graph.{AllKnown, Graph, IsKnownTriple}
 use Rattle.graph_view.specs.Patched.{IsPatch}
-use Rattle.edit_engine.specs.Edits.{is_among, is_stated}
+use Rattle.edit_engine.specs.Edits.{is_stated, stands_among}
 use Rattle.edit_engine.specs.Nets.{IsNetOn, added_to, removed_from, terms_after}
 use Rattle.edit_engine.proofs.ImageLemmas.{Contains-filter_map, Contains-from_filter_map}
 use Rattle.edit_engine.proofs.ImageLemmas.{IsDistinct-filter_map}
@@ -41,8 +41,8 @@ pub stated_test : (g : Graph) (t : TermTriple) (u : Triple) → numbered g.terms
     → (is_stated g t ≡ true) ↔ Contains g.triples u
 stated_test g t u e =
     let test = Contains-test same_triple same_triple_equiv same_triple_exact g.triples u in (
-      λ h. test.0 (sym (ap (is_among g.triples) e) ∙ h),
-      λ c. ap (is_among g.triples) e ∙ test.1 c,
+      λ h. test.0 (sym (ap (stands_among g.triples) e) ∙ h),
+      λ c. ap (stands_among g.triples) e ∙ test.1 c,
     )
 
 pub stated_is : (g : Graph) (t : TermTriple) → is_stated g t ≡ true
@@ -51,7 +51,7 @@ stated_is g t h = by (numbered g.terms t) refl
   where
     by : (o : Option Triple) → numbered g.terms t ≡ o
         → (u : Triple) × (numbered g.terms t ≡ Some u) × Contains g.triples u
-    by None e = absurd (true≢false (sym h ∙ ap (is_among g.triples) e))
+    by None e = absurd (true≢false (sym h ∙ ap (stands_among g.triples) e))
     by (Some u) e = (u, e, (stated_test g t u e).0 h)
 
 -- ---- changes

@@ -25,13 +25,13 @@ use Rattle.graph_view.specs.Graph.{Graph}
 use Rattle.graph_view.specs.Patched.{without}
 use Rattle.graph_view.specs.SameGraph.{SameGraph}
 use Rattle.graph_view.proofs.SameGraphLemmas.{IsDistinct-filter, length-same}
-use Rattle.edit_engine.specs.Edits.{inserted_by, is_among, is_of, is_stated, net_of, removed_by, turns}
+use Rattle.edit_engine.specs.Edits.{inserted_by, is_of, is_stated, net_of, removed_by, stands_among, turns}
 use Rattle.edit_engine.specs.Nets.{Effect, IsNetOn, NoEffect, PastTerms, PastTriples, added_to, changed_by}
 use Rattle.edit_engine.specs.Nets.{graph_after, is_no_change, outcome, removed_from}
 
 -- a test for a triple finds it in both lists or in neither
 among_same : (triples others : List Triple) → SameMembers triples others → (t : Option Triple)
-    → is_among triples t ≡ is_among others t
+    → stands_among triples t ≡ stands_among others t
 among_same triples others same None = refl
 among_same triples others same (Some t) =
     let one = Contains-test same_triple same_triple_equiv same_triple_exact triples t in
@@ -65,7 +65,7 @@ module _ (g h : Graph) (same : SameGraph g h) where
   pub stated_same : (t : TermTriple) → is_stated g t ≡ is_stated h t
   stated_same t =
       among_same g.triples h.triples same.triples (numbered g.terms t)
-      ∙ ap (λ terms. is_among h.triples (numbered terms t)) same.terms
+      ∙ ap (λ terms. stands_among h.triples (numbered terms t)) same.terms
 
   turns_same : (edit : Edit) → turns g edit ≡ turns h edit
   turns_same (Insert t) = ap not (stated_same t)

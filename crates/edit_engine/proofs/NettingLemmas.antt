@@ -26,8 +26,8 @@ use Rattle.shx_term.specs.inner.TripleLaws.{same_term_triple_equiv, same_term_tr
 use Rattle.shx_term.specs.inner.TripleLaws.{same_triple_equiv, same_triple_exact}
 use Rattle.shx_term.proofs.MemberLemmas.{Contains-test}
 use Rattle.graph_view.specs.Graph.{Graph}
-use Rattle.edit_engine.specs.declared.stated.Found.{Found}
-use Rattle.edit_engine.specs.Edits.{effects_of, inserted_by, is_among, is_of, is_stated, net_of}
+use Rattle.edit_engine.specs.declared.stated.HeldTerms.{HeldTerms}
+use Rattle.edit_engine.specs.Edits.{effects_of, inserted_by, is_of, is_stated, net_of, stands_among}
 use Rattle.edit_engine.specs.Edits.{removed_by, turns, with_effect}
 use Rattle.edit_engine.specs.inner.Stated.{IsFound, found_triple}
 use Rattle.edit_engine.specs.inner.Turned.{Places, is_noted, net_noted, noted_among, nowhere, place_after}
@@ -349,12 +349,12 @@ any_where_contained triples t found says =
     both_ways found (list_any (same_triple t) triples) (λ h. test.1 (says.0 h)) (λ h. says.1 (test.0 h))
 
 -- ... which is whether the graph holds it, where it has the numbers that were found of its terms
-pub stated_where_found : (g : Graph) (held : List Term) (t : TermTriple) (found : Found) (u : Triple)
+pub stated_where_found : (g : Graph) (held : List Term) (t : TermTriple) (found : HeldTerms) (u : Triple)
     (there : Bool) → held ≡ g.terms → IsFound held t found → found_triple found ≡ Some u
     → (IsTrue there ↔ Contains g.triples u) → there ≡ is_stated g t
 stated_where_found g held t found u there same is number says =
     any_where_contained g.triples u there says
-    ∙ ap (is_among g.triples)
+    ∙ ap (stands_among g.triples)
     (sym number ∙ found_numbered held t found is ∙ ap (λ terms. numbered terms t) same)
 
 -- ---- a map of places that is changed at a triple that was borrowed

@@ -18,7 +18,7 @@ use Rattle.shx_term.specs.Pool.{is_held, with_term, with_terms}
 use Rattle.shx_term.specs.TripleTerms.{terms_of, numbered, numbered_all, triple_of_numbers}
 use Rattle.shx_term.proofs.HeldLemmas.{length-le-with_terms, with_terms-append, with_terms_grow}
 use Rattle.graph_view.specs.Graph.{IsKnownTriple}
-use Rattle.edit_engine.specs.declared.stated.Found.{Found}
+use Rattle.edit_engine.specs.declared.stated.HeldTerms.{HeldTerms}
 use Rattle.edit_engine.specs.inner.Stated.{IsFound, found_triple}
 use Rattle.edit_engine.proofs.HeldTripleLemmas.{AreAllHeld, AreAllHeld-entered, numbered_all-more}
 use Rattle.edit_engine.proofs.NumberLemmas.{IsKnownTriple-numbers, numbers_from}
@@ -26,7 +26,7 @@ use Rattle.edit_engine.proofs.NumberLemmas.{IsKnownTriple-numbers, numbers_from}
 -- ---- the numbers of a triple
 
 -- what was found is the triple over its numbers
-pub found_numbered : (terms : List Term) (t : TermTriple) (found : Found) → IsFound terms t found
+pub found_numbered : (terms : List Term) (t : TermTriple) (found : HeldTerms) → IsFound terms t found
     → found_triple found ≡ numbered terms t
 found_numbered terms t found is = λ i. triple_of_numbers (is.s i) (is.p i) (is.o i)
 

@@ -12,13 +12,13 @@ use Rattle.shx_term.specs.TripleTerms.{numbered, same_term_triple}
 use Rattle.edit_history.specs.declared.net.Net.{Net}
 use Rattle.graph_view.specs.Graph.{Graph}
 
-abbrev pub is_among : List Triple → Option Triple → Bool
-is_among triples None = false
-is_among triples (Some t) = list_any (same_triple t) triples
+abbrev pub stands_among : List Triple → Option Triple → Bool
+stands_among triples None = false
+stands_among triples (Some t) = list_any (same_triple t) triples
 
 -- whether the graph holds the triple
 abbrev pub is_stated : Graph → TermTriple → Bool
-is_stated g t = is_among g.triples (numbered g.terms t)
+is_stated g t = stands_among g.triples (numbered g.terms t)
 
 -- whether the edit wants its triple otherwise than the graph has it
 abbrev pub turns : Graph → Edit → Bool

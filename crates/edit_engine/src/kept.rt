@@ -7,7 +7,7 @@ ghost use Rattle.edit_engine.specs.inner.Kept.{IsIdle, SameKept};
 ghost use Rattle.edit_engine.specs.inner.Staged.{IsAdopted, IsStaged, MayBeAdopted, MayBeStaged};
 
 use crate::renewal::Renewal;
-use crate::staging::{gather, stage_gathered, stage_leaving, terms_are_distinct};
+use crate::staging::{stage_gathered, stage_leaving, terms_are_distinct};
 use pair_results::PairResults;
 use read_records::{Recall, Records};
 use shx_term::{Memory, Pool};
@@ -55,13 +55,7 @@ impl Kept {
         terms_are_distinct(pool);
         let pairs = renewal.entering.len() as u64;
         let mut results = PairResults::new(alloc, shapes)?;
-        let all = gather(
-            alloc,
-            pool,
-            renewal.targets,
-            renewal.evaluated,
-            &mut results,
-        )?;
+        let all = renewal.gather(alloc, pool, &mut results)?;
         results.commit();
         let records = Records::of_all(alloc, all)?;
         Ok(Kept {
@@ -118,13 +112,7 @@ impl Kept {
             &mut self.records,
             &mut self.results,
         )?;
-        let all = gather(
-            alloc,
-            pool,
-            renewal.targets,
-            renewal.evaluated,
-            &mut self.results,
-        )?;
+        let all = renewal.gather(alloc, pool, &mut self.results)?;
         stage_gathered(&mut self.records, all)
     }
 

@@ -1,5 +1,5 @@
 //! How the parts of a renewal are put in place: what is to be recorded is gathered, and results are staged.
-ghost use Rattle.std.specs.Prelude.{◌≡◌, ◌<◌, ◌++◌, map, length, All, IfOk, OnOk};
+ghost use Rattle.std.specs.Prelude.{◌≡◌, ◌<◌, ◌++◌, map, length, All, OnOk};
 ghost use Rattle.std.specs.List.{IsDistinct};
 ghost use Rattle.shx_term.specs.TermOrder.{same_term};
 ghost use Rattle.comp_core.specs.Pairs.{same_pair};
@@ -8,7 +8,7 @@ ghost use Rattle.read_records.specs.Reader.{same_reader};
 ghost use Rattle.read_records.specs.Records.{SameRecords, change_of};
 ghost use Rattle.read_records.specs.declared.reader.Reader.TheVariants.{OfPair};
 ghost use Rattle.edit_engine.specs.Renewal.{pairs_evaluated};
-ghost use Rattle.edit_engine.specs.inner.Put.{HaveRows, IsPut, answer_rows, entries_of, entry_reader};
+ghost use Rattle.edit_engine.specs.inner.Put.{HaveRows, IsPut, answer_rows, entry_reader};
 ghost use Rattle.edit_engine.specs.inner.Put.{entry_change, no_reads, no_rows, pair_entry, target_entry};
 
 use crate::renewal::{Evaluated, TargetReads};
@@ -27,31 +27,11 @@ pub(crate) fn terms_are_distinct(pool: &Pool)
     let _ = pool.len();
 }
 
-/// What is to be recorded for targets, and for pairs whose results it stages.
-pub(crate) fn gather(
-    alloc: Global,
-    pool: &Pool,
+/// Adds what is to be recorded for targets.
+pub(crate) fn gather_targets(
     targets: Vec<TargetReads>,
-    evaluated: Vec<Evaluated>,
-    results: &mut PairResults,
-) -> Result<Vec<(Reader, Reads)>, Memory>
-    requires distinct { IsDistinct same_term pool.now.terms }
-    requires once { IsDistinct same_pair (pairs_evaluated evaluated.items) }
-    requires known { All (λ p. p.node < length pool.now.terms) (pairs_evaluated evaluated.items) }
-    requires within { All (λ p. p.shape < length results.old.shapes) (pairs_evaluated evaluated.items) }
-    ensures rows { SameRows results.old results.new }
-    ensures places { length results.new.shapes ≡ length results.old.shapes }
-    ensures staged { OnOk result (HaveRows (λ found. found.pair) answer_rows pool.now.terms evaluated.items
-        results.old results.new) }
-    ensures gathered { IfOk result (λ all. all.items ≡ entries_of targets.items evaluated.items) }
-{
-    let mut all = Vec::with_capacity(alloc, targets.len())?;
-    gather_targets(targets, &mut all)?;
-    gather_pairs(alloc, pool, evaluated, &mut all, results)?;
-    Ok(all)
-}
-
-fn gather_targets(targets: Vec<TargetReads>, all: &mut Vec<(Reader, Reads)>) -> Result<(), Memory>
+    all: &mut Vec<(Reader, Reads)>,
+) -> Result<(), Memory>
     ensures { OnOk result (all.new.items ≡ all.old.items ++ map target_entry targets.items) }
 {
     for TargetReads { shape, reads } in targets {
@@ -60,7 +40,8 @@ fn gather_targets(targets: Vec<TargetReads>, all: &mut Vec<(Reader, Reads)>) -> 
     Ok(())
 }
 
-fn gather_pairs(
+/// Adds what is to be recorded for pairs, whose results it stages.
+pub(crate) fn gather_pairs(
     alloc: Global,
     pool: &Pool,
     evaluated: Vec<Evaluated>,

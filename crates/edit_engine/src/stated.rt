@@ -14,24 +14,24 @@ use std::alloc::{AllocError, Global};
 
 /// The numbers of those terms of a triple that are held.
 #[derive(Clone, Copy, Debug, PartialEq, Eq)]
-pub(crate) struct Found {
+pub(crate) struct HeldTerms {
     pub(crate) s: Option<Id>,
     pub(crate) p: Option<Id>,
     pub(crate) o: Option<Id>,
 }
 
 /// Looks up the terms of a triple. It takes no memory.
-pub(crate) fn find(pool: &Pool, stated: &TermTriple) -> Found
+pub(crate) fn find(pool: &Pool, stated: &TermTriple) -> HeldTerms
     ensures { IsFound pool.now.terms stated.now result }
 {
-    Found {
+    HeldTerms {
         s: pool.find(&stated.s),
         p: pool.find(&stated.p),
         o: pool.find(&stated.o),
     }
 }
 
-impl Found {
+impl HeldTerms {
     /// The triple over the numbers of its terms, where all are held.
     pub(crate) fn triple(&self) -> Option<Triple>
         ensures { result ≡ found_triple self.now }

@@ -10,13 +10,13 @@ use Rattle.std.proofs.lemmas.List.Elements.{Contains-append_cases}
 use Rattle.shx_term.proofs.MemberLemmas.{none_in_empty, Contains-head, Contains-tail, Contains-cases}
 use Rattle.shx_term.proofs.MemberLemmas.{Contains-test}
 use Rattle.shx_term.specs.Chains.{Walk, Longer}
-use Rattle.path_eval.specs.inner.Through.{behind, through}
+use Rattle.path_eval.specs.inner.Through.{reached_behind, through}
 use Rattle.path_eval.specs.Way.{Way, below, repeated}
 use Rattle.path_eval.proofs.ChainLemmas.{longer_step, longer_then}
 
 -- what is behind k
 pub Contains-behind : (k : ℕ) (xs ys : List ℕ) (y : ℕ)
-    → Contains (behind k xs ys) y ↔ (Contains xs k × Contains ys y)
+    → Contains (reached_behind k xs ys) y ↔ (Contains xs k × Contains ys y)
 Contains-behind k xs ys y =
     let reached = Contains-test nat_eq nat_eq_equiv eqb-true xs k in
     elim (list_any (nat_eq k) xs) as
@@ -39,7 +39,7 @@ module _ (step : ℕ → List ℕ) where
   through_cases k ks x y c =
       let first = through step ks x in
       let second = through step ks k in
-      elim (Contains-append_cases first (behind k first second) y c) [
+      elim (Contains-append_cases first (reached_behind k first second) y c) [
         | inl d ↦ inl d
         | inr d ↦ inr ((Contains-behind k first second y).0 d)
       ]
@@ -48,14 +48,14 @@ module _ (step : ℕ → List ℕ) where
       → Contains (through step (k ∷ ks) x) y
   through_more k ks x y c =
       let first = through step ks x in
-      Contains-append_left first (behind k first (through step ks k)) y c
+      Contains-append_left first (reached_behind k first (through step ks k)) y c
 
   through_past : (k : ℕ) (ks : List ℕ) (x y : ℕ) → Contains (through step ks x) k
       → Contains (through step ks k) y → Contains (through step (k ∷ ks) x) y
   through_past k ks x y to_it from_it =
       let first = through step ks x in
       let second = through step ks k in
-      Contains-append_right first (behind k first second) y
+      Contains-append_right first (reached_behind k first second) y
       ((Contains-behind k first second y).1 (to_it, from_it))
 
   through_step : (ks : List ℕ) (x y : ℕ) → Contains (step x) y → Contains (through step ks x) y

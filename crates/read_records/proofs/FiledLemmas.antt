@@ -24,8 +24,8 @@ use Rattle.read_records.specs.declared.reader.Reader.TheVariants.{OfTarget, OfPa
 use Rattle.read_records.specs.Reader.{reader_kind, reader_node, reader_shape}
 use Rattle.read_records.specs.inner.Postings.{IsWithout, place, posting, whom}
 use Rattle.read_records.specs.inner.ReaderLaws.{same_reader_exact}
-use Rattle.read_records.specs.inner.Readings.{AddsOne, AreTargets, ChangesOne, Filed, HoldSame, IsLeft}
-use Rattle.read_records.specs.inner.Readings.{Reading, Stands, filed_with, posting_of, reading, side, tree}
+use Rattle.read_records.specs.inner.Filing.{AddsOne, AreTargets, ChangesOne, Filed, HoldSame, IsLeft}
+use Rattle.read_records.specs.inner.Filing.{Reading, Stands, filed_with, posting_of, reading, side, tree}
 
 -- ---- kinds
 

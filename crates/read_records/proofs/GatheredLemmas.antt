@@ -22,7 +22,7 @@ use Rattle.read_records.specs.Records.{reads_of}
 use Rattle.read_records.specs.Store.{Notes, if_noted, kept_for}
 use Rattle.read_records.specs.inner.Notes.{AreUnder, as_recorded, reads_noted}
 use Rattle.read_records.specs.inner.ReaderLaws.{reader_cmp_ties, reader_cmp_total}
-use Rattle.read_records.specs.inner.Readings.{Filed, StandsUnderEach, StaysIn, reading}
+use Rattle.read_records.specs.inner.Filing.{Filed, StandsUnderEach, StaysIn, reading}
 
 -- ---- the readings of notes
 

@@ -25,7 +25,7 @@ use Rattle.read_records.specs.Records.{reads_of}
 use Rattle.read_records.specs.Store.{Notes, Stored, if_noted, note_at}
 use Rattle.read_records.specs.inner.ReaderLaws.{reader_cmp_total, same_reader_equiv, same_reader_exact}
 use Rattle.read_records.specs.inner.Notes.{AreUnder, HasNoted, as_recorded, reads_noted}
-use Rattle.read_records.specs.inner.Readings.{Filed, Stands, reading}
+use Rattle.read_records.specs.inner.Filing.{Filed, Stands, reading}
 use Rattle.read_records.specs.inner.Touched.{IsTouchedKey}
 
 reader_order : IsExactOrder reader_cmp

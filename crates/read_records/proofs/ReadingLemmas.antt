@@ -13,8 +13,8 @@ use Rattle.graph_view.specs.inner.KeyLaws.{key_cmp_ties, same_key_exact}
 use Rattle.read_records.specs.declared.reader.Reader.{Reader}
 use Rattle.read_records.specs.Reader.{reader_cmp}
 use Rattle.read_records.specs.inner.ReaderLaws.{reader_cmp_ties, same_reader_exact}
-use Rattle.read_records.specs.inner.Readings.{AddsOne, Filed, Reading, Stands, StandsUnderEach, StaysIn}
-use Rattle.read_records.specs.inner.Readings.{reading}
+use Rattle.read_records.specs.inner.Filing.{AddsOne, Filed, Reading, Stands, StandsUnderEach, StaysIn}
+use Rattle.read_records.specs.inner.Filing.{reading}
 
 -- ---- orders that tell apart
 

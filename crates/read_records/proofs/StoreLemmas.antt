@@ -13,7 +13,7 @@ use Rattle.read_records.specs.Reader.{reader_cmp}
 use Rattle.read_records.specs.Store.{MakesStaged, Notes, Stored, changed_to, if_noted, kept_for, note_at}
 use Rattle.read_records.specs.inner.Notes.{AreUnder, ComesToSame, HasKey, HasNoted, HavePlaces, SameNoted}
 use Rattle.read_records.specs.inner.Notes.{StandsFor}
-use Rattle.read_records.specs.inner.Readings.{Filed, IsLeft, Reading, Stands, StaysIn, reading}
+use Rattle.read_records.specs.inner.Filing.{Filed, IsLeft, Reading, Stands, StaysIn, reading}
 
 abbrev pub is_at : Reader → Reader → Bool
 is_at reader other = eq_by_cmp reader_cmp reader other

@@ -4,6 +4,6 @@ pub mod Notes
 pub mod Postings
 pub mod ReaderLaws
 pub mod Reached
-pub mod Readings
+pub mod Filing
 pub mod Remembered
 pub mod Touched

@@ -2,7 +2,7 @@ ghost use Rattle.std.specs.Prelude.{◌≡◌, ◌↔◌, ◌∷◌, [], Contain
 ghost use Rattle.shx_term.specs.Members.{Adds};
 ghost use Rattle.read_records.specs.declared.posting.Whom.{Whom};
 ghost use Rattle.read_records.specs.inner.Postings.{IsWithout, place, posting};
-ghost use Rattle.read_records.specs.inner.Readings.{ChangesOne, no_postings, tree};
+ghost use Rattle.read_records.specs.inner.Filing.{ChangesOne, no_postings, tree};
 
 use crate::posting::{Whom, place_of};
 use crate::postings::Postings;

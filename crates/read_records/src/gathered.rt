@@ -3,15 +3,15 @@ ghost use Rattle.shx_term.specs.Members.{Adds};
 ghost use Rattle.graph_view.specs.declared.key.Key.{Key};
 ghost use Rattle.read_records.specs.declared.posting.Posting.{Posting};
 ghost use Rattle.read_records.specs.inner.Postings.{place, posting};
-ghost use Rattle.read_records.specs.inner.Readings.{AddsOne, ChangesOne, HoldSame, Reading, Stands};
-ghost use Rattle.read_records.specs.inner.Readings.{StandsUnderEach, StaysIn, no_postings};
-ghost use Rattle.read_records.specs.inner.Readings.{nothing_filed, reading};
+ghost use Rattle.read_records.specs.inner.Filing.{AddsOne, ChangesOne, HoldSame, Reading, Stands};
+ghost use Rattle.read_records.specs.inner.Filing.{StandsUnderEach, StaysIn, no_postings};
+ghost use Rattle.read_records.specs.inner.Filing.{nothing_filed, reading};
 
 use crate::Reader;
 use crate::by_kind::ByKind;
+use crate::filing::Filing;
 use crate::posting::{Place, Posting, Whom, place_of, whom_of};
 use crate::postings::Postings;
-use crate::readings::Readings;
 use graph_view::Key;
 use shx_term::Memory;
 use std::alloc::Global;
@@ -110,7 +110,7 @@ pub(crate) struct Gathered {
 }
 
 impl Model for Gathered {
-    ghost use Rattle.read_records.specs.inner.Readings.{AreTargets, Filed};
+    ghost use Rattle.read_records.specs.inner.Filing.{AreTargets, Filed};
 
     ghost Value = { Filed };
 
@@ -152,11 +152,11 @@ impl Gathered {
 
     /// Puts them in order. It takes time `O(n log n)` in their number, and memory for those of one kind once
     /// more.
-    pub(crate) fn in_order(self, alloc: Global) -> Result<Readings, Memory>
+    pub(crate) fn in_order(self, alloc: Global) -> Result<Filing, Memory>
         ensures { IfOk result (λ made. (x : Reading) → Stands made x ↔ Stands self x) }
     {
         let targets = self.targets.in_order(alloc)?;
         let pairs = self.pairs.in_order(alloc)?;
-        Ok(Readings::of_trees(targets, pairs))
+        Ok(Filing::of_trees(targets, pairs))
     }
 }

@@ -9,7 +9,7 @@
 //! | `store.rt` | `Store`: for each reader a value beside its keys; `Records` is one with no value |
 //! | `noted.rt` | `Noted`: a value, and the keys that were read for it |
 //! | `notes.rt` | what is noted for each reader, and under which keys it stands for that |
-//! | `readings.rt` | under each key its readers |
+//! | `filing.rt` | under each key its readers |
 //! | `by_kind.rt` | postings for each kind of key |
 //! | `postings.rt` | the postings of one kind, as a tree |
 //! | `posting.rt` | `Posting`: the numbers of a key and of a reader |
@@ -23,6 +23,7 @@
 #![tactic(auto)]
 
 mod by_kind;
+mod filing;
 mod gathered;
 mod noted;
 mod notes;
@@ -30,7 +31,6 @@ mod posting;
 mod postings;
 mod reached;
 mod reader;
-mod readings;
 mod recall;
 mod records;
 mod store;

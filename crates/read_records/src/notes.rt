@@ -6,13 +6,13 @@ ghost use Rattle.read_records.specs.Reader.{reader_cmp};
 ghost use Rattle.read_records.specs.Store.{note_at};
 ghost use Rattle.read_records.specs.inner.Notes.{AreUnder, HasKey, HasNoted, HavePlaces, SameNoted};
 ghost use Rattle.read_records.specs.inner.Notes.{StandsFor};
-ghost use Rattle.read_records.specs.inner.Readings.{Stands, StandsUnderEach, StaysIn, reading};
+ghost use Rattle.read_records.specs.inner.Filing.{Stands, StandsUnderEach, StaysIn, reading};
 ghost use Rattle.graph_view.specs.declared.key.Key.{Key};
 
 use crate::Reader;
+use crate::filing::Filing;
 use crate::gathered::Gathered;
 use crate::noted::Noted;
-use crate::readings::Readings;
 use graph_view::Key;
 use shx_term::Memory;
 use std::alloc::Global;
@@ -42,7 +42,7 @@ fn has_key<T: Drop>(held: Option<&Option<Noted<T>>>, key: &Key) -> bool
 /// some.
 pub(crate) fn enter_note<T: Drop>(
     notes: &mut Notes<T>,
-    readings: &mut Readings,
+    readings: &mut Filing,
     reader: Reader,
     noted: &Option<Noted<T>>,
 ) -> Result<(), Memory>
@@ -62,7 +62,7 @@ pub(crate) fn enter_note<T: Drop>(
 
 // Enters a reader under each of these keys that its entry does not have.
 fn enter_keys<T: Drop>(
-    readings: &mut Readings,
+    readings: &mut Filing,
     held: Option<&Option<Noted<T>>>,
     keys: &[Key],
     reader: Reader,
@@ -138,7 +138,7 @@ pub(crate) fn gathered_from<T: Drop>(alloc: Global, notes: &Notes<T>) -> Result<
 /// Takes a reader out from under the keys of what went, where it has not read them by either of its entries.
 /// It takes no memory.
 pub(crate) fn forget_note<T: Drop>(
-    readings: &mut Readings,
+    readings: &mut Filing,
     kept: &Notes<T>,
     staged: &Notes<T>,
     reader: Reader,

@@ -16,11 +16,11 @@ ghost use Rattle.read_records.specs.inner.Masks.{AreStaged, MasksAmong};
 ghost use Rattle.read_records.specs.inner.Notes.{ComesToSame, HasNoted};
 
 use crate::Reader;
+use crate::filing::Filing;
 use crate::noted::Noted;
 use crate::notes::{
     Notes, enter_note, forget_note, gathered_from, has_noted, replace_note, vacate_place,
 };
-use crate::readings::Readings;
 use comp_core::Pair;
 use graph_view::Key;
 use shx_term::Memory;
@@ -36,7 +36,7 @@ pub(crate) struct Store<T: Drop> {
     kept: Notes<T>,
     staged: Notes<T>,
     /// Under each key whoever has it in an entry, so that what is staged stands there too.
-    readings: Readings,
+    readings: Filing,
 }
 
 impl<T: Drop> Model for Store<T> {
@@ -60,7 +60,7 @@ impl<T: Drop> Store<T> {
         Store {
             kept: BTreeMap::new(alloc),
             staged: BTreeMap::new(alloc),
-            readings: Readings::new(alloc),
+            readings: Filing::new(alloc),
         }
     }
 

@@ -7,8 +7,8 @@ use Rattle.shx_term.specs.declared.term.Term.{Term}
 use Rattle.path_eval.specs.declared.path.Path.{Path}
 use Rattle.path_eval.specs.Route.{sequence, alternative, route_of}
 use Rattle.text_output.specs.declared.format.Format.{Format}
-use Rattle.report_write.specs.declared.form.Form.{Form}
-use Rattle.report_write.specs.declared.form.Form.TheVariants.{Sequence, Alternative}
+use Rattle.report_write.specs.declared.path_form.PathForm.{PathForm}
+use Rattle.report_write.specs.declared.path_form.PathForm.TheVariants.{Sequence, Alternative}
 use Rattle.report_write.specs.PathForms.{between, closing, opening}
 use Rattle.report_write.specs.PathTexts.{enclosed, path_text, further_parts, further_members}
 use Rattle.report_write.specs.inner.Parts.{path_texts, before_next, joined}
@@ -91,12 +91,12 @@ further_members-rest format terms (member ∷ members) =
 -- ---- both forms
 
 -- all parts, with a mark between each two, between the marks of a form
-abbrev pub whole_text : Format → Form → List Term → List Path → List ℕ
+abbrev pub whole_text : Format → PathForm → List Term → List Path → List ℕ
 whole_text format form terms parts =
     enclosed format form (joined (between format form) (path_texts format terms parts))
 
 -- of no part
-empty_text : (format : Format) (form : Form)
+empty_text : (format : Format) (form : PathForm)
     → opening format form ++ closing format form ≡ enclosed format form []
 empty_text format form = ap (λ front. front ++ closing format form) (sym (append-nil (opening format form)))
 

@@ -3,12 +3,12 @@
 use Rattle.std.specs.Prelude.{ℕ, List, codes}
 use Rattle.text_output.specs.declared.format.Format.{Format}
 use Rattle.text_output.specs.declared.format.Format.TheVariants.{Lines, Turtle}
-use Rattle.report_write.specs.declared.form.Form.{Form}
-use Rattle.report_write.specs.declared.form.Form.TheVariants.{Sequence, Alternative, Inverse}
-use Rattle.report_write.specs.declared.form.Form.TheVariants.{ZeroOrMore, OneOrMore, ZeroOrOne}
+use Rattle.report_write.specs.declared.path_form.PathForm.{PathForm}
+use Rattle.report_write.specs.declared.path_form.PathForm.TheVariants.{Sequence, Alternative, Inverse}
+use Rattle.report_write.specs.declared.path_form.PathForm.TheVariants.{ZeroOrMore, OneOrMore, ZeroOrOne}
 
 -- what stands before the first part
-abbrev pub opening : Format → Form → List ℕ
+abbrev pub opening : Format → PathForm → List ℕ
 opening Lines Sequence = codes "("
 opening Lines Alternative = codes "("
 opening Lines Inverse = codes "(^"
@@ -23,13 +23,13 @@ opening Turtle OneOrMore = codes "[ sh:oneOrMorePath "
 opening Turtle ZeroOrOne = codes "[ sh:zeroOrOnePath "
 
 -- what stands between two parts; only sequences and alternatives have more than one
-abbrev pub between : Format → Form → List ℕ
+abbrev pub between : Format → PathForm → List ℕ
 between Lines Sequence = codes "/"
 between Lines form = codes "|"
 between Turtle form = codes " "
 
 -- what stands behind the last part
-abbrev pub closing : Format → Form → List ℕ
+abbrev pub closing : Format → PathForm → List ℕ
 closing Lines Sequence = codes ")"
 closing Lines Alternative = codes ")"
 closing Lines Inverse = codes ")"

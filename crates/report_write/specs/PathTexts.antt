@@ -5,13 +5,13 @@ use Rattle.path_eval.specs.Route.{Route, along, here, first_then, none, one_or_o
 use Rattle.path_eval.specs.Route.{some_times, perhaps}
 use Rattle.text_output.specs.TermTexts.{number_text}
 use Rattle.text_output.specs.declared.format.Format.{Format}
-use Rattle.report_write.specs.declared.form.Form.{Form}
-use Rattle.report_write.specs.declared.form.Form.TheVariants.{Sequence, Alternative, Inverse}
-use Rattle.report_write.specs.declared.form.Form.TheVariants.{ZeroOrMore, OneOrMore, ZeroOrOne}
+use Rattle.report_write.specs.declared.path_form.PathForm.{PathForm}
+use Rattle.report_write.specs.declared.path_form.PathForm.TheVariants.{Sequence, Alternative, Inverse}
+use Rattle.report_write.specs.declared.path_form.PathForm.TheVariants.{ZeroOrMore, OneOrMore, ZeroOrOne}
 use Rattle.report_write.specs.PathForms.{opening, between, closing}
 
 -- a text, or several that were joined, between the marks of a form
-abbrev pub enclosed : Format → Form → List ℕ → List ℕ
+abbrev pub enclosed : Format → PathForm → List ℕ → List ℕ
 enclosed format form text = opening format form ++ text ++ closing format form
 
 abbrev mutual

@@ -7,7 +7,7 @@
 //! | `result_line.rt` | one result as lines, with its messages |
 //! | `result_block.rt` | one result in Turtle |
 //! | `result_names.rt` | the names of components and of severities |
-//! | `path.rt`, `form.rt` | how a path is written, and the marks of each form |
+//! | `path.rt`, `path_form.rt` | how a path is written, and the marks of each form |
 //! | `answer.rt` | `Answer` and its text |
 //! | `slice.rt` | the text of a slice |
 //! | `roles.rt` | the names of what texts are read for |
@@ -18,8 +18,8 @@
 #![tactic(auto)]
 
 mod answer;
-mod form;
 mod path;
+mod path_form;
 mod report;
 mod result_block;
 mod result_line;

@@ -4,7 +4,7 @@ ghost use Rattle.report_write.specs.PathForms.{between};
 ghost use Rattle.report_write.specs.PathTexts.{enclosed, path_text};
 ghost use Rattle.report_write.specs.inner.Parts.{joined, path_texts};
 
-use crate::form::{Form, between, closing, opening};
+use crate::path_form::{PathForm, between, closing, opening};
 use path_eval::Path;
 use shx_term::{Pieces, Pool};
 use text_output::{Format, add_term};
@@ -17,18 +17,18 @@ pub fn add_path<W: Pieces>(path: &Path, format: Format, pool: &Pool, out: &mut W
 {
     match path {
         Path::Pred(p) => add_term(*p, pool, out),
-        Path::Seq(parts) => add_parts(Form::Sequence, parts, format, pool, out),
-        Path::Alt(members) => add_parts(Form::Alternative, members, format, pool, out),
-        Path::Inverse(inner) => add_inner(Form::Inverse, inner, format, pool, out),
-        Path::ZeroOrMore(inner) => add_inner(Form::ZeroOrMore, inner, format, pool, out),
-        Path::OneOrMore(inner) => add_inner(Form::OneOrMore, inner, format, pool, out),
-        Path::ZeroOrOne(inner) => add_inner(Form::ZeroOrOne, inner, format, pool, out),
+        Path::Seq(parts) => add_parts(PathForm::Sequence, parts, format, pool, out),
+        Path::Alt(members) => add_parts(PathForm::Alternative, members, format, pool, out),
+        Path::Inverse(inner) => add_inner(PathForm::Inverse, inner, format, pool, out),
+        Path::ZeroOrMore(inner) => add_inner(PathForm::ZeroOrMore, inner, format, pool, out),
+        Path::OneOrMore(inner) => add_inner(PathForm::OneOrMore, inner, format, pool, out),
+        Path::ZeroOrOne(inner) => add_inner(PathForm::ZeroOrOne, inner, format, pool, out),
     }
 }
 
 // A path of one part.
 #[cycle(path)]
-fn add_inner<W: Pieces>(form: Form, inner: &Path, format: Format, pool: &Pool, out: &mut W)
+fn add_inner<W: Pieces>(form: PathForm, inner: &Path, format: Format, pool: &Pool, out: &mut W)
     ensures { W.added out.old out.new
         (enclosed format form (path_text format pool.now.terms (route_of inner.now))) }
 {
@@ -39,7 +39,7 @@ fn add_inner<W: Pieces>(form: Form, inner: &Path, format: Format, pool: &Pool, o
 
 // A path of any number of parts.
 #[cycle(path)]
-fn add_parts<W: Pieces>(form: Form, parts: &[Path], format: Format, pool: &Pool, out: &mut W)
+fn add_parts<W: Pieces>(form: PathForm, parts: &[Path], format: Format, pool: &Pool, out: &mut W)
     ensures { W.added out.old out.new
         (enclosed format form (joined (between format form) (path_texts format pool.now.terms parts.now))) }
 {

@@ -11,7 +11,7 @@ use Rattle.ttl_tokens.specs.Chars.{is_white}
 use Rattle.ttl_tokens.specs.declared.token.TokenKind.{TokenKind}
 use Rattle.ttl_tokens.specs.declared.token.TokenKind.TheVariants.{End}
 use Rattle.ttl_tokens.specs.Tokens.{IsNext}
-use Rattle.ttl_tokens.specs.inner.BlankWalk.{behind}
+use Rattle.ttl_tokens.specs.inner.BlankWalk.{after_blanks}
 use Rattle.ttl_tokens.proofs.BlankLemmas.{walk_stops}
 use Rattle.ttl_tokens.proofs.RestLemmas.{longest_one}
 use Rattle.script_lines.specs.Forms.{EndsAt, begins_with, word_start}
@@ -26,7 +26,7 @@ abbrev IsWhite : List ℕ → Type 0
 IsWhite front = (k : ℕ) → k < length front → is_white (get_or front k 0) ≡ true
 
 -- ... so the walk over white space passes it
-passes_white : (front ys : List ℕ) → IsWhite front → behind false (front ++ ys) ≡ behind false ys
+passes_white : (front ys : List ℕ) → IsWhite front → after_blanks false (front ++ ys) ≡ after_blanks false ys
 passes_white [] ys white = refl
 passes_white (c ∷ cs) ys white =
     let here : is_white c ≡ true = white zero (omega arith) in
@@ -68,7 +68,7 @@ module _ (line : List ℕ) (utf8 : IsUtf8 line) where
       let first : chars rest ≡ c ∷ chars more =
       chars_past_char rest more c text
       (is ∙ ap (λ (l : List ℕ). l ++ more) (sym (encode_ascii c low))) in
-      let left : behind false (chars rest) ≡ behind false (chars line) =
+      let left : after_blanks false (chars rest) ≡ after_blanks false (chars line) =
       sym (rw line_chars (passes_white front (chars rest) front_white)) in
       let stops : SkipsBlanks (chars line) (chars rest) =
       walk_stops (chars line) (chars rest) c (chars more) left first black hash in

@@ -3,11 +3,11 @@ use Rattle.std.proofs.Common.{◌≡◌, ℕ, zero, true, List, ◌++◌, Option
 use Rattle.std.proofs.Common.{refl, sym, ap, ◌∙◌, codes, nat_eq, MatchOption}
 use Rattle.std.specs.List.{starts_with}
 use Rattle.ttl_tokens.specs.declared.token.Token.{Token}
-use Rattle.script_lines.specs.declared.form.Form.{Form}
-use Rattle.script_lines.specs.declared.form.Form.TheVariants.{Blank, Alone, Insert, Remove, Slice}
-use Rattle.script_lines.specs.declared.form.Form.TheVariants.{Shapes}
-use Rattle.script_lines.specs.declared.form.PairTokens.{PairTokens}
-use Rattle.script_lines.specs.declared.form.Terms.{Terms}
+use Rattle.script_lines.specs.declared.line_form.LineForm.{LineForm}
+use Rattle.script_lines.specs.declared.line_form.LineForm.TheVariants.{Blank, Alone, Insert, Remove, Slice}
+use Rattle.script_lines.specs.declared.line_form.LineForm.TheVariants.{Shapes}
+use Rattle.script_lines.specs.declared.line_form.PairTokens.{PairTokens}
+use Rattle.script_lines.specs.declared.line_form.Terms.{Terms}
 use Rattle.script_lines.specs.declared.word.Word.{Word}
 use Rattle.script_lines.specs.declared.word.Word.TheVariants.{Report, Count, Begin, Commit, Abandon}
 use Rattle.script_lines.specs.declared.word.Word.TheVariants.{Undo, Redo}
@@ -25,7 +25,7 @@ pub data Head : Type 0 where
   Slices : Head
   Renews : Head
 
-abbrev pub head : Form → Head
+abbrev pub head : LineForm → Head
 head Blank = Empty
 head (Alone word) = Lone word
 head (Insert terms) = Inserts
@@ -60,7 +60,7 @@ word_tells Redo more = refl
 
 module _ (line : List ℕ) where
   abbrev pub NoForm : Type 0
-  NoForm = (form : Form) → HasForm line form → ⊥
+  NoForm = (form : LineForm) → HasForm line form → ⊥
 
   abbrev pub line_head : Head
   line_head = head_of (drop (word_start line) line)
@@ -81,7 +81,7 @@ module _ (line : List ℕ) where
   shapes_head begins = ap head_of (begins_is (codes "shapes") line begins)
 
   module _ (some : EndsAt line zero → ⊥) where
-    pub form_head : (form : Form) → HasForm line form → line_head ≡ head form
+    pub form_head : (form : LineForm) → HasForm line form → line_head ≡ head form
     form_head Blank h = absurd (some h)
     form_head (Alone word) h = alone_head word h.begins
     form_head (Insert terms) h = insert_head h.word_is.begins
@@ -91,27 +91,27 @@ module _ (line : List ℕ) where
 
     -- ---- no form but that of the word
 
-    by_word : (word : Word) (form : Form) → head form ≡ Lone word → HasForm line form
+    by_word : (word : Word) (form : LineForm) → head form ≡ Lone word → HasForm line form
         → EndsAt line (word_end (word_text word) line)
     by_word word (Alone other) is h = let same : other ≡ word = cc in rw (← same) h.ends
     by_word word form is h = absurd (cc)
 
-    by_insert : (form : Form) → head form ≡ Inserts → HasForm line form
+    by_insert : (form : LineForm) → head form ≡ Inserts → HasForm line form
         → (terms : Terms) × IsTriple line (word_end (codes "insert") line) terms
     by_insert (Insert terms) is h = (terms, h.triple)
     by_insert form is h = absurd (cc)
 
-    by_remove : (form : Form) → head form ≡ Removes → HasForm line form
+    by_remove : (form : LineForm) → head form ≡ Removes → HasForm line form
         → (terms : Terms) × IsTriple line (word_end (codes "remove") line) terms
     by_remove (Remove terms) is h = (terms, h.triple)
     by_remove form is h = absurd (cc)
 
-    by_slice : (form : Form) → head form ≡ Slices → HasForm line form
+    by_slice : (form : LineForm) → head form ≡ Slices → HasForm line form
         → (pair : PairTokens) × IsPair line (word_end (codes "slice") line) pair
     by_slice (Slice pair) is h = (pair, h.pair_is)
     by_slice form is h = absurd (cc)
 
-    by_shapes : (form : Form) → head form ≡ Renews → HasForm line form
+    by_shapes : (form : LineForm) → head form ≡ Renews → HasForm line form
         → (name : Token) × IsName line (word_end (codes "shapes") line) name
     by_shapes (Shapes name) is h = (name, h.name_is)
     by_shapes form is h = absurd (cc)
@@ -120,10 +120,10 @@ module _ (line : List ℕ) where
 
     module _ (at : ℕ) where
       -- what is found where a word may stand alone
-      abbrev IsAlone : Form → Option Form → Type 0
+      abbrev IsAlone : LineForm → Option LineForm → Type 0
       IsAlone form found = MatchOption found (EndsAt line at → ⊥) (λ f. (f ≡ form) × EndsAt line at)
 
-      pub alone_answer : (word : Word) → IsWordEnd line (word_text word) at → (found : Option Form)
+      pub alone_answer : (word : Word) → IsWordEnd line (word_text word) at → (found : Option LineForm)
           → IsAlone (Alone word) found → MatchOption found NoForm (HasForm line)
       alone_answer word end None none = λ form h.
           none (rw end.place (by_word word form (sym (form_head form h) ∙ alone_head word end.begins) h))

@@ -4,10 +4,10 @@ use Rattle.std.specs.Str.{IsUtf8}
 use Rattle.ttl_tokens.specs.declared.token.Token.{Token}
 use Rattle.ttl_tokens.specs.Tokens.{IsTokenAt}
 use Rattle.ttl_tokens.proofs.OneTokenLemmas.{one_token}
-use Rattle.script_lines.specs.declared.form.Form.{Form}
-use Rattle.script_lines.specs.declared.form.Form.TheVariants.{Blank, Alone, Insert, Remove, Slice}
-use Rattle.script_lines.specs.declared.form.Form.TheVariants.{Shapes}
-use Rattle.script_lines.specs.declared.form.Terms.{Terms}
+use Rattle.script_lines.specs.declared.line_form.LineForm.{LineForm}
+use Rattle.script_lines.specs.declared.line_form.LineForm.TheVariants.{Blank, Alone, Insert, Remove, Slice}
+use Rattle.script_lines.specs.declared.line_form.LineForm.TheVariants.{Shapes}
+use Rattle.script_lines.specs.declared.line_form.Terms.{Terms}
 use Rattle.script_lines.specs.declared.word.Word.{Word}
 use Rattle.script_lines.specs.declared.word.Word.TheVariants.{Report, Count, Begin, Commit, Abandon}
 use Rattle.script_lines.specs.declared.word.Word.TheVariants.{Undo, Redo}
@@ -59,7 +59,7 @@ module _ (line : List ℕ) (utf8 : IsUtf8 line) where
   shapes_more : begins_with (codes "shapes") line ≡ true → EndsAt line zero → ⊥
   shapes_more = not_blank line utf8 (codes "shapes") refl
 
-  only_blank : EndsAt line zero → (form : Form) → HasForm line form → form ≡ Blank
+  only_blank : EndsAt line zero → (form : LineForm) → HasForm line form → form ≡ Blank
   only_blank end Blank h = refl
   only_blank end (Alone word) h = absurd (word_more word h.begins end)
   only_blank end (Insert terms) h = absurd (insert_more h.word_is.begins end)
@@ -69,7 +69,7 @@ module _ (line : List ℕ) (utf8 : IsUtf8 line) where
 
   -- ---- by the word
 
-  one_head : (a b : Form) → head a ≡ head b → HasForm line a → HasForm line b → a ≡ b
+  one_head : (a b : LineForm) → head a ≡ head b → HasForm line a → HasForm line b → a ≡ b
   one_head Blank Blank e h k = refl
   one_head (Alone a) (Alone b) e h k = let same : a ≡ b = cc in ap Alone same
   one_head (Insert a) (Insert b) e h k =
@@ -82,11 +82,11 @@ module _ (line : List ℕ) (utf8 : IsUtf8 line) where
       ap Shapes (one_name line utf8 (word_end (codes "shapes") line) a b h.name_is k.name_is)
   one_head a b e h k = absurd (cc)
 
-  some_word : (EndsAt line zero → ⊥) → (a b : Form) → HasForm line a → HasForm line b → a ≡ b
+  some_word : (EndsAt line zero → ⊥) → (a b : LineForm) → HasForm line a → HasForm line b → a ≡ b
   some_word some a b h k =
       one_head a b (sym (form_head line some a h) ∙ form_head line some b k) h k
 
-  pub one_form : (a b : Form) → HasForm line a → HasForm line b → a ≡ b
+  pub one_form : (a b : LineForm) → HasForm line a → HasForm line b → a ≡ b
   one_form Blank b h k = sym (only_blank h b k)
   one_form (Alone word) b h k = some_word (word_more word h.begins) (Alone word) b h k
   one_form (Insert terms) b h k = some_word (insert_more h.word_is.begins) (Insert terms) b h k

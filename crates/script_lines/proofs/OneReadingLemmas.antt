@@ -10,9 +10,9 @@ use Rattle.ttl_read.specs.ReadTerm.{Found, A, No, IsFound}
 use Rattle.ttl_read.proofs.OneFoundLemmas.{one_found}
 use Rattle.script_lines.specs.declared.command.Command.{Command}
 use Rattle.script_lines.specs.declared.fault.LineFault.{LineFault}
-use Rattle.script_lines.specs.declared.form.Form.{Form}
-use Rattle.script_lines.specs.declared.form.Form.TheVariants as the_form
-use Rattle.script_lines.specs.declared.form.Terms.{Terms}
+use Rattle.script_lines.specs.declared.line_form.LineForm.{LineForm}
+use Rattle.script_lines.specs.declared.line_form.LineForm.TheVariants as the_form
+use Rattle.script_lines.specs.declared.line_form.Terms.{Terms}
 use Rattle.script_lines.specs.Lines.{IsPredicateFound, IsTripleRead, BadSubject, BadPredicate, BadObject}
 use Rattle.script_lines.specs.Lines.{ATriple, IsAsked, IsLineRead, TooLong, NotUtf8, NoForm, AForm}
 use Rattle.script_lines.specs.Lines.{edits_by, term_fault}
@@ -99,7 +99,7 @@ module _ (line : List ℕ) (utf8 : IsUtf8 line) (document : Document) where
 
   -- ---- what a form asks for
 
-  one_asked : (f : Form) (a b : Result Command LineFault) → IsAsked line document f a
+  one_asked : (f : LineForm) (a b : Result Command LineFault) → IsAsked line document f a
       → IsAsked line document f b → a ≡ b
   one_asked the_form.Blank a b h k = h ∙ sym k
   one_asked (the_form.Alone word) a b h k = h ∙ sym k
@@ -132,4 +132,4 @@ module _ (limits : Limits) (document : Document) (line : List ℕ) (a b : Result
   one_reading (AForm less utf8 f has asked) (AForm also utf8' g has' asked') =
       let same : g ≡ f = one_form line utf8 g f has' has in
       one_asked line utf8 document f a b asked
-      (subst (λ (form : Form). IsAsked line document form b) same asked')
+      (subst (λ (form : LineForm). IsAsked line document form b) same asked')

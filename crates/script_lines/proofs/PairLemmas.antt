@@ -6,7 +6,7 @@ use Rattle.ttl_tokens.specs.Tokens.{IsTokenAt}
 use Rattle.ttl_tokens.proofs.OneTokenLemmas.{one_token}
 use Rattle.ttl_read.specs.ReadTerm.{GoesTo}
 use Rattle.ttl_read.proofs.GoesToLemmas.{one_end}
-use Rattle.script_lines.specs.declared.form.PairTokens.{PairTokens}
+use Rattle.script_lines.specs.declared.line_form.PairTokens.{PairTokens}
 use Rattle.script_lines.specs.Forms.{Comes, EndsAt, IsPair, is_subject}
 
 module _ (line : List ℕ) (utf8 : IsUtf8 line) (at : ℕ) where

@@ -21,7 +21,7 @@ use Rattle.script_lines.specs.declared.command.Command.{Command}
 use Rattle.script_lines.specs.declared.command.Command.TheVariants.{Slice}
 use Rattle.script_lines.specs.declared.fault.LineFault.{LineFault}
 use Rattle.script_lines.specs.declared.fault.LineFault.TheVariants.{Line, Memory}
-use Rattle.script_lines.specs.declared.form.PairTokens.{PairTokens}
+use Rattle.script_lines.specs.declared.line_form.PairTokens.{PairTokens}
 use Rattle.script_lines.specs.Lines.{IsShapeFound, IsPairRead, BadShape, BadNode, APair, term_fault}
 use Rattle.script_lines.specs.inner.Parts.{IsTermRead}
 use Rattle.script_lines.proofs.TermLemmas.{found_or_not, same_fault, same_term}

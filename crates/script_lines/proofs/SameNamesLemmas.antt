@@ -14,10 +14,10 @@ use Rattle.ttl_read.specs.ReadTerm.{Found, IsFound, AnIri, ANode, ALiteral, AStr
 use Rattle.ttl_read.specs.ReadTerm.{IsNodeFound, IsStringFound, found_iri, found_typed}
 use Rattle.script_lines.specs.declared.command.Command.{Command}
 use Rattle.script_lines.specs.declared.fault.LineFault.{LineFault}
-use Rattle.script_lines.specs.declared.form.Form.{Form}
-use Rattle.script_lines.specs.declared.form.Form.TheVariants as form
-use Rattle.script_lines.specs.declared.form.PairTokens.{PairTokens}
-use Rattle.script_lines.specs.declared.form.Terms.{Terms}
+use Rattle.script_lines.specs.declared.line_form.LineForm.{LineForm}
+use Rattle.script_lines.specs.declared.line_form.LineForm.TheVariants as form
+use Rattle.script_lines.specs.declared.line_form.PairTokens.{PairTokens}
+use Rattle.script_lines.specs.declared.line_form.Terms.{Terms}
 use Rattle.script_lines.specs.Lines.{IsAsked, IsLineRead, TooLong, NotUtf8, NoForm, AForm, IsPredicateFound}
 use Rattle.script_lines.specs.Lines.{IsTripleRead, BadSubject, BadPredicate, BadObject, ATriple}
 use Rattle.script_lines.specs.Lines.{IsShapeFound, IsPairRead, BadShape, BadNode, APair}
@@ -88,7 +88,7 @@ module _ (a b : Document) (alike : HaveSameNames a b) where
     pair_read pair command (APair s n s_end n_end sf nf is) =
         APair s n s_end n_end (shape_found pair.shape _ sf) (term_found pair.node _ nf) is
 
-    asked : (f : Form) (reading : Result Command LineFault) → IsAsked line a f reading
+    asked : (f : LineForm) (reading : Result Command LineFault) → IsAsked line a f reading
         → IsAsked line b f reading
     asked form.Blank reading is = is
     asked (form.Alone word) reading is = is

@@ -14,7 +14,7 @@ use Rattle.ttl_read.proofs.KindLemmas.{kind_is}
 use Rattle.ttl_read.proofs.TokenTermLemmas.{found_at_iri, found_at_label, found_not_wide}
 use Rattle.script_lines.specs.declared.fault.LineFault.{LineFault}
 use Rattle.script_lines.specs.declared.fault.LineFault.TheVariants.{Line, Memory}
-use Rattle.script_lines.specs.declared.form.Terms.{Terms}
+use Rattle.script_lines.specs.declared.line_form.Terms.{Terms}
 use Rattle.script_lines.specs.Forms.{IsTriple, is_subject}
 use Rattle.script_lines.specs.Lines.{IsPredicateFound, IsTripleRead, BadSubject, BadPredicate, BadObject}
 use Rattle.script_lines.specs.Lines.{ATriple, line_code, term_fault}

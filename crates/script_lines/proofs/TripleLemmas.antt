@@ -13,7 +13,7 @@ use Rattle.ttl_read.specs.Grammar.{begins_verb, is_kind}
 use Rattle.ttl_read.specs.ReadTerm.{GoesTo}
 use Rattle.ttl_read.proofs.GoesToLemmas.{IsPlace, goes_within, one_end}
 use Rattle.ttl_read.proofs.KindLemmas.{kind_is}
-use Rattle.script_lines.specs.declared.form.Terms.{Terms}
+use Rattle.script_lines.specs.declared.line_form.Terms.{Terms}
 use Rattle.script_lines.specs.Forms.{Comes, EndsAt, IsTriple, is_subject}
 use Rattle.script_lines.specs.inner.Parts.{IsStop}
 

@@ -11,11 +11,11 @@ use Rattle.ttl_tokens.specs.Chars.{is_white}
 use Rattle.ttl_tokens.specs.Tokens.{IsTokenAt}
 use Rattle.ttl_read.specs.Grammar.{begins_verb, is_iri, is_kind, is_string}
 use Rattle.ttl_read.specs.ReadTerm.{GoesTo}
-use Rattle.script_lines.specs.declared.form.Form.{Form}
-use Rattle.script_lines.specs.declared.form.Form.TheVariants.{Blank, Alone, Insert, Remove, Slice}
-use Rattle.script_lines.specs.declared.form.Form.TheVariants.{Shapes}
-use Rattle.script_lines.specs.declared.form.PairTokens.{PairTokens}
-use Rattle.script_lines.specs.declared.form.Terms.{Terms}
+use Rattle.script_lines.specs.declared.line_form.LineForm.{LineForm}
+use Rattle.script_lines.specs.declared.line_form.LineForm.TheVariants.{Blank, Alone, Insert, Remove, Slice}
+use Rattle.script_lines.specs.declared.line_form.LineForm.TheVariants.{Shapes}
+use Rattle.script_lines.specs.declared.line_form.PairTokens.{PairTokens}
+use Rattle.script_lines.specs.declared.line_form.Terms.{Terms}
 use Rattle.script_lines.specs.declared.word.Word.{Word}
 use Rattle.script_lines.specs.declared.word.Word.TheVariants.{Report, Count, Begin, Commit, Abandon}
 use Rattle.script_lines.specs.declared.word.Word.TheVariants.{Undo, Redo}
@@ -115,7 +115,7 @@ pub record IsShapes (line word : List ℕ) (name : Token) : Type 0 where
 
 -- ---- lines
 
-abbrev pub HasForm : List ℕ → Form → Type 0
+abbrev pub HasForm : List ℕ → LineForm → Type 0
 HasForm line Blank = EndsAt line 0
 HasForm line (Alone word) = IsWord line (word_text word)
 HasForm line (Insert terms) = IsEdit line (codes "insert") terms

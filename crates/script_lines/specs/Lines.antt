@@ -28,10 +28,10 @@ use Rattle.script_lines.specs.declared.command.Command.TheVariants.{Commit, Aban
 use Rattle.script_lines.specs.declared.command.Command.TheVariants.{Slice, Shapes, Nothing}
 use Rattle.script_lines.specs.declared.fault.LineFault.{LineFault}
 use Rattle.script_lines.specs.declared.fault.LineFault.TheVariants.{Line}
-use Rattle.script_lines.specs.declared.form.Form.{Form}
-use Rattle.script_lines.specs.declared.form.Form.TheVariants as form
-use Rattle.script_lines.specs.declared.form.PairTokens.{PairTokens}
-use Rattle.script_lines.specs.declared.form.Terms.{Terms}
+use Rattle.script_lines.specs.declared.line_form.LineForm.{LineForm}
+use Rattle.script_lines.specs.declared.line_form.LineForm.TheVariants as form
+use Rattle.script_lines.specs.declared.line_form.PairTokens.{PairTokens}
+use Rattle.script_lines.specs.declared.line_form.Terms.{Terms}
 use Rattle.script_lines.specs.declared.word.Word.{Word}
 use Rattle.script_lines.specs.declared.word.Word.TheVariants as word
 use Rattle.script_lines.specs.Forms.{HasForm}
@@ -119,7 +119,7 @@ asked_by word.Undo = Undo
 asked_by word.Redo = Redo
 
 -- a line of this form asks for this
-abbrev pub IsAsked : List ℕ → Document → Form → Result Command LineFault → Type 0
+abbrev pub IsAsked : List ℕ → Document → LineForm → Result Command LineFault → Type 0
 IsAsked line document form.Blank reading = reading ≡ Ok Nothing
 IsAsked line document (form.Alone word) reading = reading ≡ Ok (asked_by word)
 IsAsked line document (form.Insert terms) reading =
@@ -138,9 +138,9 @@ pub data IsLineRead (limits : Limits) (document : Document) (line : List ℕ)
       → IsLineRead limits document line reading
   NotUtf8 : length line ≤ limits.line → (IsUtf8 line → ⊥) → reading ≡ Err (Line LINE_NOT_UTF8 None)
       → IsLineRead limits document line reading
-  NoForm : length line ≤ limits.line → IsUtf8 line → ((form : Form) → HasForm line form → ⊥)
+  NoForm : length line ≤ limits.line → IsUtf8 line → ((form : LineForm) → HasForm line form → ⊥)
       → reading ≡ Err (Line LINE_SYNTAX None) → IsLineRead limits document line reading
-  AForm : length line ≤ limits.line → IsUtf8 line → (form : Form) → HasForm line form
+  AForm : length line ≤ limits.line → IsUtf8 line → (form : LineForm) → HasForm line form
       → IsAsked line document form reading → IsLineRead limits document line reading
 
 -- what a command inserts or removes is a valid triple

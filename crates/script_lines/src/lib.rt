@@ -5,7 +5,7 @@
 //! | `line.rt` | `read_line`: the command of a line |
 //! | `command.rt` | `Command`: what a line asks for |
 //! | `fault.rt` | `LineFault`: why a line is no command |
-//! | `form.rt` | the form of a line, by its tokens |
+//! | `line_form.rt` | the form of a line, by its tokens |
 //! | `word.rt` | `Word`: the words that stand alone, and the word with which a line begins |
 //! | `term.rt` | the terms of a line |
 //! | `laws.rt` | a line has one reading, by the base, prefixes and blank nodes of the data text |
@@ -17,9 +17,9 @@
 
 mod command;
 mod fault;
-mod form;
 mod laws;
 mod line;
+mod line_form;
 mod term;
 mod word;
 

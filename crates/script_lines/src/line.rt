@@ -6,7 +6,7 @@ ghost use Rattle.script_lines.specs.inner.Parts.{HasPair, HasTerms};
 ghost use Rattle.script_lines.specs.Lines.{IsAsked, IsLineRead, IsPairRead, IsTripleRead};
 ghost use Rattle.script_lines.specs.Lines.{IsValidCommand};
 
-use crate::form::{Form, PairTokens, Terms, form_of};
+use crate::line_form::{LineForm, PairTokens, Terms, form_of};
 use crate::term::{predicate_at, shape_at, term_at};
 use crate::{Command, LineFault};
 use shx_term::fault_codes::{LINE_NOT_UTF8, LINE_SYNTAX, LINE_TOO_LONG};
@@ -51,7 +51,7 @@ pub fn read_line(
 fn command_of(
     alloc: Global,
     line: &str,
-    form: &Form,
+    form: &LineForm,
     document: &Document,
 ) -> Result<Command, LineFault>
     requires { HasForm line.now form.now }
@@ -61,18 +61,18 @@ fn command_of(
         → IsAsked line.now document.now form.now (Err fault)) }
 {
     match form {
-        Form::Blank => Ok(Command::Nothing),
-        Form::Alone(word) => Ok(word.command()),
-        Form::Insert(terms) => {
+        LineForm::Blank => Ok(Command::Nothing),
+        LineForm::Alone(word) => Ok(word.command()),
+        LineForm::Insert(terms) => {
             let triple = read_triple(alloc, line, terms, document)?;
             Ok(Command::Edit(Edit::Insert(triple)))
         }
-        Form::Remove(terms) => {
+        LineForm::Remove(terms) => {
             let triple = read_triple(alloc, line, terms, document)?;
             Ok(Command::Edit(Edit::Remove(triple)))
         }
-        Form::Slice(pair) => read_pair(alloc, line, pair, document),
-        Form::Shapes(name) => {
+        LineForm::Slice(pair) => read_pair(alloc, line, pair, document),
+        LineForm::Shapes(name) => {
             let name = Text::new(unescape(alloc, line, name)?);
             Ok(Command::Shapes(name))
         }

@@ -38,7 +38,7 @@ use Rattle.shape_check.specs.Faults.{offenders, rules}
 use Rattle.shape_check.specs.Kinds.{is_of_kind, literal_is}
 use Rattle.shape_check.specs.Laws.{AcceptedGraphsAreWellFormed, AcceptedShapesAreWellFormed}
 use Rattle.shape_check.specs.Laws.{IsWellFormed}
-use Rattle.shape_check.specs.Restrictions.{is_among, property_parameters, restriction_of}
+use Rattle.shape_check.specs.Restrictions.{is_one_of, property_parameters, restriction_of}
 
 -- ---- lists
 
@@ -83,13 +83,13 @@ any_held test (y ∷ xs) x c so = elim (Contains-cases y x xs c) [
   | inr d ↦ or_true (test y) (list_any test xs) (any_held test xs x d so)
 ]
 
-among : (xs : List ℕ) (x : ℕ) → Contains xs x → is_among xs x ≡ true
+among : (xs : List ℕ) (x : ℕ) → Contains xs x → is_one_of xs x ≡ true
 among xs x c = any_held (λ y. y == x) xs x c (nat_eq_equiv.refl x)
 
-from_among : (xs : List ℕ) (x : ℕ) → is_among xs x ≡ true → Contains xs x
+from_among : (xs : List ℕ) (x : ℕ) → is_one_of xs x ≡ true → Contains xs x
 from_among [] x e = cc
 from_among (y ∷ xs) x e =
-    elim (y == x) as (λ b. (y == x) ≡ b → b || is_among xs x ≡ true → Contains (y ∷ xs) x) [
+    elim (y == x) as (λ b. (y == x) ≡ b → b || is_one_of xs x ≡ true → Contains (y ∷ xs) x) [
       | true ↦ λ same h. subst (λ z. Contains (y ∷ xs) z) (eqb-true y x same) (Contains-head y xs)
       | false ↦ λ other h. Contains-tail y x xs (from_among xs x h)
     ] refl e
@@ -273,8 +273,8 @@ module _ (limits : Limits) (terms : List Term) (ds : List Declaration)
     at_property_shape none p c =
         empty_of (values_under d p) (λ value held.
         let first =
-        first_held (is_none d.path && is_among property_parameters p) (values_under d p) value
-        (ap (λ o. is_none o && is_among property_parameters p) none ∙ among property_parameters p c) held in
+        first_held (is_none d.path && is_one_of property_parameters p) (values_under d p) value
+        (ap (λ o. is_none o && is_one_of property_parameters p) none ∙ among property_parameters p c) held in
         free NotOnNodeShape p value held first.0 first.1)
 
     known_flags : (value : ℕ) (literal : Literal) → Contains (values_under d SH_FLAGS) value
@@ -283,11 +283,11 @@ module _ (limits : Limits) (terms : List Term) (ds : List Declaration)
     known_flags value literal c is flag inside =
         let unknown = λ (n : ℕ). literal_is has_unknown_flag (slice_get terms n) in
         from_among (codes "imsx") flag
-        (true_unless (is_among (codes "imsx") flag) (λ other.
+        (true_unless (is_one_of (codes "imsx") flag) (λ other.
         free BadFlags SH_FLAGS value c value
         (Contains-filter unknown (values_under d SH_FLAGS) value c
         (ap (literal_is has_unknown_flag) is
-        ∙ any_held (λ f. not (is_among (codes "imsx") f)) literal.lexical flag inside other))))
+        ∙ any_held (λ f. not (is_one_of (codes "imsx") f)) literal.lexical flag inside other))))
 
     well_formed : HasReadItsPath d → IsWellFormed terms ds d
     well_formed stated = record {

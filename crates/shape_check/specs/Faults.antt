@@ -28,7 +28,7 @@ use Rattle.shape_check.specs.declared.rule.Rule.TheVariants.{BadList, TooManyVal
 use Rattle.shape_check.specs.declared.rule.Rule.TheVariants.{NotOnNodeShape, BadPath, NotAPropertyShape}
 use Rattle.shape_check.specs.declared.rule.Rule.TheVariants.{NotANodeShape, BadFlags, PathTooDeep}
 use Rattle.shape_check.specs.Kinds.{is_of_kind, literal_is}
-use Rattle.shape_check.specs.Restrictions.{restriction_of, property_parameters, is_among}
+use Rattle.shape_check.specs.Restrictions.{restriction_of, property_parameters, is_one_of}
 
 -- ---- what a declaration says
 
@@ -64,7 +64,7 @@ first_if broken values = if broken then take 1 values else []
 
 -- a character that is none of the flags of a pattern
 abbrev pub has_unknown_flag : Literal → Bool
-has_unknown_flag literal = list_any (λ c. not (is_among (codes "imsx") c)) literal.lexical
+has_unknown_flag literal = list_any (λ c. not (is_one_of (codes "imsx") c)) literal.lexical
 
 abbrev pub offenders : Rule → List Term → List Declaration → Declaration → Values → List ℕ
 -- a value is no list
@@ -78,7 +78,7 @@ offenders WrongKind terms ds d v =
     filter (λ n. not (is_of_kind terms (kind_of expected) n)) (judged expected d v)
 -- a node shape has what belongs to property shapes
 offenders NotOnNodeShape terms ds d v =
-    first_if (is_none d.path && is_among property_parameters v.predicate) v.values
+    first_if (is_none d.path && is_one_of property_parameters v.predicate) v.values
 -- the path is none
 offenders BadPath terms ds d v = first_if (v.predicate == SH_PATH && is_broken d.path) v.values
 -- a value of sh:property is no property shape

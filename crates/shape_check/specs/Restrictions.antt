@@ -58,13 +58,13 @@ restrictions =
     ∷ []
 
 -- whether a number is among these
-abbrev pub is_among : List ℕ → ℕ → Bool
-is_among numbers n = list_any (λ number. number == n) numbers
+abbrev pub is_one_of : List ℕ → ℕ → Bool
+is_one_of numbers n = list_any (λ number. number == n) numbers
 
 -- what is in no row is free
 abbrev pub restriction_among : List Restriction → ℕ → Restriction
 restriction_among [] p = many [] (Each kind.Anything)
-restriction_among (row ∷ rows) p = if is_among row.predicates p then row else restriction_among rows p
+restriction_among (row ∷ rows) p = if is_one_of row.predicates p then row else restriction_among rows p
 
 abbrev pub restriction_of : ℕ → Restriction
 restriction_of p = restriction_among restrictions p

@@ -9,7 +9,7 @@ ghost use Rattle.shape_decl.specs.inner.Kept.{AreReadingsOf, IsKnownOf};
 
 use crate::knowing::known_path;
 use crate::lists::known_list;
-use crate::readings::{Known, Readings};
+use crate::readings::{KnownGraph, Readings};
 use crate::tables::list_predicates;
 use crate::{Declared, ListValue, PathReading, ShapeDecl};
 use graph_view::{GraphView, Key, Reads, objects_among};
@@ -24,7 +24,7 @@ pub(crate) fn declare<V: GraphView>(
     graph: &V,
     limits: &Limits,
     node: Id,
-    known: &mut Known,
+    known: &mut KnownGraph,
 ) -> Result<ShapeDecl, Memory>
     requires { IsKnownOf limits.now (V.graph graph.now) known.old }
     ensures declared { IfOk result (λ decl.
@@ -134,7 +134,7 @@ fn declared_path<V: GraphView>(
     node: Id,
     triples: &[Triple],
     limits: &Limits,
-    known: &mut Known,
+    known: &mut KnownGraph,
 ) -> Result<Option<PathReading>, Memory>
     requires triples { triples.now ≡ triples_of (V.graph graph.now) node }
     requires known { IsKnownOf limits.now (V.graph graph.now) known.old }

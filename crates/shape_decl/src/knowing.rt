@@ -9,7 +9,7 @@ ghost use Rattle.shape_decl.specs.inner.Kept.{AreReadingsOf, IsKnownOf};
 
 use crate::PathReading;
 use crate::paths::path_with;
-use crate::readings::{Known, Readings};
+use crate::readings::{KnownGraph, Readings};
 use graph_view::{GraphView, Reads};
 use indexmap::{IndexMap, IndexSet};
 use path_eval::instances;
@@ -32,10 +32,10 @@ pub(crate) fn first_known<V: GraphView>(
     alloc: Global,
     graph: &V,
     limits: &Limits,
-) -> Result<Known, Memory>
+) -> Result<KnownGraph, Memory>
     ensures { IfOk result (IsKnownOf limits.now (V.graph graph.now)) }
 {
-    Ok(Known {
+    Ok(KnownGraph {
         readings: no_readings(alloc),
         paths: IndexMap::new(alloc),
         node_shapes: instances_of(alloc, graph, SH_NODE_SHAPE)?,
@@ -70,7 +70,7 @@ pub(crate) fn known_path<V: GraphView>(
     graph: &V,
     limits: &Limits,
     head: Id,
-    known: &mut Known,
+    known: &mut KnownGraph,
 ) -> Result<PathReading, Memory>
     requires { IsKnownOf limits.now (V.graph graph.now) known.old }
     ensures path { IfOk result (λ reading.

@@ -12,7 +12,7 @@
 //! | `lists.rt`, `cell.rt` | `read_list`: the members of a SHACL list, read from cell to cell |
 //! | `paths.rt`, `path_reading.rt` | `read_path`: the path that a node is, or why none is read |
 //! | `path_nodes.rt`, `path_fault.rt` | the nodes of a path, depth first, and the first of them at fault |
-//! | `forms.rt`, `form.rt` | which form of a path one node has |
+//! | `read_form.rt`, `form.rt` | which form of a path one node has |
 //! | `laws.rt` | what is true of declarations: that the shapes are declared, and what stands in each |
 //!
 //! It stands on `graph_view` for what a graph gives, on `path_eval` for paths and SHACL instances, and on
@@ -27,7 +27,6 @@ mod collecting;
 mod declaration;
 mod declaring;
 mod form;
-mod forms;
 mod knowing;
 mod laws;
 mod lists;
@@ -35,6 +34,7 @@ mod path_fault;
 mod path_nodes;
 mod path_reading;
 mod paths;
+mod read_form;
 mod readings;
 mod shapes;
 mod tables;

@@ -9,7 +9,7 @@ ghost use Rattle.shape_decl.specs.inner.Visits.{counted, row_visits, visits, Mee
 
 use crate::PathFault;
 use crate::form::Form;
-use crate::forms::read_form;
+use crate::read_form::read_form;
 use crate::readings::Readings;
 use graph_view::GraphView;
 use path_eval::Path;

@@ -21,7 +21,7 @@ impl Drop for Readings {
 }
 
 /// The same, with the paths that were read, and the instances of the two classes that declarations tell of.
-pub(crate) struct Known {
+pub(crate) struct KnownGraph {
     pub(crate) readings: Readings,
     pub(crate) paths: IndexMap<Id, PathReading>,
     pub(crate) node_shapes: IndexSet<Id>,
@@ -29,9 +29,9 @@ pub(crate) struct Known {
 }
 
 // A derived drop is no call: each place where one ends would split into one path for each of its parts.
-impl Drop for Known {
+impl Drop for KnownGraph {
     fn drop(self) {
-        let Known {
+        let KnownGraph {
             readings: _readings,
             paths: _paths,
             node_shapes: _node_shapes,

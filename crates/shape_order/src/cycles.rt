@@ -3,8 +3,8 @@ ghost use Rattle.shape_order.specs.Chain.{IsCycle, IsLeastCycle, IsRecursive};
 ghost use Rattle.shape_order.specs.Order.{IsOrdered};
 ghost use Rattle.shape_order.specs.Refs.{IsWithin, refs_of};
 
+use crate::hints::{components, first_not_rising, never_fall};
 use crate::listed::Listed;
-use crate::numbers::{components, first_not_rising, never_fall};
 use crate::references::{first_unlisted, shapes_of};
 use crate::visits::{Visit, shapes_on};
 use shx_term::Memory;

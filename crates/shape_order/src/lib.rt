@@ -11,7 +11,7 @@
 //! | `places.rt` | the place of each shape in an order |
 //! | `levels.rt` | how far each shape stands above those that refer to none |
 //! | `cycles.rt` | the cycle of the least shape that reaches itself |
-//! | `numbers.rt` | numbers by which that shape is found, which are checked before they are believed |
+//! | `hints.rt` | numbers by which that shape is found, which are checked before they are believed |
 //! | `laws.rt` | what is true of orders and of levels |
 //!
 //! Shapes are numbers, and what they refer to are lists of them. It stands on `shx_term`: on its name for
@@ -19,11 +19,11 @@
 #![tactic(auto)]
 
 mod cycles;
+mod hints;
 mod laws;
 mod levels;
 mod listed;
 mod numbering;
-mod numbers;
 mod ordering;
 mod places;
 mod references;

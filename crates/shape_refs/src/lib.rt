@@ -4,7 +4,7 @@
 //! | file | what it holds |
 //! |---|---|
 //! | `ordering.rt` | `order_shapes`: the order of declared shapes, or what stands in its way |
-//! | `order.rt`, `fault.rt` | `ShapeOrder`, `ReferenceFault`: what it answers |
+//! | `numbered.rt`, `fault.rt` | `ShapeOrder`, `ReferenceFault`: what it answers |
 //! | `declared.rt` | `Declared`: declarations, found by their nodes |
 //! | `naming.rt` | the shapes that a shape names by its parameters |
 //! | `siblings.rt` | the siblings of each shape |
@@ -19,7 +19,7 @@
 mod declared;
 mod fault;
 mod naming;
-mod order;
+mod numbered;
 mod ordering;
 mod references;
 mod siblings;
@@ -28,6 +28,6 @@ mod truth;
 pub use declared::Declared;
 pub use fault::ReferenceFault;
 pub use naming::add_members;
-pub use order::ShapeOrder;
+pub use numbered::ShapeOrder;
 pub use ordering::order_shapes;
 pub use truth::{is_any_true, is_true};

@@ -9,7 +9,7 @@ ghost use Rattle.shape_refs.specs.inner.Places.{nodes_at};
 
 use crate::declared::Declared;
 use crate::fault::ReferenceFault;
-use crate::order::ShapeOrder;
+use crate::numbered::ShapeOrder;
 use crate::references::find_references;
 use crate::siblings::find_siblings;
 use indexmap::IndexSet;

@@ -6,7 +6,7 @@ use Rattle.std.specs.Prelude.{if◌then◌else◌}
 use Rattle.ttl_tokens.specs.Form.{Item, Then, Or, Many, Times, Takes}
 use Rattle.ttl_tokens.specs.Chars.{Chars, PastChar, Longest, is_white, is_line_end}
 use Rattle.ttl_tokens.specs.Blanks.{comment, blanks, SkipsBlanks}
-use Rattle.ttl_tokens.specs.inner.BlankWalk.{behind}
+use Rattle.ttl_tokens.specs.inner.BlankWalk.{after_blanks}
 use Rattle.ttl_tokens.proofs.CharLemmas.{takes_le}
 
 -- ---- one character
@@ -127,37 +127,38 @@ stop_step c cs w h = record { takes = (zero, refl); longest = λ zs t. by zs (be
 
 -- ---- the walk
 
-walk_longest : (b : Bool) (xs : List ℕ) → Longest (left b) xs (behind b xs)
+walk_longest : (b : Bool) (xs : List ℕ) → Longest (left b) xs (after_blanks b xs)
 walk_longest true [] = record { takes = ([], (zero, refl), (zero, refl)); longest = λ zs t. omega arith }
 walk_longest false [] = record { takes = (zero, refl); longest = λ zs t. omega arith }
 walk_longest true (c ∷ cs) = step (is_line_end c) refl (walk_longest false cs) (walk_longest true cs)
   where
-    step : (e : Bool) → is_line_end c ≡ e → Longest blanks cs (behind false cs)
-        → Longest (left true) cs (behind true cs)
-        → Longest (left true) (c ∷ cs) (if e then behind false cs else behind true cs)
+    step : (e : Bool) → is_line_end c ≡ e → Longest blanks cs (after_blanks false cs)
+        → Longest (left true) cs (after_blanks true cs)
+        → Longest (left true) (c ∷ cs) (if e then after_blanks false cs else after_blanks true cs)
     step true is p q = line_step is p
     step false is p q = within_step is q
 walk_longest false (c ∷ cs) =
     step (is_white c) (c == 35) refl refl (walk_longest false cs) (walk_longest true cs)
   where
-    step : (w h : Bool) → is_white c ≡ w → (c == 35) ≡ h → Longest blanks cs (behind false cs)
-        → Longest (left true) cs (behind true cs)
-        → Longest blanks (c ∷ cs) (if w then behind false cs else if h then behind true cs else (c ∷ cs))
+    step : (w h : Bool) → is_white c ≡ w → (c == 35) ≡ h → Longest blanks cs (after_blanks false cs)
+        → Longest (left true) cs (after_blanks true cs)
+        → Longest blanks (c ∷ cs)
+        (if w then after_blanks false cs else if h then after_blanks true cs else (c ∷ cs))
     step true h white hash p q = white_step white p
     step false true white hash p q = hash_step hash q
     step false false white hash p q = stop_step c cs white hash
 
 -- where nothing is left, or something else, of what is left behind the white space and comments of xs
 module _ (xs ys : List ℕ) where
-  skipped : ys ≡ behind false xs → SkipsBlanks xs ys
+  skipped : ys ≡ after_blanks false xs → SkipsBlanks xs ys
   skipped e = subst (λ v. SkipsBlanks xs v) (sym e) (walk_longest false xs)
 
-  pub walk_ends : (b : Bool) → behind b ys ≡ behind false xs → ys ≡ [] → SkipsBlanks xs ys
+  pub walk_ends : (b : Bool) → after_blanks b ys ≡ after_blanks false xs → ys ≡ [] → SkipsBlanks xs ys
   walk_ends b left none = skipped (none ∙ rw none at left)
 
-  pub walk_stops : (c : ℕ) (cs : List ℕ) → behind false ys ≡ behind false xs → ys ≡ c ∷ cs
+  pub walk_stops : (c : ℕ) (cs : List ℕ) → after_blanks false ys ≡ after_blanks false xs → ys ≡ c ∷ cs
       → is_white c ≡ false → (c ≡ 35 → ⊥) → SkipsBlanks xs ys
   walk_stops c cs left here w h =
       let other : (c == 35) ≡ false = grind (arith, nat_tests) in
-      let stays : behind false (c ∷ cs) ≡ c ∷ cs = rw (w, other) refl in
+      let stays : after_blanks false (c ∷ cs) ≡ c ∷ cs = rw (w, other) refl in
       skipped (here ∙ sym stays ∙ rw here at left)

@@ -7,7 +7,7 @@ use Rattle.read_records.specs.declared.noted.Noted.{Noted}
 use Rattle.read_records.specs.declared.reader.Reader.{Reader}
 use Rattle.read_records.specs.Records.{Recorded}
 use Rattle.read_records.specs.Store.{Notes, Stored, coming_for, if_noted, note_at}
-use Rattle.read_records.specs.inner.Readings.{Filed, Stands, StandsUnderEach, reading}
+use Rattle.read_records.specs.inner.Filing.{Filed, Stands, StandsUnderEach, reading}
 
 module _ {V W : Type 0} (f : V → W) where
   -- what is kept and staged, each seen by a function

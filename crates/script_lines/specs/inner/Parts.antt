@@ -9,8 +9,8 @@ use Rattle.ttl_read.specs.Grammar.{is_kind}
 use Rattle.ttl_read.specs.ReadTerm.{Found, A, No}
 use Rattle.script_lines.specs.declared.fault.LineFault.{LineFault}
 use Rattle.script_lines.specs.declared.fault.LineFault.TheVariants.{Memory}
-use Rattle.script_lines.specs.declared.form.PairTokens.{PairTokens}
-use Rattle.script_lines.specs.declared.form.Terms.{Terms}
+use Rattle.script_lines.specs.declared.line_form.PairTokens.{PairTokens}
+use Rattle.script_lines.specs.declared.line_form.Terms.{Terms}
 use Rattle.script_lines.specs.declared.word.Word.{Word}
 use Rattle.script_lines.specs.Forms.{Comes, EndsAt, IsPair, IsTriple, begins_with}
 use Rattle.script_lines.specs.Forms.{word_end, word_text}

@@ -8,7 +8,7 @@ use Rattle.graph_view.specs.Graph.{Graph}
 use Rattle.path_eval.specs.Instances.{is_instance}
 use Rattle.shape_decl.specs.declared.cell.Cell.{Cell}
 use Rattle.shape_decl.specs.declared.path_reading.PathReading.{PathReading}
-use Rattle.shape_decl.specs.declared.readings.Known.{Known}
+use Rattle.shape_decl.specs.declared.readings.KnownGraph.{KnownGraph}
 use Rattle.shape_decl.specs.declared.readings.Readings.{Readings}
 use Rattle.shape_decl.specs.Lists.{cell_at, list_of}
 use Rattle.shape_decl.specs.PathReadings.{path_reading, told_reading}
@@ -32,7 +32,7 @@ pub record AreReadingsOf (g : Graph) (readings : Readings) : Type 0 where
   pub lists : Keeps (IsListAt g) readings.lists
 
 -- and so is all that is known of it
-pub record IsKnownOf (limits : Limits) (g : Graph) (known : Known) : Type 0 where
+pub record IsKnownOf (limits : Limits) (g : Graph) (known : KnownGraph) : Type 0 where
   pub readings : AreReadingsOf g known.readings
   pub paths : Keeps (IsPathAt limits g) known.paths
   pub node_shapes : (n : ℕ) → contains nat_eq known.node_shapes n ≡ is_instance g n SH_NODE_SHAPE

@@ -3,8 +3,8 @@ use Rattle.std.specs.Prelude.{ℕ, Bool, true, false, ◌==◌, List, [], ◌∷
 use Rattle.ttl_tokens.specs.Chars.{is_white, is_line_end}
 
 -- what it leaves, where a comment is open or not
-abbrev pub behind : Bool → List ℕ → List ℕ
-behind in_comment [] = []
-behind true (c ∷ cs) = if is_line_end c then behind false cs else behind true cs
-behind false (c ∷ cs) =
-    if is_white c then behind false cs else if c == 35 then behind true cs else (c ∷ cs)
+abbrev pub after_blanks : Bool → List ℕ → List ℕ
+after_blanks in_comment [] = []
+after_blanks true (c ∷ cs) = if is_line_end c then after_blanks false cs else after_blanks true cs
+after_blanks false (c ∷ cs) =
+    if is_white c then after_blanks false cs else if c == 35 then after_blanks true cs else (c ∷ cs)

@@ -1,5 +1,5 @@
 use Rattle.std.specs.Prelude.{take}
-use Rattle.read_records.specs.inner.Readings.{StaysIn, StandsUnderEach}
+use Rattle.read_records.specs.inner.Filing.{StaysIn, StandsUnderEach}
 use Rattle.read_records.proofs.notes.enter_keys.Given as goal
 
 abbrev pub invariant-loop-key : goal.invariant-loop-key

@@ -1,7 +1,7 @@
 use Rattle.std.proofs.Common.{sym, ◌∙◌, subst}
 use Rattle.read_records.proofs.GatheredLemmas.{AreGathered-next, AreUnder-gathered, same_noted}
 use Rattle.read_records.proofs.ReadingLemmas.{StaysIn-itself}
-use Rattle.read_records.specs.inner.Readings.{StandsUnderEach}
+use Rattle.read_records.specs.inner.Filing.{StandsUnderEach}
 use Rattle.read_records.proofs.notes.gathered_from.Goals as goal
 
 pub loop-reader-preserved-in-Continue-1 : goal.loop-reader-preserved-in-Continue-1

@@ -15,7 +15,7 @@ use Rattle.shape_eval.specs.declared.shape.PlanShape.{PlanShape}
 use Rattle.shape_refs.specs.Order.{IsShapeOrder, NameDeclared}
 use Rattle.shape_refs.specs.Outcome.{AreInReach}
 use Rattle.shape_refs.specs.declared.declared.Declared.{Declared}
-use Rattle.shape_refs.specs.declared.order.ShapeOrder.{ShapeOrder}
+use Rattle.shape_refs.specs.declared.numbered.ShapeOrder.{ShapeOrder}
 use Rattle.shape_compile.specs.Answers.{LastRefused}
 use Rattle.shape_compile.specs.Meaning.{ShapeMeans}
 use Rattle.shape_compile.specs.inner.Built.{AreBuilt, StopsAtPattern}

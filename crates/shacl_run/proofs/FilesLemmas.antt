@@ -1,5 +1,5 @@
 -- A run over files, by what was prepared.
-use Rattle.std.proofs.Common.{◌≡◌, ◌≢◌, ℕ, ◌≤◌, true, false, List, [], ◌++◌, Option, None, Some}
+use Rattle.std.proofs.Common.{◌≡◌, ◌≢◌, ℕ, ◌≤◌, false, List, [], ◌++◌, Option, None, Some}
 use Rattle.std.proofs.Common.{Result, Err, Ok, inl, inr, refl, ap, sym, ◌∙◌, subst, true≢false}
 use Rattle.std.specs.Prelude.{All, IfSome, ◌⊎◌}
 use Rattle.std.specs.Option.{option_and_then, option_map}
@@ -57,14 +57,14 @@ use Rattle.shacl_run.proofs.ValidationRunLemmas.{ended_loaded, ended_told, opene
 
 -- ---- what a state that is reported was opened from
 
--- a plan, and a data text that states a document at whose end the state's names hold
-record OpensState (verdict : Verdict) (data_text : TextReading) (s : ScriptState) : Type 0 where
-  plan : Planned
-  planned : verdict ≡ plans plan
-  document : Graph
-  end : State
-  states : data_text ≡ States document end
-  names : end ≡ s.data_end
+-- a plan, and a data text that states a document, at whose end the state starts
+pub record OpensState (verdict : Verdict) (data_text : TextReading) (s : ScriptState) : Type 0 where
+  pub plan : Planned
+  pub planned : verdict ≡ plans plan
+  pub document : Graph
+  pub end : State
+  pub states : data_text ≡ States document end
+  pub start : start_state (stated_graph document) end plan ≡ s
 
 same_opening : (m n : ℕ) (s t : ScriptState) → opens m s ≡ opens n t → s ≡ t
 same_opening m n s t is = cc
@@ -75,14 +75,13 @@ not_opened n s output is = cc
 opens_data : (format : Format) (m n : ℕ) (plan : Planned) (reading : TextReading) (s : ScriptState)
     → with_data format m plan reading ≡ opens n s → OpensState (plans plan) reading s
 opens_data format m n plan (States document end) s is =
-    let same = same_opening m n (start_state (stated_graph document) end plan) s is in
     record {
       plan = plan;
       planned = refl;
       document = document;
       end = end;
       states = refl;
-      names = ap (λ (s : ScriptState). s.data_end) same;
+      start = same_opening m n (start_state (stated_graph document) end plan) s is;
     }
 opens_data format m n plan (Faulty code at) s is = absurd (not_opened n s _ is)
 opens_data format m n plan Long s is = absurd (not_opened n s _ is)
@@ -106,7 +105,7 @@ module _ (format : Format) (readings : Readings) (n : ℕ) (s : ScriptState) whe
   opens_shapes verdict (Faulty code at) data_text = λ is opening some. absurd (not_opened n s _ is)
   opens_shapes verdict Long data_text = λ is opening some. absurd (not_opened n s _ is)
 
-  opens_texts : (verdict : Verdict) (shapes data_text : Option (List ℕ))
+  pub opens_texts : (verdict : Verdict) (shapes data_text : Option (List ℕ))
       → IfSome (texts_opening format readings verdict shapes data_text) (λ opening. opening ≡ opens n s)
       → (opening : Opening) → texts_opening format readings verdict shapes data_text ≡ Some opening
       → OpensState verdict readings.data_text s
@@ -122,7 +121,7 @@ lines_at : (limits : Limits) (readings : Readings) (format : Format) (verdict : 
 lines_at limits readings format verdict s from None lines = tt
 lines_at limits readings format verdict s from (Some bytes) lines =
     subst (λ (end : State). All (λ line. IsReadBehind limits end line (readings.lines line))
-    (script_lines limits.script bytes)) from.names
+    (script_lines limits.script bytes)) (ap (λ (s : ScriptState). s.data_end) from.start)
     (lines from.document from.end from.plan from.planned from.states)
 
 -- what follows where the texts are told, and in any case

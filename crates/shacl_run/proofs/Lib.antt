@@ -17,6 +17,7 @@ pub mod PatternEndLemmas
 pub mod PrepareLemmas
 pub mod ReachedLemmas
 pub mod RefusalLemmas
+pub mod ReportAloneLemmas
 pub mod RunLemmas
 pub mod ServedLemmas
 pub mod ServingLemmas

@@ -3,6 +3,7 @@ pub mod Complete
 pub mod Loads
 pub mod Outside
 pub mod Readings
+pub mod ReportAlone
 pub mod Run
 pub mod RunClauses
 pub mod Status

@@ -5,6 +5,7 @@
 //! |---|---|
 //! | `top.rt` | `run`: the whole run, with its theorem |
 //! | `complete.rt` | laws: what follows where nothing outside fails |
+//! | `report_alone.rt` | a law: what is due without a script |
 //! | `status.rt`, `ending.rt` | how a run ends |
 //! | `prepare.rt` | from the texts to a validation, or to why there is none |
 //! | `open_validation.rt` | from the data text to a validation |
@@ -24,6 +25,7 @@ mod evaluation;
 mod node_rows;
 mod open_validation;
 mod prepare;
+mod report_alone;
 mod run_validation;
 mod serve;
 mod status;
@@ -34,6 +36,7 @@ pub use complete::{
     a_roomy_sink_never_fails, an_undisturbed_run_is_due, honest_inputs_never_fail,
     no_pattern_is_never_refused, runs_are_complete,
 };
+pub use report_alone::a_report_alone_tells_its_status;
 pub use script_run::{scripts_stand_well, undo_gives_back};
 pub use status::Status;
 pub use top::run;

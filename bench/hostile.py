@@ -75,6 +75,11 @@ def many_class_parameters(n):
     return shapes, f"e:a a {' , '.join(names(n, 'c'))} .\n"
 
 
+def class_parameters_under_a_script(n):
+    """the same, under an empty script"""
+    return *many_class_parameters(n), ""
+
+
 def hub(n):
     """n nodes that ask about one node, which has n values"""
     shapes = "e:S sh:targetSubjectsOf e:to ; sh:path e:to ; sh:node e:T .\n"
@@ -203,6 +208,7 @@ CONSTRUCTS = {
         (chain_of_classes, 6_000),
         (clique_of_classes, 40_000),
         (many_class_parameters, 25_000),
+        (class_parameters_under_a_script, 25_000),
         (hub, 5_000),
         (failing_hub, 5_000),
         (hub_under_a_script, 5_000),

@@ -1,6 +1,7 @@
 pub mod AnswerLemmas
 pub mod AscendingLemmas
 pub mod AskLemmas
+pub mod CheckedLemmas
 pub mod ConstraintLemmas
 pub mod EditLemmas
 pub mod ItemLemmas

@@ -1,17 +1,20 @@
 //! One shape, checked at a node.
-ghost use Rattle.std.specs.Prelude.{◌≡◌, ◌<◌, All, List, flat_map, length, IfOk, OnOk};
+ghost use Rattle.std.specs.Prelude.{◌≡◌, ◌<◌, ◌++◌, true, All, List, flat_map, length, IfOk, OnOk};
 ghost use Rattle.graph_view.specs.declared.key.Key.{Key};
-ghost use Rattle.graph_view.specs.Graph.{HasTerms};
+ghost use Rattle.graph_view.specs.Graph.{Graph, HasTerms};
 ghost use Rattle.graph_view.specs.Valid.{IsValidView};
 ghost use Rattle.comp_core.specs.declared.pair.Pair.{Pair};
-ghost use Rattle.shape_eval.specs.Constraint.{constraint_numbers};
+ghost use Rattle.value_components.specs.Class.{class_reads};
+ghost use Rattle.shape_eval.specs.Constraint.{constraint_asks, constraint_hits, constraint_numbers};
+ghost use Rattle.shape_eval.specs.Constraint.{constraint_reads};
 ghost use Rattle.shape_eval.specs.Known.{IsKnownOf};
 ghost use Rattle.shape_eval.specs.Nested.{asked_pairs};
 ghost use Rattle.shape_eval.specs.Results.{hits_of_each, reads_of_each, value_nodes, value_reads};
+ghost use Rattle.shape_eval.specs.inner.Checked.{NotesUnlessClass, ReadsAsClass};
 
 use crate::{Constraint, Known};
 use comp_core::{At, Component, Conform, Pair, ResultRow};
-use graph_view::{GraphView, Notes};
+use graph_view::{GraphView, Notes, Unnoted};
 use path_eval::LaidPath;
 use shx_term::{Id, Memory};
 use std::alloc::Global;
@@ -79,8 +82,74 @@ pub(crate) fn check_each<'p, V: GraphView, C: Conform>(
         (reads_of_each (V.graph view.now) r constraints.now at values.now)) }
 {
     let mut rows = Vec::new(alloc);
+    let mut classes_noted = false;
     for constraint in constraints {
-        constraint.check(alloc, view, conform, known, at, values, reads, &mut rows)?;
+        check_next(
+            alloc,
+            view,
+            conform,
+            known,
+            classes_noted,
+            constraint,
+            at,
+            values,
+            reads,
+            &mut rows,
+        )?;
+        classes_noted |= is_class(constraint);
     }
     Ok(rows)
+}
+
+fn is_class(constraint: &Constraint) -> bool
+    ensures { result ≡ true → (g : Graph) → ReadsAsClass g constraint.now }
+{
+    match constraint {
+        Constraint::Class(_) => true,
+        _ => false,
+    }
+}
+
+// Appends the results of one constraint more, and notes what it reads. All parameters of sh:class read the
+// same at the same value nodes, so what they read is noted for the first of them alone.
+fn check_next<'p, V: GraphView, C: Conform>(
+    alloc: Global,
+    view: &V,
+    conform: &C,
+    known: &mut Known<'p>,
+    classes_noted: bool,
+    constraint: &'p Constraint,
+    at: At,
+    values: &[Id],
+    reads: &mut C::Noted,
+    rows: &mut Vec<ResultRow>,
+) -> Result<(), Memory>
+    requires valid { IsValidView (V.graph view.now) }
+    requires numbers { HasTerms (V.graph view.now) (constraint_numbers constraint.now) }
+    requires values { HasTerms (V.graph view.now) values.now }
+    requires known { IsKnownOf known.old (V.graph view.now) }
+    requires held { All (C.holds conform.now) (constraint_asks constraint.now values.now) }
+    ensures known { IsKnownOf known.new (V.graph view.now) }
+    ensures rows { OnOk result (rows.new.items ≡ rows.old.items
+        ++ constraint_hits constraint.now (V.graph view.now) (C.rows_of conform.now) at values.now) }
+    ensures reads { (r : Pair → List Key) → C.tells conform.now r
+        → OnOk result (NotesUnlessClass C.Noted.notes reads.old reads.new classes_noted
+        (constraint_reads constraint.now (V.graph view.now) r at values.now)
+        (class_reads (V.graph view.now) values.now)) }
+{
+    match constraint {
+        Constraint::Class(class) if classes_noted => {
+            let mut unnoted = Unnoted::new(alloc);
+            class.add_hits(
+                alloc,
+                view,
+                &mut known.superclasses,
+                at,
+                values,
+                &mut unnoted,
+                rows,
+            )
+        }
+        _ => constraint.check(alloc, view, conform, known, at, values, reads, rows),
+    }
 }

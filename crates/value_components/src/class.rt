@@ -1,7 +1,8 @@
 //! sh:class (SHACL, section 4.1.1).
-ghost use Rattle.std.specs.Prelude.{◌≡◌, IfOk, OnOk};
+ghost use Rattle.std.specs.Prelude.{◌≡◌, ◌++◌, IfOk, OnOk};
+ghost use Rattle.graph_view.specs.Graph.{HasTerms};
 ghost use Rattle.path_eval.specs.Superclasses.{AreSuperclassesOf};
-ghost use Rattle.value_components.specs.Class.{is_of_class, class_reads_at};
+ghost use Rattle.value_components.specs.Class.{class_hits, class_reads, class_reads_at, is_of_class};
 
 use comp_core::kinds::CLASS;
 use comp_core::{At, Component, Conform, Pair, ResultRow, add_unless};
@@ -23,6 +24,33 @@ impl Class {
         ensures { result.value ≡ value }
     {
         Class { value }
+    }
+
+    /// Appends a result for each value node that is a literal, or no instance of the class, and notes what is
+    /// read. All classes read the same at the same value nodes.
+    pub fn add_hits<V: GraphView, N: Notes>(
+        &self,
+        alloc: Global,
+        view: &V,
+        known: &mut Superclasses,
+        at: At,
+        values: &[Id],
+        reads: &mut N,
+        out: &mut Vec<ResultRow>,
+    ) -> Result<(), Memory>
+        requires values { HasTerms (V.graph view.now) values.now }
+        requires known { AreSuperclassesOf known.old (V.graph view.now) }
+        ensures known { AreSuperclassesOf known.new (V.graph view.now) }
+        ensures rows { OnOk result (out.new.items ≡ out.old.items
+            ++ class_hits self.now (V.graph view.now) at values.now) }
+        ensures reads { OnOk result (N.notes reads.old reads.new
+            (class_reads (V.graph view.now) values.now)) }
+    {
+        for v in values {
+            let is_fine = is_of_class(alloc, view, self.value, known, *v, reads)?;
+            add_unless(alloc, is_fine, CLASS, at, *v, out)?;
+        }
+        Ok(())
     }
 }
 
@@ -78,11 +106,7 @@ impl<'p> Component<'p> for Class {
         reads: &mut C::Noted,
         out: &mut Vec<ResultRow>,
     ) -> Result<(), Memory> {
-        for v in values {
-            let is_fine = is_of_class(alloc, view, self.value, known, *v, reads)?;
-            add_unless(alloc, is_fine, CLASS, at, *v, out)?;
-        }
-        Ok(())
+        self.add_hits(alloc, view, known, at, values, reads, out)
     }
 
     fn laws() {

@@ -1,5 +1,5 @@
 -- How reading a line begins, goes on and ends.
-use Rattle.std.proofs.Common.{◌≡◌, ℕ, true, List, [], Option, Result, Ok, Err, IsErrAnd, refl, sym, ap, subst}
+use Rattle.std.proofs.Common.{◌≡◌, ℕ, true, List, [], Result, Ok, Err, IsErrAnd, sym, subst}
 use Rattle.std.proofs.Common.{◌∙◌}
 use Rattle.shx_outside.specs.declared.role.Role.{Role}
 use Rattle.shx_outside.specs.declared.role.Role.TheVariants.{Script}
@@ -11,7 +11,7 @@ use Rattle.text_input.specs.declared.read_fault.ReadFault.{ReadFault}
 use Rattle.text_input.specs.declared.read_fault.ReadFault.TheVariants.{Input, Memory}
 use Rattle.text_input.specs.declared.script_reader.Line.{Line}
 use Rattle.text_input.specs.LineRead.{IsLineRead}
-use Rattle.text_input.specs.ScriptReader.{ReaderState, left_of, ReadsLine, StopsInLine, GoesOn}
+use Rattle.text_input.specs.ScriptReader.{ReaderState, left_of, ReadsLine, GoesOn}
 use Rattle.text_input.proofs.CountLemmas.{GoesOn-then}
 use Rattle.text_input.proofs.LinePartLemmas.{Gathers, Gathers-filled, nothing_pending}
 

@@ -1,4 +1,4 @@
-use Rattle.std.proofs.Common.{◌≡◌, ◌+◌, ◌≤◌, ◌++◌, length, take, rules, arith}
+use Rattle.std.proofs.Common.{◌≡◌, ◌++◌, take, rules, arith}
 use Rattle.std.proofs.lemmas.List.{take-append-le}
 use Rattle.text_input.proofs.RestLemmas.{stays_opened, HasRead-start, HasRead-on, IsRestRead-failed}
 use Rattle.text_input.proofs.RestLemmas.{IsRestRead-whole, IsRestRead-memory, IsRestRead-longer}

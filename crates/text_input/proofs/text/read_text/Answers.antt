@@ -1,4 +1,4 @@
-use Rattle.text_input.proofs.RestLemmas.{HasOpened, IsTextRead-closed, IsTextRead-whole, IsTextRead-part}
+use Rattle.text_input.proofs.RestLemmas.{IsTextRead-closed, IsTextRead-whole, IsTextRead-part}
 use Rattle.text_input.proofs.text.read_text.Goals as goal
 
 pub returns-in_err-open : goal.returns-in_err-open

@@ -155,7 +155,7 @@ def main(folder):
     browser.picture(f"{folder}/script.png")
     print(f"{COUNT} results: {os.path.getsize(large)} bytes, opened with {browser.open(large):.2f} s of work")
     browser.picture(f"{folder}/large.png")
-    for text in ("node/2857", "", "number 77"):
+    for text in ("node/2856", "", "number 77"):
         print(f"filtered by {text!r}: {browser.run(filter_by(text))}")
     browser.run(f"window.scrollTo(0, 3000); {PAINTED}")
     browser.picture(f"{folder}/large_filtered.png")

@@ -5,10 +5,10 @@ there. Run it at the top of the repository, where the program was built.
     bench/page_runs.py                  prints what differs, and ends with 1 where something does
     bench/page_runs.py --program PATH   the same with another program
 
-Of the first two, each block of `sh` is run in a folder with the files that the page shows before, and with
-`examples`; what stands right behind it is its output. A block with a program that is not installed (serdi,
-rapper, roqet, RDFLib, parallel), or one for other machines, is left out. Of DIFFERENCES.md, each block has
-shapes, and data below `# data`.
+Of the first two, each block of `sh` or `bash` is run in a folder with the files that the page shows before,
+and with `examples`; what stands right behind it is its output. A block with a program that is not installed
+(serdi, rapper, roqet, RDFLib, parallel), or one for other machines, is left out. Of DIFFERENCES.md, each
+block has shapes, and data below `# data`.
 """
 import os
 import re
@@ -25,6 +25,7 @@ BLOCK = re.compile(r"^```(\w*)\n(.*?)^```\n", re.S | re.M)
 NAMED = re.compile(r"(?:file|files|and)\s\*\*([\w.]+)\*\*:?\s*$")
 OTHERS = ("serdi", "rapper", "roqet", "parallel")
 ELSEWHERE = "ssh "
+SHELLS = ("sh", "bash")
 RDFLIB = "/usr/bin/python3 -m rdflib"
 # Files that USE.md speaks of and does not show.
 GIVEN = {
@@ -80,12 +81,12 @@ def commands_differ(folder, name):
         named = NAMED.search(before)
         if ELSEWHERE in text:
             continue
-        if word == "sh" and is_installed(text):
+        if word in SHELLS and is_installed(text):
             came = said(["bash", "-c", text], folder)
             due = due if not between.strip() and not next_word else ""
             if came != due:
                 yield difference(text, due, came)
-        elif word == "sh":
+        elif word in SHELLS:
             print(f"left out, since a program is not installed:\n{text}")
         elif named:
             write(folder, named[1], text)

@@ -9,8 +9,9 @@ reads the manifests, the expected reports, and the reports in Turtle.
     bench/w3c.py --program PATH [--edits] FOLDER
                                   the same by another program
 
-FOLDER has the `manifest.ttl` to begin with. Debian's source package rdf4j (`apt-get source rdf4j`; its file
-rdf4j_3.7.7+ds.orig.tar.xz is enough) has both suites, below its folder `testsuites`:
+FOLDER has the `manifest.ttl` to begin with. Debian's source package rdf4j (`apt-get source --download-only
+rdf4j`, with a line of deb-src; its file rdf4j_3.7.7+ds.orig.tar.xz is enough) has both suites, below its
+folder `testsuites`:
 
     shacl/src/main/resources/data-shapes-test-suite/tests/core
     rio/src/main/resources/testcases/turtle/tests-ttl-w3c-20170126

@@ -1,5 +1,6 @@
 """Runs of the program, and what can be found out about one that said nothing."""
 import os
+import re
 import subprocess
 import tempfile
 
@@ -8,6 +9,10 @@ from .report import Count, parts_of
 
 ROLES = ("shapes", "data", "script")
 BESIDE = os.path.join(os.path.dirname(os.path.dirname(os.path.realpath(__file__))), "shacl_keep")
+
+
+# A line of a script that loads a file, whose name has no escapes.
+LOADS = re.compile(rb'''^[ \t]*shapes[ \t]+("|')([^"'\\\n]*)\1''', re.MULTILINE)
 
 
 class NotRun(Exception):
@@ -25,10 +30,16 @@ def ended(words, **others):
     return ran.stdout, ran.returncode
 
 
+def loaded(files):
+    """The files that the lines of a script load, where there is one."""
+    written = Text(files[2]).written if len(files) == 3 else None
+    return [name.decode("utf-8", "surrogateescape") for _, name in LOADS.findall(written or b"")]
+
+
 def why_failed(status, files):
     """Why a run ended with a status for which it writes no line, or None."""
     if status == 4:
-        for name in files:
+        for name in files + loaded(files):
             try:
                 with open(name, "rb"):
                     pass

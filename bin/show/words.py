@@ -16,8 +16,9 @@ it has ended.
 
 Behind -- each word is a file. The status is that of shacl_keep: 0 where the data conforms, 1 where it does
 not, 2 for words that cannot be read, 3 for a text that is refused, 4, 5 and 6 for an input, an output or
-memory that failed, 7 for a refused line of the script. Of a report that is piped in it is 0, 1, or 3 for a
-fault. Colours are left out where NO_COLOR is set. SHACL_KEEP names another program than the one beside this.
+memory that failed, 7 for a refused line of the script. Of a report that is piped in it is 0, 1, 3 for a
+fault, or 7. Colours are left out where NO_COLOR is set. SHACL_KEEP names another program than the one beside
+this.
 """
 
 

@@ -158,7 +158,7 @@ fn rows_at<'p, V: GraphView, K: Ledger, L: Ledger>(
         let answer = eval_pair(
             alloc, view, plan, known, shape, *node, answers, nested, steps,
         )?;
-        keep_rows(&mut found, *node, answer.rows)?;
+        keep_rows(alloc, &mut found, *node, answer.rows)?;
     }
     Ok(found)
 }

@@ -8,6 +8,7 @@ ghost use Rattle.shacl_run.specs.inner.NodeRows.{AreRowsAt, entry_if_any, entry_
 
 use comp_core::ResultRow;
 use shx_term::{Id, Memory, Pool};
+use std::alloc::Global;
 
 /// The results at a node that has some.
 #[derive(Drop)]
@@ -18,6 +19,7 @@ pub(crate) struct NodeRows {
 
 /// Keeps the results at a node, where there are some: nothing is kept of a node that has none.
 pub(crate) fn keep_rows(
+    alloc: Global,
     found: &mut Vec<NodeRows>,
     node: Id,
     mut rows: Vec<ResultRow>,
@@ -28,9 +30,10 @@ pub(crate) fn keep_rows(
     if rows.is_empty() {
         return Ok(());
     }
-    // Most nodes have fewer than a vector makes room for.
-    rows.shrink_to_fit();
-    found.push(NodeRows { node, rows })?;
+    // Most nodes have fewer than a vector makes room for, and one that shrinks leaves holes behind.
+    let mut kept = Vec::with_capacity(alloc, rows.len())?;
+    kept.append(&mut rows)?;
+    found.push(NodeRows { node, rows: kept })?;
     Ok(())
 }
 
@@ -45,6 +48,7 @@ pub(crate) fn add_in_term_order(
         → rows.new.items ≡ rows.old.items ++ flat_map f (in_term_order pool.now.terms nodes)) }
 {
     found.sort_unstable_by(|a, b| pool.cmp_ids(a.node, b.node));
+    rows.reserve(found.len())?;
     for mut at in found {
         rows.append(&mut at.rows)?;
     }

@@ -103,15 +103,26 @@ def to_a_reader_who_leaves(program, use, folder):
     return is_front(f'{use.name} to a reader who leaves', found, use.due, 5)
 
 
+def into_each(program, use):
+    """A use into each output that even little fills."""
+    with folder_of(use.files) as folder:
+        yield into_device(program, use, folder)
+        yield from into_files(program, use, folder)
+        yield into_full_pipe(program, use, folder)
+        yield from (into_no_reader(program, use, folder, is_restored) for is_restored in (True, False))
+
+
+def drilled(drill):
+    """The same of the drill, behind its summary and behind its usage."""
+    for use in texts.drills():
+        yield from into_each(drill, use)
+
+
 def tried(program):
     """Each output with each use; those that a short use does not fill with a large one alone."""
     large = texts.large(RESULTS)
     for use in (*texts.short(), large, texts.large_in_turtle(200), texts.scripted(40)):
-        with folder_of(use.files) as folder:
-            yield into_device(program, use, folder)
-            yield from into_files(program, use, folder)
-            yield into_full_pipe(program, use, folder)
-            yield from (into_no_reader(program, use, folder, is_restored) for is_restored in (True, False))
+        yield from into_each(program, use)
     with folder_of(large.files) as folder:
         yield into_unread_pipe(program, large, folder)
         yield to_a_reader_who_leaves(program, large, folder)

@@ -72,3 +72,10 @@ def short():
         Use('a refused line', report().encode() + b'refused line 1: 52 LineSyntax\n', 7, refused,
             ('shapes', 'data', 'script')),
     )
+
+
+def drills():
+    """Words of the drill, which makes its texts itself."""
+    summary = b'drill 3 edits 3 changed 3 evaluated 3 triples 6 pairs 3 results 3 status 1\n'
+    yield Use('a drill', summary, 0, {}, ('3',))
+    yield Use('the usage of the drill', b'usage: shacl_drill N\n', 2, {}, ('x',))

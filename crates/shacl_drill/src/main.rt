@@ -9,7 +9,6 @@
 //! | `tally.rt` | `Tally`: what the lines that a run wrote say of its edits |
 //! | `summary.rt` | the summary, and the usage |
 //! | `main.rt` | the drill into standard output |
-//! | `tests.rt` | drills in memory, and what they print |
 //!
 //! It stands on `shacl_run`, on `shx_outside` for texts and an output in memory, on `text_output` and
 //! `text_input`, and on `program_words`. Start with `top.rt`; `specs/Clauses.antt` says what a drill
@@ -21,8 +20,6 @@ ghost use Rattle.std.specs.Prelude.{◌≡◌};
 mod size;
 mod summary;
 mod tally;
-#[cfg(test)]
-mod tests;
 mod texts;
 mod top;
 

@@ -80,6 +80,28 @@ impl<'a, V: GraphView> GraphView for DueView<'a, V> {
         self.base.subjects(alloc, p, o, reads)
     }
 
+    fn objects_unsorted<N: Notes>(
+        &self,
+        alloc: Global,
+        s: Id,
+        p: Id,
+        reads: &mut N,
+    ) -> Result<Vec<Id>, Memory> {
+        self.allow(&Key::Out(s, p))?;
+        self.base.objects_unsorted(alloc, s, p, reads)
+    }
+
+    fn subjects_unsorted<N: Notes>(
+        &self,
+        alloc: Global,
+        p: Id,
+        o: Id,
+        reads: &mut N,
+    ) -> Result<Vec<Id>, Memory> {
+        self.allow(&Key::In(p, o))?;
+        self.base.subjects_unsorted(alloc, p, o, reads)
+    }
+
     fn triples_of<N: Notes>(
         &self,
         alloc: Global,
@@ -98,5 +120,15 @@ impl<'a, V: GraphView> GraphView for DueView<'a, V> {
     ) -> Result<Vec<Triple>, Memory> {
         self.allow(&Key::Predicate(p))?;
         self.base.triples_with(alloc, p, reads)
+    }
+
+    fn triples_with_unsorted<N: Notes>(
+        &self,
+        alloc: Global,
+        p: Id,
+        reads: &mut N,
+    ) -> Result<Vec<Triple>, Memory> {
+        self.allow(&Key::Predicate(p))?;
+        self.base.triples_with_unsorted(alloc, p, reads)
     }
 }

@@ -3,14 +3,16 @@ use Rattle.std.specs.Prelude.{◌≡◌, ℕ, ◌<◌, List, map, length, All, C
 use Rattle.std.proofs.Common.{refl, sym, ◌∙◌, subst}
 use Rattle.std.proofs.lemmas.Result.{IfOk-weaker}
 use Rattle.std.specs.List.Sorted.{IsStrictlySortedBy}
+use Rattle.shx_term.specs.Members.{SameMembers}
+use Rattle.shx_term.specs.declared.term.Term.{Term}
 use Rattle.shx_term.specs.declared.triple.Triple.{Triple}
-use Rattle.shx_term.specs.IdOrder.{id_cmp}
+use Rattle.shx_term.specs.IdOrder.{id_cmp, in_term_order}
 use Rattle.shx_term.specs.inner.TripleLaws.{triple_is}
 use Rattle.shx_term.specs.TripleOrder.{triple_cmp, in_triple_order}
 use Rattle.shx_term.proofs.IdOrderLemmas.{in_term_order_lists}
 use Rattle.shx_term.proofs.InOrderLemmas.{in_order_lists}
 use Rattle.shx_term.proofs.MemberLemmas.{Contains-map, Contains-from_map, each_of_All, All_of_each}
-use Rattle.shx_term.proofs.TripleOrderLemmas.{triple_order}
+use Rattle.shx_term.proofs.TripleOrderLemmas.{in_triple_order_lists, triple_order}
 use Rattle.graph_view.specs.declared.key.Key.{Key}
 use Rattle.graph_view.specs.declared.key.Key.TheVariants.{Out, In, Subject, Predicate}
 use Rattle.graph_view.specs.Graph.{Graph, IsKnownTriple, AllKnown, HasTerms}
@@ -77,6 +79,29 @@ Contains-triples_of g s t = Contains-ordered g (Subject s) t
 pub Contains-triples_with : (g : Graph) (p : ℕ) (t : Triple)
     → Contains (triples_with g p) t ↔ (Contains g.triples t × (t.p ≡ p))
 Contains-triples_with g p t = Contains-ordered g (Predicate p) t
+
+-- what is so of what is found in order is so of what is found in any
+pub All-any_order : {X : Type 0} (P : X → Type 0) (found ordered : List X) → SameMembers found ordered
+    → All P ordered → All P found
+All-any_order P found ordered same all =
+    All_of_each P found (λ x c. each_of_All P ordered all x ((same.each x).0 c))
+
+-- what is found in any order is what is found in order
+pub in_any_order : (terms : List Term) (ids found : List ℕ) → SameMembers ids found
+    → SameMembers found (in_term_order terms ids)
+in_any_order terms ids found same = record {
+  each = λ y.
+      let ordered = (in_term_order_lists terms ids).each y in
+      (λ c. ordered.1 ((same.each y).1 c), λ c. (same.each y).0 (ordered.0 c));
+}
+
+pub triples_in_any_order : (terms : List Term) (ts found : List Triple) → SameMembers ts found
+    → SameMembers found (in_triple_order terms ts)
+triples_in_any_order terms ts found same = record {
+  each = λ t.
+      let ordered = (in_triple_order_lists terms ts).each t in
+      (λ c. ordered.1 ((same.each t).1 c), λ c. (same.each t).0 (ordered.0 c));
+}
 
 -- what is found is in order
 pub sorted-objects_of : (g : Graph) (s p : ℕ) → IsStrictlySortedBy (id_cmp g.terms) (objects_of g s p)

@@ -78,6 +78,32 @@ impl<'a> GraphView for Lent<'a> {
         Ok(self.pool.in_order(found))
     }
 
+    fn objects_unsorted<N: Notes>(
+        &self,
+        alloc: Global,
+        s: Id,
+        p: Id,
+        reads: &mut N,
+    ) -> Result<Vec<Id>, Memory> {
+        let key = Key::Out(s, p);
+        let found = objects_among(alloc, self.triples, &key)?;
+        reads.add(key)?;
+        Ok(found)
+    }
+
+    fn subjects_unsorted<N: Notes>(
+        &self,
+        alloc: Global,
+        p: Id,
+        o: Id,
+        reads: &mut N,
+    ) -> Result<Vec<Id>, Memory> {
+        let key = Key::In(p, o);
+        let found = subjects_among(alloc, self.triples, &key)?;
+        reads.add(key)?;
+        Ok(found)
+    }
+
     fn triples_of<N: Notes>(
         &self,
         alloc: Global,
@@ -100,5 +126,17 @@ impl<'a> GraphView for Lent<'a> {
         let found = triples_among(alloc, self.triples, &key)?;
         reads.add(key)?;
         Ok(self.pool.triples_in_order(found))
+    }
+
+    fn triples_with_unsorted<N: Notes>(
+        &self,
+        alloc: Global,
+        p: Id,
+        reads: &mut N,
+    ) -> Result<Vec<Triple>, Memory> {
+        let key = Key::Predicate(p);
+        let found = triples_among(alloc, self.triples, &key)?;
+        reads.add(key)?;
+        Ok(found)
     }
 }

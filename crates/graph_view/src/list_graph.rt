@@ -128,6 +128,26 @@ impl GraphView for ListGraph {
         self.lent().subjects(alloc, p, o, reads)
     }
 
+    fn objects_unsorted<N: Notes>(
+        &self,
+        alloc: Global,
+        s: Id,
+        p: Id,
+        reads: &mut N,
+    ) -> Result<Vec<Id>, Memory> {
+        self.lent().objects_unsorted(alloc, s, p, reads)
+    }
+
+    fn subjects_unsorted<N: Notes>(
+        &self,
+        alloc: Global,
+        p: Id,
+        o: Id,
+        reads: &mut N,
+    ) -> Result<Vec<Id>, Memory> {
+        self.lent().subjects_unsorted(alloc, p, o, reads)
+    }
+
     fn triples_of<N: Notes>(
         &self,
         alloc: Global,
@@ -144,6 +164,15 @@ impl GraphView for ListGraph {
         reads: &mut N,
     ) -> Result<Vec<Triple>, Memory> {
         self.lent().triples_with(alloc, p, reads)
+    }
+
+    fn triples_with_unsorted<N: Notes>(
+        &self,
+        alloc: Global,
+        p: Id,
+        reads: &mut N,
+    ) -> Result<Vec<Triple>, Memory> {
+        self.lent().triples_with_unsorted(alloc, p, reads)
     }
 }
 

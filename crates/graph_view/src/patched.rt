@@ -112,6 +112,26 @@ impl<'a, V: GraphView> GraphView for Patched<'a, V> {
         changed(alloc, self.base.pool(), found, &gone, new)
     }
 
+    fn objects_unsorted<N: Notes>(
+        &self,
+        alloc: Global,
+        s: Id,
+        p: Id,
+        reads: &mut N,
+    ) -> Result<Vec<Id>, Memory> {
+        self.objects(alloc, s, p, reads)
+    }
+
+    fn subjects_unsorted<N: Notes>(
+        &self,
+        alloc: Global,
+        p: Id,
+        o: Id,
+        reads: &mut N,
+    ) -> Result<Vec<Id>, Memory> {
+        self.subjects(alloc, p, o, reads)
+    }
+
     fn triples_of<N: Notes>(
         &self,
         alloc: Global,
@@ -136,6 +156,15 @@ impl<'a, V: GraphView> GraphView for Patched<'a, V> {
         let gone = triples_among(alloc, self.removed, &key)?;
         let new = triples_among(alloc, self.added, &key)?;
         changed(alloc, self.base.pool(), found, &gone, new)
+    }
+
+    fn triples_with_unsorted<N: Notes>(
+        &self,
+        alloc: Global,
+        p: Id,
+        reads: &mut N,
+    ) -> Result<Vec<Triple>, Memory> {
+        self.triples_with(alloc, p, reads)
     }
 }
 

@@ -1,6 +1,7 @@
 ghost use Rattle.std.specs.Prelude.{◌≡◌, ◌<◌, ◌↔◌, ℕ, [], ◌∷◌, Some, length, slice_get, min, All, Contains};
 ghost use Rattle.std.specs.Prelude.{IsTrue, IfOk, OnOk};
 ghost use Rattle.std.specs.List.{IsDistinct};
+ghost use Rattle.shx_term.specs.Members.{SameMembers};
 ghost use Rattle.shx_term.specs.Triple.{same_triple};
 ghost use Rattle.shx_term.specs.declared.triple.Triple.{Triple};
 ghost use Rattle.shx_term.specs.ValidTriples.{IsNotWide};
@@ -16,8 +17,8 @@ use std::alloc::Global;
 
 /// A graph that can be looked up. Which triples it holds is told; their order is not.
 ///
-/// A look-up gives its answer in the order of terms, each number or triple once, and adds to `reads` the one
-/// key that it read. All numbers in an answer have terms.
+/// A look-up gives its answer in the order of terms, unless it is one without order, each number or triple
+/// once, and adds to `reads` the one key that it read. All numbers in an answer have terms.
 pub trait GraphView {
     /// The terms and triples of the graph.
     ghost graph: { Self → Graph };
@@ -68,6 +69,31 @@ pub trait GraphView {
         ensures known { IfOk result (λ found. HasTerms (graph self.now) found.items) }
         ensures reads { OnOk result (N.notes reads.old reads.new (Key.In p o ∷ [])) };
 
+    /// The same objects, in any order. It reads `Out(s, p)`.
+    fn objects_unsorted<N: Notes>(
+        &self,
+        alloc: Global,
+        s: Id,
+        p: Id,
+        reads: &mut N,
+    ) -> Result<Vec<Id>, Memory>
+        ensures objects { IfOk result (λ found. SameMembers found.items (objects_of (graph self.now) s p)) }
+        ensures known { IfOk result (λ found. HasTerms (graph self.now) found.items) }
+        ensures reads { OnOk result (N.notes reads.old reads.new (Key.Out s p ∷ [])) };
+
+    /// The same subjects, in any order. It reads `In(p, o)`.
+    fn subjects_unsorted<N: Notes>(
+        &self,
+        alloc: Global,
+        p: Id,
+        o: Id,
+        reads: &mut N,
+    ) -> Result<Vec<Id>, Memory>
+        ensures subjects { IfOk result (λ found.
+            SameMembers found.items (subjects_of (graph self.now) p o)) }
+        ensures known { IfOk result (λ found. HasTerms (graph self.now) found.items) }
+        ensures reads { OnOk result (N.notes reads.old reads.new (Key.In p o ∷ [])) };
+
     /// The triples of a subject, by predicate and object in term order. It reads `Subject(s)`.
     fn triples_of<N: Notes>(
         &self,
@@ -87,6 +113,17 @@ pub trait GraphView {
         reads: &mut N,
     ) -> Result<Vec<Triple>, Memory>
         ensures triples { IfOk result (λ found. found.items ≡ triples_with (graph self.now) p) }
+        ensures known { IfOk result (λ found. All (IsKnownTriple (graph self.now).terms) found.items) }
+        ensures reads { OnOk result (N.notes reads.old reads.new (Key.Predicate p ∷ [])) };
+
+    /// The same triples, in any order. It reads `Predicate(p)`.
+    fn triples_with_unsorted<N: Notes>(
+        &self,
+        alloc: Global,
+        p: Id,
+        reads: &mut N,
+    ) -> Result<Vec<Triple>, Memory>
+        ensures triples { IfOk result (λ found. SameMembers found.items (triples_with (graph self.now) p)) }
         ensures known { IfOk result (λ found. All (IsKnownTriple (graph self.now).terms) found.items) }
         ensures reads { OnOk result (N.notes reads.old reads.new (Key.Predicate p ∷ [])) };
 }

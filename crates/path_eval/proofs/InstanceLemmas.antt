@@ -2,20 +2,27 @@
 use Rattle.std.specs.Prelude.{◌≡◌, ◌≢◌, ◌<◌, ℕ, nat_eq, List, length, Contains, ◌↔◌, IsTrue}
 use Rattle.std.specs.Cmp.{nat_eq_equiv}
 use Rattle.std.specs.List.{list_any}
-use Rattle.std.proofs.Common.{ap, ◌∙◌, inl, inr, arith}
+use Rattle.std.proofs.Common.{ap, ◌∙◌, inl, inr, arith, refl}
 use Rattle.std.proofs.lemmas.Bool.{eqb-true}
 use Rattle.shx_term.specs.declared.triple.Triple.{Triple}
 use Rattle.shx_term.specs.declared.vocabulary.TheConstants.{RDF_TYPE, RDFS_SUB_CLASS_OF}
 use Rattle.shx_term.proofs.MemberLemmas.{Contains-test}
 use Rattle.graph_view.specs.Agree.{Agree}
 use Rattle.graph_view.specs.Graph.{Graph, AllKnown, HasAlso, IsWithout}
-use Rattle.path_eval.specs.declared.direction.Direction.TheVariants.{Forward}
+use Rattle.path_eval.specs.declared.direction.Direction.{Direction}
+use Rattle.path_eval.specs.declared.direction.Direction.TheVariants.{Backward, Forward}
 use Rattle.path_eval.specs.Instances.{IsInstance, instance_route, is_instance}
+use Rattle.path_eval.specs.inner.Course.{whole}
 use Rattle.shx_term.specs.Chains.{Chain}
 use Rattle.path_eval.specs.Values.{nodes_reached, path_reads}
 use Rattle.path_eval.proofs.AgreementLemmas.{path_agreement}
 use Rattle.path_eval.proofs.ChainLemmas.{Chain-keeps, chain_here, chain_step}
 use Rattle.path_eval.proofs.MeetsLemmas.{path_lists}
+
+-- the path of instances ends at the same place in either direction
+pub instance_end : (d : Direction) → 1 ≡ (whole d instance_route).end
+instance_end Forward = refl
+instance_end Backward = refl
 
 pub instance_test : (g : Graph) → AllKnown g → (node class : ℕ)
     → IsTrue (is_instance g node class) ↔ IsInstance g.triples node class

@@ -6,9 +6,10 @@ use Rattle.std.specs.List.{list_any}
 use Rattle.std.proofs.Common.{refl, sym, ap, ◌∙◌, subst, inl, inr, get_or, append_assoc, append-nil}
 use Rattle.std.proofs.lemmas.Grind.{flat_map-append}
 use Rattle.std.proofs.lemmas.List.{take_more, map_push}
-use Rattle.std.proofs.lemmas.Bool.{eqb-true}
+use Rattle.std.proofs.lemmas.Bool.{eq-eqb, eqb-true}
 use Rattle.std.proofs.lemmas.List.Elements.{Contains-append_left, Contains-append_right}
 use Rattle.std.proofs.lemmas.List.Elements.{Contains-append_cases}
+use Rattle.shx_term.specs.Members.{SameMembers}
 use Rattle.shx_term.proofs.MemberLemmas.{Contains-insert, Contains-one, none_in_empty}
 use Rattle.indexmap.specs.IndexSet.{insert_key}
 use Rattle.graph_view.specs.declared.key.Key.{Key}
@@ -46,6 +47,18 @@ module _ {X : Type 0} where
     rest = [];
     begins = sym (append-nil seen);
     each = λ x. (λ c. inl c, λ h. elim h [ inl c ↦ c | inr c ↦ absurd (none_in_empty x c) ]);
+  }
+
+  -- the same members are added
+  pub Joins-same : {old new : List X} (xs ys : List X) → SameMembers xs ys → Joins old xs new
+      → Joins old ys new
+  Joins-same xs ys same a = record {
+    rest = a.rest;
+    begins = a.begins;
+    each = λ x. (
+      λ c. elim ((a.each x).0 c) [ inl held ↦ inl held | inr one ↦ inr ((same.each x).0 one) ],
+      λ h. (a.each x).1 (elim h [ inl held ↦ inl held | inr one ↦ inr ((same.each x).1 one) ]),
+    );
   }
 
   pub Joins-then : {old mid new : List X} (xs ys : List X) → Joins old xs mid → Joins mid ys new
@@ -108,6 +121,10 @@ module _ {A X : Type 0} where
 
 module _ {X : Type 0} where
   -- what is given where numbers are one is nothing where they are not
+  pub Joins-here : (m n : ℕ) → m ≡ n → (xs seen new : List X) → Joins seen xs new
+      → Joins seen (if m == n then xs else []) new
+  Joins-here m n here xs seen new joins = rw (eq-eqb m n here) joins
+
   pub Joins-elsewhere : (m n : ℕ) → (m ≡ n → ⊥) → (xs seen : List X)
       → Joins seen (if m == n then xs else []) seen
   Joins-elsewhere m n other xs seen =

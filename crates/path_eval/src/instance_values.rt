@@ -1,5 +1,6 @@
 //! SHACL instances.
 ghost use Rattle.std.specs.Prelude.{◌≡◌, ◌<◌, length, IfOk, OnOk};
+ghost use Rattle.shx_term.specs.Members.{SameMembers};
 ghost use Rattle.graph_view.specs.Graph.{HasTerms};
 ghost use Rattle.path_eval.specs.declared.direction.Direction.{Direction};
 ghost use Rattle.path_eval.specs.Instances.{instance_route, is_instance};
@@ -10,7 +11,7 @@ ghost use Rattle.path_eval.specs.Values.{nodes_reached, path_reads};
 use crate::Direction;
 use crate::course::START;
 use crate::edge::{Edge, Label};
-use crate::path_values::follow_laid;
+use crate::path_values::{follow_laid, reach_laid};
 use graph_view::{GraphView, Notes};
 use shx_term::vocabulary::{RDF_TYPE, RDFS_SUB_CLASS_OF};
 use shx_term::{Id, Memory};
@@ -56,6 +57,23 @@ pub fn instances<V: GraphView, N: Notes>(
     follow(alloc, view, Direction::Backward, class, reads)
 }
 
+/// The same instances in any order, each once. No terms are compared.
+pub fn instances_unsorted<V: GraphView, N: Notes>(
+    alloc: Global,
+    view: &V,
+    class: Id,
+    reads: &mut N,
+) -> Result<Vec<Id>, Memory>
+    ensures instances { IfOk result (λ found. SameMembers found.items
+        (nodes_reached (V.graph view.now) Direction.Backward instance_route class)) }
+    ensures known { IfOk result (λ found. class < length (V.graph view.now).terms
+        → HasTerms (V.graph view.now) found.items) }
+    ensures reads { OnOk result (N.notes reads.old reads.new
+        (path_reads (V.graph view.now) Direction.Backward instance_route class)) }
+{
+    reach(alloc, view, Direction::Backward, class, reads)
+}
+
 /// Whether a node is a SHACL instance of a class. It costs what `classes` costs, and adds the same keys, also
 /// where the class is found at once: so what was read does not depend on the class. Where memory is refused,
 /// some of the keys may have been added to `reads`.
@@ -92,6 +110,26 @@ fn follow<V: GraphView, N: Notes>(
     let rows: Vec<Vec<Edge>> = Vec::new(alloc);
     let edges = instance_edges(direction);
     follow_laid(alloc, view, &rows, &edges, END, start, reads)
+}
+
+// The same nodes in any order, each once.
+fn reach<V: GraphView, N: Notes>(
+    alloc: Global,
+    view: &V,
+    direction: Direction,
+    start: Id,
+    reads: &mut N,
+) -> Result<Vec<Id>, Memory>
+    ensures nodes { IfOk result (λ found.
+        SameMembers found.items (nodes_reached (V.graph view.now) direction instance_route start)) }
+    ensures known { IfOk result (λ found. start < length (V.graph view.now).terms
+        → HasTerms (V.graph view.now) found.items) }
+    ensures reads { OnOk result (N.notes reads.old reads.new
+        (path_reads (V.graph view.now) direction instance_route start)) }
+{
+    let rows: Vec<Vec<Edge>> = Vec::new(alloc);
+    let edges = instance_edges(direction);
+    reach_laid(alloc, view, &rows, &edges, END, start, reads)
 }
 
 // The path of instances as it is laid. It takes no memory, and is too short for rows.

@@ -52,7 +52,7 @@ pub use direction::Direction;
 pub use instance_laws::{
     a_type_tells_of_its_node_alone, instances_are_told, instances_depend_on_their_reads,
 };
-pub use instance_values::{classes, instances, is_instance};
+pub use instance_values::{classes, instances, instances_unsorted, is_instance};
 pub use laid_path::LaidPath;
 pub use laws::{edits_beside_a_path, paths_depend_on_their_reads, paths_lead_to_what_they_relate};
 pub use path::Path;

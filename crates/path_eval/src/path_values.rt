@@ -1,5 +1,6 @@
 //! The values of a path.
 ghost use Rattle.std.specs.Prelude.{◌≡◌, ◌<◌, length, IfOk, OnOk};
+ghost use Rattle.shx_term.specs.Members.{SameMembers};
 ghost use Rattle.graph_view.specs.Graph.{HasTerms};
 ghost use Rattle.path_eval.specs.declared.direction.Direction.{Direction};
 ghost use Rattle.path_eval.specs.inner.Course.{whole};
@@ -69,11 +70,36 @@ pub(crate) fn follow_laid<V: GraphView, N: Notes>(
         → end ≡ (whole d route).end
         → OnOk result (N.notes reads.old reads.new (path_reads (V.graph view.now) d route start)) }
 {
-    let pool = view.pool();
+    let nodes = reach_laid(alloc, view, rows, edges, end, start, reads)?;
+    Ok(view.pool().in_order(nodes))
+}
+
+/// The same nodes in any order, each once.
+pub(crate) fn reach_laid<V: GraphView, N: Notes>(
+    alloc: Global,
+    view: &V,
+    rows: &[Vec<Edge>],
+    edges: &[Edge],
+    end: u32,
+    start: Id,
+    reads: &mut N,
+) -> Result<Vec<Id>, Memory>
+    requires { IsByPlace rows.now edges.now }
+    ensures nodes { (d : Direction) (route : Route) → edges.now ≡ (whole d route).edges
+        → end ≡ (whole d route).end
+        → IfOk result (λ found. SameMembers found.items (nodes_reached (V.graph view.now) d route start)) }
+    ensures known { (d : Direction) (route : Route) → edges.now ≡ (whole d route).edges
+        → end ≡ (whole d route).end
+        → IfOk result (λ found. start < length (V.graph view.now).terms
+        → HasTerms (V.graph view.now) found.items) }
+    ensures reads { (d : Direction) (route : Route) → edges.now ≡ (whole d route).edges
+        → end ≡ (whole d route).end
+        → OnOk result (N.notes reads.old reads.new (path_reads (V.graph view.now) d route start)) }
+{
+    let _ = view.pool();
     let first = State {
         place: START,
         node: start,
     };
-    let nodes = search(alloc, view, rows, edges, first, end, reads)?;
-    Ok(pool.in_order(nodes))
+    search(alloc, view, rows, edges, first, end, reads)
 }

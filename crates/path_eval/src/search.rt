@@ -1,5 +1,6 @@
 //! The search over states.
 ghost use Rattle.std.specs.Prelude.{◌≡◌, [], ◌∷◌, IfOk, OnOk};
+ghost use Rattle.shx_term.specs.Members.{SameMembers};
 ghost use Rattle.path_eval.specs.Relation.{step_key};
 ghost use Rattle.path_eval.specs.Way.{step_to};
 ghost use Rattle.path_eval.specs.inner.Reached.{HasThose, Joins, NotesThose};
@@ -33,6 +34,25 @@ pub(crate) fn step<V: GraphView, N: Notes>(
     }
 }
 
+// The same nodes in any order.
+fn step_unsorted<V: GraphView, N: Notes>(
+    alloc: Global,
+    view: &V,
+    direction: Direction,
+    p: Id,
+    node: Id,
+    reads: &mut N,
+) -> Result<Vec<Id>, Memory>
+    ensures found { IfOk result (λ found.
+        SameMembers found.items (step_to (V.graph view.now) direction p node)) }
+    ensures reads { OnOk result (N.notes reads.old reads.new (step_key direction p node ∷ [])) }
+{
+    match direction {
+        Direction::Forward => Ok(view.objects_unsorted(alloc, node, p, reads)?),
+        Direction::Backward => Ok(view.subjects_unsorted(alloc, p, node, reads)?),
+    }
+}
+
 // Along an edge from a state, if it begins there.
 fn follow_edge<V: GraphView, N: Notes>(
     alloc: Global,
@@ -57,7 +77,7 @@ fn follow_edge<V: GraphView, N: Notes>(
             Ok(())
         }
         Label::Step(direction, p) => {
-            let found = step(alloc, view, direction, p, state.node, reads)?;
+            let found = step_unsorted(alloc, view, direction, p, state.node, reads)?;
             seen.add_all(edge.to, &found)?;
             Ok(())
         }

@@ -5,7 +5,7 @@ use Rattle.std.specs.List.{IsDistinct, dedup}
 use Rattle.std.specs.List.Sorted.{IsSorted, IsStrictlySortedBy}
 use Rattle.std.specs.Ordering.{eq_by_cmp, nat_cmp}
 use Rattle.std.specs.declared.cmp.Ordering.{Ordering}
-use Rattle.std.proofs.Common.{sym, subst}
+use Rattle.std.proofs.Common.{refl, sym, subst}
 use Rattle.std.proofs.lemmas.Bool.{eqb-true}
 use Rattle.std.proofs.lemmas.Map.Keys.{IsDistinct-from_sorted}
 use Rattle.std.proofs.lemmas.Map.Views.{exact_unsigned_eq, tells_apart}
@@ -14,6 +14,7 @@ use Rattle.std.proofs.lemmas.Map.Lookups.{exact_unsigned}
 use Rattle.shx_term.specs.declared.term.Term.{Term}
 use Rattle.shx_term.specs.IdOrder.{id_cmp, in_term_order}
 use Rattle.shx_term.specs.InOrder.{IsExactOrder, Lists}
+use Rattle.shx_term.specs.Members.{SameMembers}
 use Rattle.shx_term.proofs.IdOrderLemmas.{id_order, in_term_order_lists}
 use Rattle.shx_term.proofs.InOrderLemmas.{in_order_lists}
 use Rattle.shx_term.proofs.SortLemmas.{dedup_in_order}
@@ -52,14 +53,16 @@ Lists-ascending found sorted ids is permuted ascends =
     (in_order_lists nat_cmp nat_order found))
 
 -- and are those that are listed in term order
-pub Lists-by_number : (terms : List Term) (found sorted ids : List ℕ) → found ≡ ids
+pub Lists-by_number : (terms : List Term) (found sorted ids : List ℕ) → SameMembers found ids
     → IsPermutation found sorted → IsSorted nat_cmp sorted
     → Lists nat_cmp (Contains (in_term_order terms ids)) (dedup nat_eq sorted)
-Lists-by_number terms found sorted ids is permuted ascends =
-    let lists = Lists-ascending found sorted ids is permuted ascends in
+Lists-by_number terms found sorted ids same permuted ascends =
+    let lists = Lists-ascending found sorted found refl permuted ascends in
     record {
       sorted = lists.sorted;
       each = λ n.
-          let in_terms = (in_term_order_lists terms ids).each n in
-          (λ c. in_terms.1 ((lists.each n).0 c), λ c. (lists.each n).1 (in_terms.0 c));
+          let in_terms = (in_term_order_lists terms ids).each n in (
+            λ c. in_terms.1 ((same.each n).0 ((lists.each n).0 c)),
+            λ c. (lists.each n).1 ((same.each n).1 (in_terms.0 c)),
+          );
     }

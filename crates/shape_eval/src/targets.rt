@@ -1,7 +1,8 @@
 //! The target nodes of a shape.
-ghost use Rattle.std.specs.Prelude.{◌≡◌, ◌<◌, flat_map, length, slice_get, Contains, IfOk, OnOk};
+ghost use Rattle.std.specs.Prelude.{◌≡◌, ◌<◌, flat_map, length, map, slice_get, Contains, IfOk, OnOk};
 ghost use Rattle.std.specs.Ordering.{nat_cmp};
 ghost use Rattle.shx_term.specs.InOrder.{Lists};
+ghost use Rattle.shx_term.specs.Members.{SameMembers};
 ghost use Rattle.graph_view.specs.Graph.{HasTerms};
 ghost use Rattle.shape_eval.specs.Planned.{plan_of};
 ghost use Rattle.shape_eval.specs.Plan.{IsKnownPlan, target_number};
@@ -11,8 +12,8 @@ ghost use Rattle.shape_eval.specs.Targets.{target_nodes, target_reads, targets_o
 use crate::{Plan, Target};
 use comp_core::ShapeNo;
 use graph_view::{GraphView, Notes};
-use path_eval::instances;
-use shx_term::{Id, Memory};
+use path_eval::instances_unsorted;
+use shx_term::{Id, Memory, Triple};
 use std::alloc::Global;
 
 /// The target nodes of a shape (SHACL, section 2.1.3) in term order, each once. It adds the keys that are
@@ -32,7 +33,7 @@ pub fn eval_target<V: GraphView, N: Notes>(
     ensures reads { OnOk result (N.notes reads.old reads.new
         (target_reads (plan_of plan.now).shapes (V.graph view.now) shape)) }
 {
-    let found = nodes_in_turn(alloc, view, plan, shape, reads)?;
+    let found = nodes_found(alloc, view, plan, shape, reads)?;
     Ok(view.pool().in_order(found))
 }
 
@@ -53,14 +54,14 @@ pub fn eval_target_by_number<V: GraphView, N: Notes>(
     ensures reads { OnOk result (N.notes reads.old reads.new
         (target_reads (plan_of plan.now).shapes (V.graph view.now) shape)) }
 {
-    let mut found = nodes_in_turn(alloc, view, plan, shape, reads)?;
+    let mut found = nodes_found(alloc, view, plan, shape, reads)?;
     found.sort_unstable();
     found.dedup();
     Ok(found)
 }
 
-// The nodes of each target in turn, some of them perhaps more than once.
-fn nodes_in_turn<V: GraphView, N: Notes>(
+// The nodes of all targets in any order, some of them perhaps more than once.
+fn nodes_found<V: GraphView, N: Notes>(
     alloc: Global,
     view: &V,
     plan: &Plan,
@@ -69,8 +70,9 @@ fn nodes_in_turn<V: GraphView, N: Notes>(
 ) -> Result<Vec<Id>, Memory>
     requires plan { IsKnownPlan (V.graph view.now).terms (plan_of plan.now).shapes }
     requires shape { shape < length (plan_of plan.now).shapes }
-    ensures nodes { IfOk result (λ found. found.items ≡ flat_map (nodes_of_target (V.graph view.now))
-        (targets_of (slice_get (plan_of plan.now).shapes shape))) }
+    ensures nodes { IfOk result (λ found. SameMembers found.items
+        (flat_map (nodes_of_target (V.graph view.now))
+        (targets_of (slice_get (plan_of plan.now).shapes shape)))) }
     ensures known { IfOk result (λ found. HasTerms (V.graph view.now) found.items) }
     ensures reads { OnOk result (N.notes reads.old reads.new
         (target_reads (plan_of plan.now).shapes (V.graph view.now) shape)) }
@@ -83,7 +85,7 @@ fn nodes_in_turn<V: GraphView, N: Notes>(
     Ok(found)
 }
 
-// The nodes of one target.
+// The nodes of one target, in any order.
 fn nodes_of_target<V: GraphView, N: Notes>(
     alloc: Global,
     view: &V,
@@ -91,20 +93,33 @@ fn nodes_of_target<V: GraphView, N: Notes>(
     reads: &mut N,
 ) -> Result<Vec<Id>, Memory>
     requires { target_number target < length (V.graph view.now).terms }
-    ensures nodes { IfOk result (λ found. found.items ≡ nodes_of_target (V.graph view.now) target) }
+    ensures nodes { IfOk result (λ found.
+        SameMembers found.items (nodes_of_target (V.graph view.now) target)) }
     ensures known { IfOk result (λ found. HasTerms (V.graph view.now) found.items) }
     ensures reads { OnOk result (N.notes reads.old reads.new (reads_of_target (V.graph view.now) target)) }
 {
     match target {
         Target::Node(node) => Ok(vec![in alloc; node]?),
-        Target::Class(class) => instances(alloc, view, class, reads),
+        Target::Class(class) => instances_unsorted(alloc, view, class, reads),
         Target::SubjectsOf(p) => {
-            let triples = view.triples_with(alloc, p, reads)?;
-            triples.iter().map(|t| t.s).collect(alloc)
+            let triples = view.triples_with_unsorted(alloc, p, reads)?;
+            subjects_in(alloc, &triples)
         }
         Target::ObjectsOf(p) => {
-            let triples = view.triples_with(alloc, p, reads)?;
-            triples.iter().map(|t| t.o).collect(alloc)
+            let triples = view.triples_with_unsorted(alloc, p, reads)?;
+            objects_in(alloc, &triples)
         }
     }
+}
+
+fn subjects_in(alloc: Global, triples: &[Triple]) -> Result<Vec<Id>, Memory>
+    ensures { IfOk result (λ found. found.items ≡ map (λ t. t.s) triples.now) }
+{
+    triples.iter().map(|t| t.s).collect(alloc)
+}
+
+fn objects_in(alloc: Global, triples: &[Triple]) -> Result<Vec<Id>, Memory>
+    ensures { IfOk result (λ found. found.items ≡ map (λ t. t.o) triples.now) }
+{
+    triples.iter().map(|t| t.o).collect(alloc)
 }

@@ -110,6 +110,26 @@ impl<'a, V: GraphView> GraphView for Overlay<'a, V> {
         merged(alloc, self.base.pool(), found, new)
     }
 
+    fn objects_unsorted<N: Notes>(
+        &self,
+        alloc: Global,
+        s: Id,
+        p: Id,
+        reads: &mut N,
+    ) -> Result<Vec<Id>, Memory> {
+        self.objects(alloc, s, p, reads)
+    }
+
+    fn subjects_unsorted<N: Notes>(
+        &self,
+        alloc: Global,
+        p: Id,
+        o: Id,
+        reads: &mut N,
+    ) -> Result<Vec<Id>, Memory> {
+        self.subjects(alloc, p, o, reads)
+    }
+
     fn triples_of<N: Notes>(
         &self,
         alloc: Global,
@@ -132,6 +152,15 @@ impl<'a, V: GraphView> GraphView for Overlay<'a, V> {
         leave_out(&self.removed, &mut found);
         let new = self.added.triples_with(alloc, p)?;
         merged(alloc, self.base.pool(), found, new)
+    }
+
+    fn triples_with_unsorted<N: Notes>(
+        &self,
+        alloc: Global,
+        p: Id,
+        reads: &mut N,
+    ) -> Result<Vec<Triple>, Memory> {
+        self.triples_with(alloc, p, reads)
     }
 }
 

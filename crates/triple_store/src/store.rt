@@ -148,6 +148,30 @@ impl GraphView for Store {
         Ok(self.pool.in_order(found))
     }
 
+    fn objects_unsorted<N: Notes>(
+        &self,
+        alloc: Global,
+        s: Id,
+        p: Id,
+        reads: &mut N,
+    ) -> Result<Vec<Id>, Memory> {
+        let found = self.indexes.objects(alloc, s, p)?;
+        reads.add(Key::Out(s, p))?;
+        Ok(found)
+    }
+
+    fn subjects_unsorted<N: Notes>(
+        &self,
+        alloc: Global,
+        p: Id,
+        o: Id,
+        reads: &mut N,
+    ) -> Result<Vec<Id>, Memory> {
+        let found = self.indexes.subjects(alloc, p, o)?;
+        reads.add(Key::In(p, o))?;
+        Ok(found)
+    }
+
     fn triples_of<N: Notes>(
         &self,
         alloc: Global,
@@ -168,6 +192,17 @@ impl GraphView for Store {
         let found = self.indexes.triples_with(alloc, p)?;
         reads.add(Key::Predicate(p))?;
         Ok(self.pool.triples_in_order(found))
+    }
+
+    fn triples_with_unsorted<N: Notes>(
+        &self,
+        alloc: Global,
+        p: Id,
+        reads: &mut N,
+    ) -> Result<Vec<Triple>, Memory> {
+        let found = self.indexes.triples_with(alloc, p)?;
+        reads.add(Key::Predicate(p))?;
+        Ok(found)
     }
 }
 

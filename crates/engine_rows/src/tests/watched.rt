@@ -122,6 +122,32 @@ impl GraphView for Watched {
         self.graph.subjects(alloc, p, o, reads)
     }
 
+    fn objects_unsorted<N: Notes>(
+        &self,
+        alloc: Global,
+        s: Id,
+        p: Id,
+        reads: &mut N,
+    ) -> Result<Vec<Id>, Memory> {
+        if self.refuses(&Key::Out(s, p)) {
+            return Err(AllocError);
+        }
+        self.graph.objects_unsorted(alloc, s, p, reads)
+    }
+
+    fn subjects_unsorted<N: Notes>(
+        &self,
+        alloc: Global,
+        p: Id,
+        o: Id,
+        reads: &mut N,
+    ) -> Result<Vec<Id>, Memory> {
+        if self.refuses(&Key::In(p, o)) {
+            return Err(AllocError);
+        }
+        self.graph.subjects_unsorted(alloc, p, o, reads)
+    }
+
     fn triples_of<N: Notes>(
         &self,
         alloc: Global,
@@ -144,6 +170,18 @@ impl GraphView for Watched {
             return Err(AllocError);
         }
         self.graph.triples_with(alloc, p, reads)
+    }
+
+    fn triples_with_unsorted<N: Notes>(
+        &self,
+        alloc: Global,
+        p: Id,
+        reads: &mut N,
+    ) -> Result<Vec<Triple>, Memory> {
+        if self.refuses(&Key::Predicate(p)) {
+            return Err(AllocError);
+        }
+        self.graph.triples_with_unsorted(alloc, p, reads)
     }
 }
 

@@ -47,12 +47,10 @@ impl Found {
         self.triples.as_slice()
     }
 
-    fn add_ids(&mut self, found: Result<Vec<Id>, Memory>) -> Result<(), Memory> {
-        self.ids.extend_from_slice(&found?)
-    }
-
-    fn add_triples(&mut self, found: Result<Vec<Triple>, Memory>) -> Result<(), Memory> {
-        self.triples.extend_from_slice(&found?)
+    // What was found in any order has to be the same once it is in order.
+    fn add_ids(&mut self, any: Vec<Id>, found: Vec<Id>) -> Result<(), Memory> {
+        self.is_alone &= any.as_slice() == found.as_slice();
+        self.ids.extend_from_slice(&found)
     }
 
     fn add_under<V: GraphView>(
@@ -63,20 +61,24 @@ impl Found {
     ) -> Result<(), Memory> {
         match *key {
             Key::Out(s, p) => {
-                let found = view.objects(alloc, s, p, &mut self.reads);
-                self.add_ids(found)
+                let any = view.objects_unsorted(alloc, s, p, &mut self.reads)?;
+                let found = view.objects(alloc, s, p, &mut self.reads)?;
+                self.add_ids(view.pool().in_order(any), found)
             }
             Key::In(p, o) => {
-                let found = view.subjects(alloc, p, o, &mut self.reads);
-                self.add_ids(found)
+                let any = view.subjects_unsorted(alloc, p, o, &mut self.reads)?;
+                let found = view.subjects(alloc, p, o, &mut self.reads)?;
+                self.add_ids(view.pool().in_order(any), found)
             }
             Key::Subject(s) => {
-                let found = view.triples_of(alloc, s, &mut self.reads);
-                self.add_triples(found)
+                let found = view.triples_of(alloc, s, &mut self.reads)?;
+                self.triples.extend_from_slice(&found)
             }
             Key::Predicate(p) => {
-                let found = view.triples_with(alloc, p, &mut self.reads);
-                self.add_triples(found)
+                let any = view.triples_with_unsorted(alloc, p, &mut self.reads)?;
+                let found = view.triples_with(alloc, p, &mut self.reads)?;
+                self.is_alone &= view.pool().triples_in_order(any) == found;
+                self.triples.extend_from_slice(&found)
             }
             Key::Answer(_, _) => Ok(()),
         }

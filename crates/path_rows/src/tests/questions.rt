@@ -2,11 +2,12 @@ use super::cells::{are_nodes, graph, is_said, keys, node};
 use super::paths::path;
 use super::rows::QUESTIONS;
 use due_view::DueView;
-use graph_view::{ListGraph, Reads};
+use graph_view::{GraphView, ListGraph, Reads};
 use path_eval::{
     LaidPath, Path, a_type_tells_of_its_node_alone, classes, edits_beside_a_path,
     equal_paths_have_one_route, instances, instances_are_told, instances_depend_on_their_reads,
-    is_instance, paths_depend_on_their_reads, paths_lead_to_what_they_relate, values,
+    instances_unsorted, is_instance, paths_depend_on_their_reads, paths_lead_to_what_they_relate,
+    values,
 };
 use row_tools::{RowFault, all_met, cut, in_four};
 use shx_term::Id;
@@ -37,6 +38,21 @@ fn path_values(
     Ok(found)
 }
 
+// The instances of a class, if they are found in any order too.
+fn instances_of(
+    alloc: Global,
+    view: &DueView<ListGraph>,
+    class: Id,
+    reads: &mut Reads,
+) -> Result<Vec<Id>, RowFault> {
+    let found = instances(alloc, view, class, reads)?;
+    let any = instances_unsorted(alloc, view, class, reads)?;
+    if view.pool().in_order(any) != found {
+        return Err(RowFault::Unread);
+    }
+    Ok(found)
+}
+
 // The classes of a node, the instances of a class, or where a path leads.
 fn found(
     alloc: Global,
@@ -47,7 +63,7 @@ fn found(
 ) -> Result<Vec<Id>, RowFault> {
     match asked {
         "classes" => Ok(classes(alloc, view, of, reads)?),
-        "instances" => Ok(instances(alloc, view, of, reads)?),
+        "instances" => instances_of(alloc, view, of, reads),
         marks => path_values(alloc, view, &path(alloc, marks)?, of, reads),
     }
 }

@@ -1,4 +1,5 @@
 use Rattle.std.proofs.Common.{sym, ap, ◌∙◌}
+use Rattle.shx_term.proofs.SetLemmas.{SameMembers-is}
 use Rattle.path_eval.specs.declared.direction.Direction.TheVariants.{Forward}
 use Rattle.path_eval.specs.Route.{route_of}
 use Rattle.path_eval.specs.Values.{nodes_reached}
@@ -13,5 +14,8 @@ returns-in-Pred-clause-values g c =
 
 pub returns-in-Pred-clause-known : goal.returns-in-Pred-clause-known
 returns-in-Pred-clause-known g c =
-    found_known (g.V.GraphView.graph c.args.view.now) c.pool.ensures.known Forward (route_of c.args.path.now)
-    c.args.start c.in_ok-found.found.items (returns-in-Pred-clause-values g c)
+    let graph = g.V.GraphView.graph c.args.view.now in
+    let found = c.in_ok-found.found.items in
+    found_known graph c.pool.ensures.known Forward (route_of c.args.path.now) c.args.start found
+    (SameMembers-is found (nodes_reached graph Forward (route_of c.args.path.now) c.args.start)
+    (returns-in-Pred-clause-values g c))

@@ -9,7 +9,7 @@ ghost use Rattle.shape_decl.specs.inner.Kept.{AreReadingsOf, IsKnownOf};
 
 use crate::knowing::known_path;
 use crate::lists::known_list;
-use crate::readings::{KnownGraph, Readings};
+use crate::readings::{KnownGraph, ReadLists};
 use crate::tables::list_predicates;
 use crate::{Declared, ListValue, PathReading, ShapeDecl};
 use graph_view::{GraphView, Key, Reads, objects_among};
@@ -90,7 +90,7 @@ fn declared_lists<V: GraphView>(
     graph: &V,
     node: Id,
     triples: &[Triple],
-    readings: &mut Readings,
+    readings: &mut ReadLists,
 ) -> Result<Vec<ListValue>, Memory>
     requires triples { triples.now ≡ triples_of (V.graph graph.now) node }
     requires known { AreReadingsOf (V.graph graph.now) readings.old }
@@ -109,7 +109,7 @@ fn add_lists<V: GraphView>(
     alloc: Global,
     graph: &V,
     heads: &[Id],
-    readings: &mut Readings,
+    readings: &mut ReadLists,
     found: &mut Vec<ListValue>,
 ) -> Result<(), Memory>
     requires { AreReadingsOf (V.graph graph.now) readings.old }

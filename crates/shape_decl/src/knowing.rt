@@ -9,7 +9,7 @@ ghost use Rattle.shape_decl.specs.inner.Kept.{AreReadingsOf, IsKnownOf};
 
 use crate::PathReading;
 use crate::paths::path_with;
-use crate::readings::{KnownGraph, Readings};
+use crate::readings::{KnownGraph, ReadLists};
 use graph_view::{GraphView, Reads};
 use indexmap::{IndexMap, IndexSet};
 use path_eval::instances;
@@ -18,10 +18,10 @@ use shx_term::{Id, Limits, Memory};
 use std::alloc::Global;
 
 /// Nothing is read yet.
-pub(crate) fn no_readings(alloc: Global) -> Readings
+pub(crate) fn no_readings(alloc: Global) -> ReadLists
     ensures { (g : Graph) → AreReadingsOf g result }
 {
-    Readings {
+    ReadLists {
         cells: IndexMap::new(alloc),
         lists: IndexMap::new(alloc),
     }

@@ -6,7 +6,7 @@ ghost use Rattle.shape_decl.specs.inner.Kept.{AreReadingsOf};
 
 use crate::Cell;
 use crate::knowing::no_readings;
-use crate::readings::Readings;
+use crate::readings::ReadLists;
 use graph_view::{GraphView, Reads};
 use id_list::IdList;
 use indexmap::IndexSet;
@@ -27,7 +27,7 @@ pub(crate) fn known_list<V: GraphView>(
     alloc: Global,
     graph: &V,
     head: Id,
-    readings: &mut Readings,
+    readings: &mut ReadLists,
 ) -> Result<Option<IdList>, Memory>
     requires { AreReadingsOf (V.graph graph.now) readings.old }
     ensures list { IfOk result (λ found. found ≡ list_of (V.graph graph.now) head) }
@@ -65,7 +65,7 @@ pub(crate) fn followed<V: GraphView>(
     alloc: Global,
     graph: &V,
     head: Id,
-    readings: &mut Readings,
+    readings: &mut ReadLists,
 ) -> Result<Option<Vec<Id>>, Memory>
     requires { AreReadingsOf (V.graph graph.now) readings.old }
     ensures list { IfOk result (λ found.
@@ -95,7 +95,7 @@ fn known_cell<V: GraphView>(
     alloc: Global,
     graph: &V,
     node: Id,
-    readings: &mut Readings,
+    readings: &mut ReadLists,
 ) -> Result<Cell, Memory>
     requires { AreReadingsOf (V.graph graph.now) readings.old }
     ensures cell { IfOk result (λ cell. cell ≡ cell_at (V.graph graph.now) node) }

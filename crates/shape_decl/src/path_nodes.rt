@@ -10,7 +10,7 @@ ghost use Rattle.shape_decl.specs.inner.Visits.{counted, row_visits, visits, Mee
 use crate::PathFault;
 use crate::form::Form;
 use crate::read_form::read_form;
-use crate::readings::Readings;
+use crate::readings::ReadLists;
 use graph_view::GraphView;
 use path_eval::Path;
 use shx_term::Id;
@@ -26,7 +26,7 @@ pub(crate) fn read_node<V: GraphView>(
     left: u32,
     limit: u32,
     parts: &mut u32,
-    readings: &mut Readings,
+    readings: &mut ReadLists,
 ) -> Result<Path, PathFault>
     requires { AreReadingsOf (V.graph graph.now) readings.old }
     ensures known { AreReadingsOf (V.graph graph.now) readings.new }
@@ -76,7 +76,7 @@ fn read_nodes<V: GraphView>(
     left: u32,
     limit: u32,
     parts: &mut u32,
-    readings: &mut Readings,
+    readings: &mut ReadLists,
 ) -> Result<Vec<Path>, PathFault>
     requires { AreReadingsOf (V.graph graph.now) readings.old }
     ensures known { AreReadingsOf (V.graph graph.now) readings.new }
@@ -105,7 +105,7 @@ fn read_inside<V: GraphView>(
     left: u32,
     limit: u32,
     parts: &mut u32,
-    readings: &mut Readings,
+    readings: &mut ReadLists,
 ) -> Result<Box<Path>, PathFault>
     requires { AreReadingsOf (V.graph graph.now) readings.old }
     ensures known { AreReadingsOf (V.graph graph.now) readings.new }
@@ -128,7 +128,7 @@ fn meet<V: GraphView>(
     left: u32,
     limit: u32,
     parts: &mut u32,
-    readings: &mut Readings,
+    readings: &mut ReadLists,
 ) -> Result<Form, PathFault>
     requires { AreReadingsOf (V.graph graph.now) readings.old }
     ensures known { AreReadingsOf (V.graph graph.now) readings.new }

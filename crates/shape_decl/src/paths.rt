@@ -5,7 +5,7 @@ ghost use Rattle.shape_decl.specs.inner.Kept.{AreReadingsOf};
 
 use crate::knowing::no_readings;
 use crate::path_nodes::read_node;
-use crate::readings::Readings;
+use crate::readings::ReadLists;
 use crate::{PathFault, PathReading};
 use graph_view::GraphView;
 use path_eval::LaidPath;
@@ -35,7 +35,7 @@ pub(crate) fn path_with<V: GraphView>(
     graph: &V,
     head: Id,
     limits: &Limits,
-    readings: &mut Readings,
+    readings: &mut ReadLists,
 ) -> Result<PathReading, Memory>
     requires { AreReadingsOf (V.graph graph.now) readings.old }
     ensures path { IfOk result (λ reading.

@@ -9,7 +9,7 @@ ghost use Rattle.shape_decl.specs.inner.ToldForm.{told_form};
 
 use crate::form::Form;
 use crate::lists::followed;
-use crate::readings::Readings;
+use crate::readings::ReadLists;
 use graph_view::{GraphView, Reads};
 use shx_term::vocabulary::{
     SH_ALTERNATIVE_PATH, SH_INVERSE_PATH, SH_ONE_OR_MORE_PATH, SH_ZERO_OR_MORE_PATH,
@@ -24,7 +24,7 @@ pub(crate) fn read_form<V: GraphView>(
     alloc: Global,
     graph: &V,
     node: Id,
-    readings: &mut Readings,
+    readings: &mut ReadLists,
 ) -> Result<Form, Memory>
     requires { AreReadingsOf (V.graph graph.now) readings.old }
     ensures known { AreReadingsOf (V.graph graph.now) readings.new }
@@ -46,7 +46,7 @@ fn blank_form<V: GraphView>(
     alloc: Global,
     graph: &V,
     node: Id,
-    readings: &mut Readings,
+    readings: &mut ReadLists,
 ) -> Result<Form, Memory>
     requires { AreReadingsOf (V.graph graph.now) readings.old }
     ensures known { AreReadingsOf (V.graph graph.now) readings.new }
@@ -65,7 +65,7 @@ fn constructed_form<V: GraphView>(
     alloc: Global,
     graph: &V,
     node: Id,
-    readings: &mut Readings,
+    readings: &mut ReadLists,
 ) -> Result<Form, Memory>
     requires { AreReadingsOf (V.graph graph.now) readings.old }
     ensures known { AreReadingsOf (V.graph graph.now) readings.new }
@@ -84,7 +84,7 @@ fn triple_form<V: GraphView>(
     alloc: Global,
     graph: &V,
     t: &Triple,
-    readings: &mut Readings,
+    readings: &mut ReadLists,
 ) -> Result<Form, Memory>
     requires { AreReadingsOf (V.graph graph.now) readings.old }
     ensures known { AreReadingsOf (V.graph graph.now) readings.new }
@@ -104,7 +104,7 @@ fn alternative_form<V: GraphView>(
     alloc: Global,
     graph: &V,
     head: Id,
-    readings: &mut Readings,
+    readings: &mut ReadLists,
 ) -> Result<Form, Memory>
     requires { AreReadingsOf (V.graph graph.now) readings.old }
     ensures known { AreReadingsOf (V.graph graph.now) readings.new }

@@ -5,15 +5,15 @@ use indexmap::{IndexMap, IndexSet};
 use shx_term::Id;
 
 /// What was read of nodes, by their numbers: what they are in lists, and the lists that they head.
-pub(crate) struct Readings {
+pub(crate) struct ReadLists {
     pub(crate) cells: IndexMap<Id, Cell>,
     pub(crate) lists: IndexMap<Id, Option<IdList>>,
 }
 
 // A derived drop is no call: each place where one ends would split into one path for each of its parts.
-impl Drop for Readings {
+impl Drop for ReadLists {
     fn drop(self) {
-        let Readings {
+        let ReadLists {
             cells: _cells,
             lists: _lists,
         } = self;
@@ -22,7 +22,7 @@ impl Drop for Readings {
 
 /// The same, with the paths that were read, and the instances of the two classes that declarations tell of.
 pub(crate) struct KnownGraph {
-    pub(crate) readings: Readings,
+    pub(crate) readings: ReadLists,
     pub(crate) paths: IndexMap<Id, PathReading>,
     pub(crate) node_shapes: IndexSet<Id>,
     pub(crate) classes: IndexSet<Id>,

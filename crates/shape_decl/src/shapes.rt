@@ -12,7 +12,7 @@ ghost use Rattle.shape_decl.specs.inner.Kept.{AreReadingsOf};
 
 use crate::knowing::no_readings;
 use crate::lists::followed;
-use crate::readings::Readings;
+use crate::readings::ReadLists;
 use crate::tables::{shape_classes, shape_list_predicates, shape_predicates, subject_predicates};
 use graph_view::{GraphView, Reads};
 use path_eval::instances;
@@ -115,7 +115,7 @@ fn gather_members<V: GraphView>(
     alloc: Global,
     graph: &V,
     heads: &[Id],
-    readings: &mut Readings,
+    readings: &mut ReadLists,
     found: &mut Vec<Id>,
 ) -> Result<(), Memory>
     requires { AreReadingsOf (V.graph graph.now) readings.old }
@@ -133,7 +133,7 @@ fn add_members<V: GraphView>(
     alloc: Global,
     graph: &V,
     head: Id,
-    readings: &mut Readings,
+    readings: &mut ReadLists,
     found: &mut Vec<Id>,
 ) -> Result<(), Memory>
     requires { AreReadingsOf (V.graph graph.now) readings.old }

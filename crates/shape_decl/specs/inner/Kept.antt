@@ -9,7 +9,7 @@ use Rattle.path_eval.specs.Instances.{is_instance}
 use Rattle.shape_decl.specs.declared.cell.Cell.{Cell}
 use Rattle.shape_decl.specs.declared.path_reading.PathReading.{PathReading}
 use Rattle.shape_decl.specs.declared.readings.KnownGraph.{KnownGraph}
-use Rattle.shape_decl.specs.declared.readings.Readings.{Readings}
+use Rattle.shape_decl.specs.declared.readings.ReadLists.{ReadLists}
 use Rattle.shape_decl.specs.Lists.{cell_at, list_of}
 use Rattle.shape_decl.specs.PathReadings.{path_reading, told_reading}
 
@@ -27,7 +27,7 @@ abbrev pub IsPathAt : Limits → Graph → ℕ → PathReading → Type 0
 IsPathAt limits g n reading = told_reading reading ≡ path_reading limits g n
 
 -- readings are those of the graph
-pub record AreReadingsOf (g : Graph) (readings : Readings) : Type 0 where
+pub record AreReadingsOf (g : Graph) (readings : ReadLists) : Type 0 where
   pub cells : Keeps (IsCellAt g) readings.cells
   pub lists : Keeps (IsListAt g) readings.lists
 

@@ -1,4 +1,5 @@
 ghost use Rattle.std.specs.Prelude.{◌≡◌, ℕ, List, ◌++◌, All, OnOk};
+ghost use Rattle.shx_term.specs.declared.term.Term.{Term};
 ghost use Rattle.graph_view.specs.declared.key.Key.{Key};
 ghost use Rattle.graph_view.specs.Graph.{Graph, HasTerms};
 ghost use Rattle.graph_view.specs.Valid.{IsValidView};
@@ -22,6 +23,9 @@ pub trait Component<'p> {
 
     /// What is known is right of a graph.
     ghost knows: { Self.Known → Graph → Type 0 };
+
+    /// What it holds beside its parameters was read of the terms of these numbers.
+    ghost is_read_of: { Self → List Term → Type 0 };
 
     /// The numbers whose terms matter to it.
     ghost numbers_of: { Self → List ℕ };
@@ -54,6 +58,7 @@ pub trait Component<'p> {
     ) -> Result<(), Memory>
         requires valid { IsValidView (V.graph view.now) }
         requires numbers { HasTerms (V.graph view.now) (numbers_of self.now) }
+        requires read { is_read_of self.now (V.graph view.now).terms }
         requires values { HasTerms (V.graph view.now) values.now }
         requires known { knows known.old (V.graph view.now) }
         requires held { All (C.holds conform.now) (asks_of self.now values.now) }

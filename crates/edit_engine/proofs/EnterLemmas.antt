@@ -1,7 +1,6 @@
 -- A plan is asked alike of a graph and of one with more terms and the same triples.
-use Rattle.std.specs.Prelude.{ℕ, ◌<◌, List, ◌++◌, map, flat_map, length, All, Contains}
-use Rattle.std.proofs.Common.{sym, subst, arith, length-append}
-use Rattle.std.proofs.lemmas.List.Elements.{All-weaker}
+use Rattle.std.specs.Prelude.{List, Contains}
+use Rattle.std.proofs.Common.{sym, subst}
 use Rattle.shx_term.specs.Members.{SameMembers}
 use Rattle.shx_term.specs.declared.term.Term.{Term}
 use Rattle.shx_term.proofs.SetLemmas.{SameMembers-itself}
@@ -10,42 +9,15 @@ use Rattle.graph_view.specs.Agree.{Agree}
 use Rattle.graph_view.specs.Graph.{Graph}
 use Rattle.graph_view.specs.Valid.{IsValidView}
 use Rattle.graph_view.proofs.AgreeLemmas.{AgreeOn-same}
-use Rattle.shape_eval.specs.declared.shape.PlanShape.{PlanShape}
 use Rattle.shape_eval.specs.Laws.{NestedDependOnReads, OwnReadsDependOnThemselves, ResultsDependOnReads}
 use Rattle.shape_eval.specs.Laws.{TargetsDependOnReads}
-use Rattle.shape_eval.specs.Constraint.{numbers_stated}
-use Rattle.shape_eval.specs.Plan.{HasTermsOf, IsKnownPlan, Planned, path_numbers, target_number}
+use Rattle.shape_eval.specs.Plan.{IsKnownPlan, Planned}
 use Rattle.edit_engine.specs.MayBeAsked.{MayBeAsked}
 use Rattle.edit_engine.specs.declared.kept.Kept.{Kept}
 use Rattle.edit_engine.specs.Applied.{HasMoreTerms}
 use Rattle.edit_engine.specs.inner.Kept.{IsKeptOf}
 use Rattle.edit_engine.proofs.AlikeLemmas.{AreAlike, IsKeptOf-alike}
-
--- ---- plans
-
-module _ (terms more : List Term) where
-  below_more : (ids : List ℕ) → All (λ id. id < length terms) ids
-      → All (λ id. id < length (terms ++ more)) ids
-  below_more ids all =
-      All-weaker (λ id. id < length terms) (λ id. id < length (terms ++ more))
-      (λ id below. omega (arith, length-append terms more)) ids all
-
-  shape_known_more : (sh : PlanShape) → HasTermsOf terms sh → HasTermsOf (terms ++ more) sh
-  shape_known_more sh has = record {
-    node = omega (arith, has.node, length-append terms more);
-    severity = omega (arith, has.severity, length-append terms more);
-    messages = below_more sh.messages.items has.messages;
-    path = below_more (path_numbers sh.path) has.path;
-    targets = below_more (map target_number sh.targets.items) has.targets;
-    constraints = below_more (flat_map numbers_stated sh.constraints.items) has.constraints;
-  }
-
-  -- a plan stays known where there are more terms
-  pub plan_known_more : (shapes : List PlanShape) → IsKnownPlan terms shapes
-      → IsKnownPlan (terms ++ more) shapes
-  plan_known_more shapes known = record {
-    each = All-weaker (HasTermsOf terms) (HasTermsOf (terms ++ more)) shape_known_more shapes known.each;
-  }
+use Rattle.edit_engine.proofs.PlanLemmas.{plan_known_more}
 
 MayBeAsked-more : {due : List Term} (plan : Planned) (g h : Graph) → HasMoreTerms due g h → IsValidView h
     → MayBeAsked plan g → MayBeAsked plan h

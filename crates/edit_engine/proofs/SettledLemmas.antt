@@ -1,5 +1,5 @@
 -- Which terms are settled: as terms are entered behind them, as these are cut off, and once all are.
-use Rattle.std.specs.Prelude.{◌≡◌, ℕ, ◌≤◌, List, length, take, Contains, IsSome}
+use Rattle.std.specs.Prelude.{◌≡◌, ℕ, ◌≤◌, List, ◌++◌, length, take, Contains, IsSome}
 use Rattle.std.specs.Prelude.{Result, Ok, Err, OnOk, OnErr}
 use Rattle.std.proofs.Common.{drop, refl, sym, ap, ◌∙◌, subst, arith, length-append}
 use Rattle.std.proofs.lemmas.List.{length-take, take-append-drop, take-append-le, take-take, take_all}
@@ -18,7 +18,7 @@ use Rattle.graph_view.proofs.AgreeLemmas.{AgreeOn-same}
 use Rattle.graph_view.proofs.ValidLemmas.{AllKnown-valid, IsValidView-cut, IsValidView-entered}
 use Rattle.shape_eval.specs.Laws.{NestedDependOnReads, OwnReadsDependOnThemselves, ResultsDependOnReads}
 use Rattle.shape_eval.specs.Laws.{TargetsDependOnReads}
-use Rattle.shape_eval.specs.Plan.{Planned}
+use Rattle.shape_eval.specs.Plan.{IsKnownPlan, Planned}
 use Rattle.read_records.specs.Recall.{kept_of}
 use Rattle.edit_engine.specs.Applied.{HasMoreTerms}
 use Rattle.edit_engine.specs.MayBeAsked.{MayBeAsked}
@@ -29,7 +29,7 @@ use Rattle.edit_engine.proofs.AlikeLemmas.{AreAlike}
 use Rattle.edit_engine.proofs.ChangedLemmas.{IsKeptOf-unchanged}
 use Rattle.edit_engine.proofs.EnterLemmas.{is_kept_again}
 use Rattle.edit_engine.proofs.KeptPairLemmas.{some_answer}
-use Rattle.edit_engine.proofs.PlanLemmas.{plan_known}
+use Rattle.edit_engine.proofs.PlanLemmas.{plan_known_more}
 use Rattle.edit_engine.proofs.ShorterLemmas.{IsKeptOf-shorter}
 
 -- what is so of an engine at any time
@@ -136,6 +136,11 @@ module _ (plan : Planned) (g : Graph) (kept : Kept) (settled len : ℕ)
   longer : length (take settled g.terms) ≤ length (take len g.terms)
   longer = omega (arith, length-take settled g.terms, length-take len g.terms, le)
 
+  first_and_more : take len g.terms ≡ take settled g.terms ++ drop settled (take len g.terms)
+  first_and_more =
+      sym (take-append-drop settled (take len g.terms))
+      ∙ ap (λ (ts : List Term). ts ++ drop settled (take len g.terms)) (take-take settled len g.terms le)
+
   known_first : AllKnown (of_first len g)
   known_first =
       All-weaker (IsKnownTriple (take settled g.terms)) (IsKnownTriple (take len g.terms))
@@ -149,8 +154,9 @@ module _ (plan : Planned) (g : Graph) (kept : Kept) (settled len : ℕ)
   asked_first : MayBeAsked plan (of_first len g)
   asked_first = record {
     valid = IsValidView-cut g (of_first len g) len whole.0.valid refl refl known_first;
-    known = plan_known (take settled g.terms) (take len g.terms) longer plan.shapes
-        whole.2.asked.known;
+    known = subst (λ ts. IsKnownPlan ts plan.shapes) (sym first_and_more)
+        (plan_known_more (take settled g.terms) (drop settled (take len g.terms)) plan.shapes
+        whole.2.asked.known);
     refers = whole.0.refers;
     within = whole.0.within;
     once = whole.0.once;

@@ -20,7 +20,7 @@ use Rattle.shape_eval.specs.declared.shape.PlanShape.{PlanShape}
 use Rattle.shape_eval.specs.Plan.{IsKnownPlan, Planned}
 use Rattle.edit_engine.specs.MayBeAsked.{MayBeAsked}
 use Rattle.edit_engine.specs.Nets.{IsNetOn, added_to, graph_after, removed_from, terms_after}
-use Rattle.edit_engine.proofs.EnterLemmas.{plan_known_more}
+use Rattle.edit_engine.proofs.PlanLemmas.{plan_known_more}
 
 -- those of valid triples
 pub narrow_terms : (ts : List TermTriple) → All IsValidTermTriple ts → All IsNotWide (terms_of ts)

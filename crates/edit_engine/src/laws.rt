@@ -1,5 +1,5 @@
 //! What is true of plans at all, as contracts of functions that do nothing.
-ghost use Rattle.std.specs.Prelude.{◌≡◌, ◌<◌, ◌≤◌, nat_eq, List, length, All};
+ghost use Rattle.std.specs.Prelude.{◌≡◌, ◌<◌, ◌++◌, nat_eq, List, length, All};
 ghost use Rattle.std.specs.List.{IsDistinct};
 ghost use Rattle.shx_term.specs.declared.term.Term.{Term};
 ghost use Rattle.graph_view.specs.Graph.{Graph};
@@ -24,10 +24,10 @@ pub fn plans_target_shapes_once()
         → IsDistinct nat_eq (planned terms shapes).targeted }
 {}
 
-/// A plan whose numbers have terms has them also among more terms.
+/// A plan whose numbers have terms, of which it was read, is known also where there are more terms.
 pub fn plans_stay_known()
-    ensures { (terms longer : List Term) (shapes : List PlanShape) → length terms ≤ length longer
-        → IsKnownPlan terms shapes → IsKnownPlan longer shapes }
+    ensures { (terms more : List Term) (shapes : List PlanShape) → IsKnownPlan terms shapes
+        → IsKnownPlan (terms ++ more) shapes }
 {}
 
 /// Terms that are entered beside the same triples change neither the pairs nor the report: so they are those

@@ -1,5 +1,5 @@
 -- That there is room for a change.
-use Rattle.std.specs.Prelude.{◌≡◌, ◌+◌, ◌≤◌, ◌++◌, ℕ, Bool, List, length, filter, not}
+use Rattle.std.specs.Prelude.{◌+◌, ◌≤◌, ◌++◌, ℕ, Bool, List, length, filter, not}
 use Rattle.std.proofs.Common.{refl, arith, length-append}
 use Rattle.std.proofs.lemmas.List.Filters.{length-filter_both}
 

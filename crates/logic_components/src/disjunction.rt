@@ -44,6 +44,8 @@ impl<'p> Component<'p> for Or {
 
     ghost knows = { λ known g. Unit };
 
+    ghost is_read_of = { λ c terms. Unit };
+
     ghost numbers_of = { λ c. [] };
 
     ghost asks_of = { λ c vs. pairs_asked c.shapes.items vs };

@@ -36,6 +36,8 @@ impl<'p> Component<'p> for Not {
 
     ghost knows = { λ known g. Unit };
 
+    ghost is_read_of = { λ c terms. Unit };
+
     ghost numbers_of = { λ c. [] };
 
     ghost asks_of = { λ c vs. pairs_asked (c.shape ∷ []) vs };

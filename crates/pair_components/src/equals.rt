@@ -33,6 +33,8 @@ impl<'p> Component<'p> for Equals {
 
     ghost knows = { λ known g. Unit };
 
+    ghost is_read_of = { λ c terms. Unit };
+
     ghost numbers_of = { λ c. [] };
 
     ghost asks_of = { λ c vs. [] };

@@ -1,5 +1,5 @@
 //! sh:qualifiedMaxCount with sh:qualifiedValueShape (SHACL, section 4.7.3).
-ghost use Rattle.std.specs.Prelude.{◌≡◌};
+ghost use Rattle.std.specs.Prelude.{◌≡◌, None};
 
 use crate::qualified::{ask_qualified, qualified_count};
 use comp_core::kinds::QUALIFIED_MAX_COUNT;
@@ -7,12 +7,14 @@ use comp_core::{At, Component, Conform, Pair, ResultRow, ShapeNo, add_once_if};
 use graph_view::{GraphView, term_of};
 use shx_term::{Id, Memory};
 use std::alloc::Global;
-use value_space::is_more;
+use value_space::{Value, is_more};
 
 /// As many value nodes as the number says, or fewer, conform to the shape and to none of its siblings.
 pub struct QualifiedMaxCount {
     /// The number.
     pub value: Id,
+    /// What was read of its term.
+    pub read: Option<Value>,
     /// The number of the shape.
     pub shape: ShapeNo,
     /// The numbers of its siblings.
@@ -23,6 +25,7 @@ impl Drop for QualifiedMaxCount {
     fn drop(self) {
         let QualifiedMaxCount {
             value: _value,
+            read: _read,
             shape: _shape,
             siblings: _siblings,
         } = self;
@@ -30,14 +33,16 @@ impl Drop for QualifiedMaxCount {
 }
 
 impl QualifiedMaxCount {
-    /// The component with its parameters. It takes no memory.
+    /// The component with its parameters, of whose number nothing was read yet. It takes no memory.
     pub fn new(value: Id, shape: ShapeNo, siblings: Vec<ShapeNo>) -> QualifiedMaxCount
         ensures value { result.value ≡ value }
+        ensures read { result.read ≡ None }
         ensures shape { result.shape ≡ shape }
         ensures siblings { result.siblings ≡ siblings }
     {
         QualifiedMaxCount {
             value,
+            read: None,
             shape,
             siblings,
         }
@@ -47,11 +52,14 @@ impl QualifiedMaxCount {
 impl<'p> Component<'p> for QualifiedMaxCount {
     type Known = ();
 
-    ghost use Rattle.std.specs.Prelude.{[], ◌∷◌};
+    ghost use Rattle.std.specs.Prelude.{◌≡◌, [], ◌∷◌};
+    ghost use Rattle.value_space.specs.ReadValues.{value_at};
     ghost use Rattle.comp_core.specs.Asking.{asked_keys, pairs_asked};
     ghost use Rattle.qualified_shapes.specs.QualifiedMaxCount.{qualified_max_count_hits};
 
     ghost knows = { λ known g. Unit };
+
+    ghost is_read_of = { λ c terms. c.read ≡ value_at terms c.value };
 
     ghost numbers_of = { λ c. c.value ∷ [] };
 
@@ -77,7 +85,7 @@ impl<'p> Component<'p> for QualifiedMaxCount {
         out: &mut Vec<ResultRow>,
     ) -> Result<(), Memory> {
         let count = qualified_count(conform, self.shape, &self.siblings, values, reads)?;
-        let is_result = is_more(count, term_of(view, self.value));
+        let is_result = is_more(count, term_of(view, self.value), self.read);
         add_once_if(alloc, is_result, QUALIFIED_MAX_COUNT, at, out)?;
         Ok(())
     }

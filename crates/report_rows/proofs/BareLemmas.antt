@@ -11,7 +11,7 @@ use Rattle.shx_term.specs.IdOrder.{id_cmp}
 use Rattle.shx_term.proofs.MemberLemmas.{none_in_empty}
 use Rattle.path_eval.specs.declared.path.Path.TheVariants.{Pred}
 use Rattle.shape_eval.specs.declared.shape.PlanShape.{PlanShape}
-use Rattle.shape_eval.specs.Constraint.{shapes_named}
+use Rattle.shape_eval.specs.Constraint.{IsReadOf, shapes_named}
 use Rattle.shape_eval.specs.Plan.{AreInOrder, HasTermsOf, IsOrderly, IsPlan, nodes_of, references}
 use Rattle.report_rows.specs.Bare.{IsBare}
 
@@ -36,6 +36,7 @@ bare_shape terms sh id many node severity path messages inside targets bare =
         path = rw path (All-cons P 1 [] (omega (arith, many)) (All-nil P));
         targets = rw targets (All-nil P);
         constraints = rw bare (All-nil P);
+        read = rw bare (All-nil (λ c. IsReadOf c terms));
       };
       orderly = record {
         messages = rw messages (one_sorted (id_cmp terms) id);

@@ -27,7 +27,7 @@ use Rattle.edit_engine.specs.MayBeAsked.{MayBeAsked}
 use Rattle.edit_engine.specs.Nets.{Effect, IsNetOn, turned}
 use Rattle.edit_engine.proofs.CourseLemmas.{course_back}
 use Rattle.edit_engine.proofs.EffectLemmas.{IsNetOn-edits}
-use Rattle.edit_engine.proofs.EnterLemmas.{plan_known_more}
+use Rattle.edit_engine.proofs.PlanLemmas.{plan_known_more}
 use Rattle.edit_engine.proofs.SoundLemmas.{Extends, IsSound-whole}
 use Rattle.edit_engine.proofs.TakenBackLemmas.{Extends-back}
 use Rattle.edit_engine.proofs.ValidEditLemmas.{MayBeAsked-after, valid_members}

@@ -7,6 +7,7 @@ pub mod PatternLemmas
 pub mod PlaceLemmas
 pub mod PlanLemmas
 pub mod PlannedLemmas
+pub mod ReadingLemmas
 pub mod RefusedLemmas
 pub mod RouteLemmas
 pub mod SayingLemmas

@@ -132,6 +132,7 @@ module _ (limits : Limits) (terms : List Term) (ds : List Declaration) (nodes : 
     targets = subst (λ ts. AreKnown terms (map target_number ts)) (sym means.targets)
         (All-map (λ id. id < length terms) target_number (targets_stated terms d) targets_known);
     constraints = numbers_known;
+    read = means.read;
   }
 
   -- ---- its order

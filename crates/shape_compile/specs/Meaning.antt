@@ -1,6 +1,6 @@
 -- What a plan means: each declared shape, once, with what is declared of it.
 use Rattle.std.specs.Prelude.{◌≡◌, ℕ, nat_eq, ◌&&◌, List, [], ◌∷◌, ◌++◌, map, slice_get}
-use Rattle.std.specs.Prelude.{if◌then◌else◌, Contains}
+use Rattle.std.specs.Prelude.{if◌then◌else◌, All, Contains}
 use Rattle.std.specs.List.{IsDistinct}
 use Rattle.std.specs.Option.{option_map, unwrap_or}
 use Rattle.shx_term.specs.Members.{SameMembers}
@@ -16,6 +16,7 @@ use Rattle.shape_decl.specs.PathReadings.{Read}
 use Rattle.shape_eval.specs.declared.shape.PlanShape.{PlanShape}
 use Rattle.shape_eval.specs.declared.target.Target.{Target}
 use Rattle.shape_eval.specs.declared.target.Target.TheVariants as target
+use Rattle.shape_eval.specs.Constraint.{IsReadOf}
 use Rattle.shape_eval.specs.Plan.{nodes_of}
 use Rattle.shape_compile.specs.Constraints.{constraints_stated, said_by}
 use Rattle.shape_refs.specs.Truth.{is_any_true}
@@ -44,6 +45,7 @@ pub record ShapeMeans (terms : List Term) (ds : List Declaration) (nodes : List 
   pub deactivated : shape.deactivated ≡ is_any_true terms (values_under d SH_DEACTIVATED)
   pub targets : shape.targets.items ≡ targets_stated terms d
   pub constraints : map (said_by nodes) shape.constraints.items ≡ constraints_stated terms ds d
+  pub read : All (λ c. IsReadOf c terms) shape.constraints.items
 
 -- exactly one shape for each declaration, found by its node
 pub record PlanMeans (terms : List Term) (ds : List Declaration) (shapes : List PlanShape) : Type 0 where

@@ -2,6 +2,7 @@
 ghost use Rattle.std.specs.Prelude.{◌≡◌, ℕ, List, ◌++◌, All, Contains, flat_map, map, IfOk, OnOk};
 ghost use Rattle.shx_term.specs.declared.vocabulary.TheConstants.{SH_QUALIFIED_VALUE_SHAPE as QUALIFIED};
 ghost use Rattle.shape_decl.specs.Declarations.{Declaration, told_decl, values_under};
+ghost use Rattle.shape_eval.specs.Constraint.{IsReadOf};
 ghost use Rattle.shape_refs.specs.References.{named_by, references_of, siblings_of};
 ghost use Rattle.shape_compile.specs.Constraints.{constraints_stated, other_constraints, pair_constraints};
 ghost use Rattle.shape_compile.specs.Constraints.{said_by, shape_constraints, text_constraints};
@@ -18,6 +19,7 @@ use crate::of_shape::{OfShape, add_of_shape};
 use crate::of_shape_list::{OfShapeList, add_of_shape_list};
 use crate::parameter::{Parameter, add_values, add_values_of};
 use crate::pattern::{add_pattern, add_unique_lang};
+use crate::reading::read_terms;
 use shape_decl::ShapeDecl;
 use shape_eval::Constraint;
 use shape_refs::{Declared, ShapeOrder};
@@ -46,7 +48,7 @@ const OF_PAIRS: [Parameter; 4] = [
     Parameter::LessThanOrEquals,
 ];
 
-/// The constraints of a shape, whose pattern was built.
+/// The constraints of a shape, whose pattern was built. The terms of their counts and bounds are read.
 pub(crate) fn constraints_of(
     alloc: Global,
     declared: &Declared<'_>,
@@ -60,8 +62,9 @@ pub(crate) fn constraints_of(
     requires siblings { siblings.now ≡ siblings_of declared.now.pool.now.terms
         (map told_decl declared.now.decls.now) (told_decl decl.now) }
     requires built { IsBuiltFor declared.now.pool.now.terms (told_decl decl.now) built }
-    ensures { IfOk result (λ found. map (said_by order.now.nodes.keys) found.items ≡ constraints_stated
+    ensures said { IfOk result (λ found. map (said_by order.now.nodes.keys) found.items ≡ constraints_stated
         declared.now.pool.now.terms (map told_decl declared.now.decls.now) (told_decl decl.now)) }
+    ensures read { IfOk result (λ found. All (λ c. IsReadOf c declared.now.pool.now.terms) found.items) }
 {
     let mut out = Vec::new(alloc);
     add_values(decl, of_values(), &mut out)?;
@@ -70,6 +73,7 @@ pub(crate) fn constraints_of(
     add_shapes(alloc, decl, order, &mut out)?;
     add_counts(alloc, decl, order, siblings, &mut out)?;
     add_others(alloc, declared, decl, &mut out)?;
+    read_terms(declared.pool, &mut out);
     Ok(out)
 }
 

@@ -13,6 +13,7 @@
 //! | `of_list.rt`, `lists.rt` | those with the members of a list |
 //! | `pattern.rt`, `closed.rt` | patterns and unique languages; closed shapes |
 //! | `numbers.rt` | the numbers of the shapes that are named |
+//! | `reading.rt` | what is read of the terms of counts and bounds |
 //!
 //! It stands on `shape_decl` and `shape_check` for declarations, on `shape_refs` for their order, and on
 //! `shape_eval` with the crates of components for plans. Start with `compiling.rt`; `specs/Meaning.antt` says
@@ -35,6 +36,7 @@ mod pattern;
 mod patterns;
 mod plan_shape;
 mod plan_shapes;
+mod reading;
 mod targets;
 mod texts;
 

@@ -1,9 +1,11 @@
 -- Any constraint component with its parameters (SHACL, section 4): which shapes it names, what it asks, what
 -- it finds and what it reads are those of its component.
-use Rattle.std.specs.Prelude.{ℕ, List, [], ◌∷◌, ◌++◌}
+use Rattle.std.specs.Prelude.{◌≡◌, ℕ, List, [], ◌∷◌, ◌++◌}
+use Rattle.shx_term.specs.declared.term.Term.{Term}
 use Rattle.graph_view.specs.declared.key.Key.{Key}
 use Rattle.graph_view.specs.declared.key.Key.TheVariants.{Out}
 use Rattle.graph_view.specs.Graph.{Graph}
+use Rattle.value_space.specs.ReadValues.{value_at}
 use Rattle.comp_core.specs.Asking.{asked_keys, pairs_asked}
 use Rattle.comp_core.specs.declared.pair.At.{At}
 use Rattle.comp_core.specs.declared.pair.Pair.{Pair}
@@ -122,6 +124,20 @@ shapes_named (any.Property c) = c.shape ∷ []
 shapes_named (any.QualifiedMinCount c) = c.shape ∷ c.siblings.items
 shapes_named (any.QualifiedMaxCount c) = c.shape ∷ c.siblings.items
 shapes_named c = []
+
+-- what it holds of a count or a bound was read of its term
+abbrev pub IsReadOf : Constraint → List Term → Type 0
+IsReadOf (any.MinCount c) terms = c.read ≡ value_at terms c.value
+IsReadOf (any.MaxCount c) terms = c.read ≡ value_at terms c.value
+IsReadOf (any.MinExclusive c) terms = c.read ≡ value_at terms c.value
+IsReadOf (any.MinInclusive c) terms = c.read ≡ value_at terms c.value
+IsReadOf (any.MaxExclusive c) terms = c.read ≡ value_at terms c.value
+IsReadOf (any.MaxInclusive c) terms = c.read ≡ value_at terms c.value
+IsReadOf (any.MinLength c) terms = c.read ≡ value_at terms c.value
+IsReadOf (any.MaxLength c) terms = c.read ≡ value_at terms c.value
+IsReadOf (any.QualifiedMinCount c) terms = c.read ≡ value_at terms c.value
+IsReadOf (any.QualifiedMaxCount c) terms = c.read ≡ value_at terms c.value
+IsReadOf c terms = Unit {0}
 
 -- the numbers whose terms matter to it
 abbrev pub constraint_numbers : Constraint → List ℕ

@@ -15,7 +15,7 @@ use Rattle.shape_eval.specs.declared.constraint.Constraint.{Constraint}
 use Rattle.shape_eval.specs.declared.shape.PlanShape.{PlanShape}
 use Rattle.shape_eval.specs.declared.target.Target.{Target}
 use Rattle.shape_eval.specs.declared.target.Target.TheVariants as target
-use Rattle.shape_eval.specs.Constraint.{kind_of, numbers_stated, parameter_of, shapes_named}
+use Rattle.shape_eval.specs.Constraint.{IsReadOf, kind_of, numbers_stated, parameter_of, shapes_named}
 
 -- ---- what the shapes of a plan refer to
 
@@ -51,7 +51,7 @@ abbrev pub path_numbers : Option Path → List ℕ
 path_numbers None = []
 path_numbers (Some path) = predicates_in (route_of path)
 
--- all that a shape is made of has terms
+-- all that a shape is made of has terms, of which its counts and bounds were read
 pub record HasTermsOf (terms : List Term) (sh : PlanShape) : Type 0 where
   pub node : sh.node < length terms
   pub severity : sh.severity < length terms
@@ -59,8 +59,9 @@ pub record HasTermsOf (terms : List Term) (sh : PlanShape) : Type 0 where
   pub path : All (λ id. id < length terms) (path_numbers sh.path)
   pub targets : All (λ id. id < length terms) (map target_number sh.targets.items)
   pub constraints : All (λ id. id < length terms) (flat_map numbers_stated sh.constraints.items)
+  pub read : All (λ c. IsReadOf c terms) sh.constraints.items
 
--- the numbers of a plan have terms
+-- the numbers of a plan have terms, of which it was read
 pub record IsKnownPlan (terms : List Term) (shapes : List PlanShape) : Type 0 where
   pub each : All (HasTermsOf terms) shapes
 

@@ -72,7 +72,10 @@ impl<N: Notes> Memo for Answers<N> {
             (RemembersAlso (answered self.old) (answered self.new) pair (remembered_of answer)) }
         ensures refused { OnErr result (RemembersSame (answered self.old) (answered self.new)) }
     {
-        self.answers.insert(pair, answer)?;
+        let PairAnswer { mut rows, reads } = answer;
+        // Most have fewer than a vector makes room for.
+        rows.shrink_to_fit();
+        self.answers.insert(pair, PairAnswer { rows, reads })?;
         Ok(())
     }
 }

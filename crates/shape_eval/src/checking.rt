@@ -6,7 +6,7 @@ ghost use Rattle.graph_view.specs.Valid.{IsValidView};
 ghost use Rattle.comp_core.specs.declared.pair.Pair.{Pair};
 ghost use Rattle.value_components.specs.Class.{class_reads};
 ghost use Rattle.shape_eval.specs.Constraint.{constraint_asks, constraint_hits, constraint_numbers};
-ghost use Rattle.shape_eval.specs.Constraint.{constraint_reads};
+ghost use Rattle.shape_eval.specs.Constraint.{constraint_reads, IsReadOf};
 ghost use Rattle.shape_eval.specs.Known.{IsKnownOf};
 ghost use Rattle.shape_eval.specs.Nested.{asked_pairs};
 ghost use Rattle.shape_eval.specs.Results.{hits_of_each, reads_of_each, value_nodes, value_reads};
@@ -71,6 +71,7 @@ pub(crate) fn check_each<'p, V: GraphView, C: Conform>(
 ) -> Result<Vec<ResultRow>, Memory>
     requires valid { IsValidView (V.graph view.now) }
     requires numbers { HasTerms (V.graph view.now) (flat_map constraint_numbers constraints.now) }
+    requires read { All (λ c. IsReadOf c (V.graph view.now).terms) constraints.now }
     requires values { HasTerms (V.graph view.now) values.now }
     requires known { IsKnownOf known.old (V.graph view.now) }
     requires held { All (C.holds conform.now) (asked_pairs constraints.now values.now) }
@@ -126,6 +127,7 @@ fn check_next<'p, V: GraphView, C: Conform>(
 ) -> Result<(), Memory>
     requires valid { IsValidView (V.graph view.now) }
     requires numbers { HasTerms (V.graph view.now) (constraint_numbers constraint.now) }
+    requires read { IsReadOf constraint.now (V.graph view.now).terms }
     requires values { HasTerms (V.graph view.now) values.now }
     requires known { IsKnownOf known.old (V.graph view.now) }
     requires held { All (C.holds conform.now) (constraint_asks constraint.now values.now) }

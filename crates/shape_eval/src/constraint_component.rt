@@ -6,7 +6,7 @@ ghost use Rattle.graph_view.specs.Valid.{IsValidView};
 ghost use Rattle.comp_core.specs.declared.pair.Pair.{Pair};
 ghost use Rattle.comp_core.specs.Laws.{Agreement, AsksValues};
 ghost use Rattle.shape_eval.specs.Constraint.{constraint_numbers, constraint_asks, constraint_hits};
-ghost use Rattle.shape_eval.specs.Constraint.{constraint_reads};
+ghost use Rattle.shape_eval.specs.Constraint.{constraint_reads, IsReadOf};
 ghost use Rattle.shape_eval.specs.Known.{IsKnownOf};
 
 use crate::{Constraint, Known};
@@ -26,10 +26,12 @@ impl<'p> Component<'p> for Constraint {
     type Known = Known<'p>;
 
     ghost use Rattle.shape_eval.specs.Constraint.{constraint_numbers, constraint_asks, constraint_hits};
-    ghost use Rattle.shape_eval.specs.Constraint.{constraint_reads};
+    ghost use Rattle.shape_eval.specs.Constraint.{constraint_reads, IsReadOf};
     ghost use Rattle.shape_eval.specs.Known.{IsKnownOf};
 
     ghost knows = { IsKnownOf };
+
+    ghost is_read_of = { IsReadOf };
 
     ghost numbers_of = { constraint_numbers };
 
@@ -88,6 +90,7 @@ impl<'p> Component<'p> for Constraint {
     ) -> Result<(), Memory>
         requires valid { IsValidView (V.graph view.now) }
         requires numbers { HasTerms (V.graph view.now) (constraint_numbers self.now) }
+        requires read { IsReadOf self.now (V.graph view.now).terms }
         requires values { HasTerms (V.graph view.now) values.now }
         requires known { IsKnownOf known.old (V.graph view.now) }
         requires held { All (C.holds conform.now) (constraint_asks self.now values.now) }

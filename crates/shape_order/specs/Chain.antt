@@ -1,5 +1,5 @@
 -- Chains of references, and which shapes reach themselves.
-use Rattle.std.specs.Prelude.{◌≡◌, ℕ, ◌+◌, ◌-◌, ◌<◌, nat_eq, List, [], ◌∷◌, length, slice_index}
+use Rattle.std.specs.Prelude.{◌≡◌, ℕ, ◌+◌, ◌-◌, ◌<◌, nat_eq, List, length, slice_index}
 use Rattle.std.specs.List.{IsDistinct}
 use Rattle.shx_term.specs.Chains.{Longer}
 use Rattle.shape_order.specs.Refs.{Refers}

@@ -83,6 +83,8 @@ impl<'p> Component<'p> for Class {
 
     ghost knows = { AreSuperclassesOf };
 
+    ghost is_read_of = { λ c terms. Unit };
+
     ghost numbers_of = { λ c. [] };
 
     ghost asks_of = { λ c vs. [] };

@@ -52,6 +52,8 @@ impl<'p> Component<'p> for Datatype {
 
     ghost knows = { λ known g. Unit };
 
+    ghost is_read_of = { λ c terms. Unit };
+
     ghost numbers_of = { λ c. c.value ∷ [] };
 
     ghost asks_of = { λ c vs. [] };

@@ -31,6 +31,8 @@ impl<'p> Component<'p> for HasValue {
 
     ghost knows = { λ known g. Unit };
 
+    ghost is_read_of = { λ c terms. Unit };
+
     ghost numbers_of = { λ c. [] };
 
     ghost asks_of = { λ c vs. [] };

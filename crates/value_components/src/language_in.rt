@@ -88,6 +88,8 @@ impl<'p> Component<'p> for LanguageIn {
 
     ghost knows = { λ known g. Unit };
 
+    ghost is_read_of = { λ c terms. Unit };
+
     ghost numbers_of = { λ c. c.members };
 
     ghost asks_of = { λ c vs. [] };

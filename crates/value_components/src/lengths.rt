@@ -4,6 +4,7 @@ ghost use Rattle.std.specs.Str.{chars};
 ghost use Rattle.graph_view.specs.Graph.{HasTerms};
 ghost use Rattle.graph_view.specs.Valid.{IsValidView};
 ghost use Rattle.value_space.specs.Compared.{read_as};
+ghost use Rattle.value_space.specs.ReadValues.{value_at};
 ghost use Rattle.comp_core.specs.Results.{each_unless};
 ghost use Rattle.comp_core.specs.TermTests.{are_so_at};
 ghost use Rattle.value_components.specs.inner.Limits.{is_kept, is_kept_by};
@@ -14,7 +15,7 @@ use comp_core::{At, Kind, ResultRow};
 use graph_view::{GraphView, term_of};
 use shx_term::{Id, Memory, Term};
 use std::alloc::Global;
-use value_space::{ReadLiteral, is_fewer_read, is_more_read};
+use value_space::{ReadLiteral, Value, is_fewer_read, is_more_read};
 
 /// Which numbers of code points a bound allows.
 #[derive(Clone, Copy)]
@@ -62,12 +63,13 @@ impl Condition for LengthBound<'_> {
 }
 
 /// Appends a result for each value node that is blank, or whose number of code points the bound does not
-/// allow. The bound is read once, and no text is copied.
+/// allow. The bound was read before, and no text is copied.
 pub(crate) fn check_length<V: GraphView>(
     alloc: Global,
     view: &V,
     limit: Limit,
     bound: Id,
+    read: Option<Value>,
     kind: Kind,
     at: At,
     values: &[Id],
@@ -75,13 +77,14 @@ pub(crate) fn check_length<V: GraphView>(
 ) -> Result<(), Memory>
     requires valid { IsValidView (V.graph view.now) }
     requires bound { bound < length (V.graph view.now).terms }
+    requires read { read ≡ value_at (V.graph view.now).terms bound }
     requires values { HasTerms (V.graph view.now) values.now }
     ensures { OnOk result (out.new.items ≡ out.old.items
         ++ each_unless (are_so_at (is_kept_by limit) (V.graph view.now) bound) kind at values.now) }
 {
     let condition = LengthBound {
         limit,
-        read: ReadLiteral::of_term(term_of(view, bound)),
+        read: ReadLiteral::again(term_of(view, bound), read),
     };
     check_terms(alloc, view, &condition, kind, at, values, out)
 }

@@ -1,5 +1,5 @@
 //! sh:minInclusive (SHACL, section 4.3.2).
-ghost use Rattle.std.specs.Prelude.{◌≡◌};
+ghost use Rattle.std.specs.Prelude.{◌≡◌, None};
 
 use crate::bounds::{Side, check_bound};
 use comp_core::kinds::MIN_INCLUSIVE;
@@ -7,30 +7,37 @@ use comp_core::{At, Component, Conform, Pair, ResultRow};
 use graph_view::GraphView;
 use shx_term::{Id, Memory};
 use std::alloc::Global;
+use value_space::Value;
 
 /// Each value node is greater than the bound or equal to it.
 #[derive(Drop)]
 pub struct MinInclusive {
     /// The bound.
     pub value: Id,
+    /// What was read of its term.
+    pub read: Option<Value>,
 }
 
 impl MinInclusive {
-    /// The component with its parameter. It takes no memory.
+    /// The component with its parameter, of whose term nothing was read yet. It takes no memory.
     pub fn new(value: Id) -> MinInclusive
-        ensures { result.value ≡ value }
+        ensures value { result.value ≡ value }
+        ensures read { result.read ≡ None }
     {
-        MinInclusive { value }
+        MinInclusive { value, read: None }
     }
 }
 
 impl<'p> Component<'p> for MinInclusive {
     type Known = ();
 
-    ghost use Rattle.std.specs.Prelude.{[], ◌∷◌};
+    ghost use Rattle.std.specs.Prelude.{◌≡◌, [], ◌∷◌};
+    ghost use Rattle.value_space.specs.ReadValues.{value_at};
     ghost use Rattle.value_components.specs.MinInclusive.{min_inclusive_hits};
 
     ghost knows = { λ known g. Unit };
+
+    ghost is_read_of = { λ c terms. c.read ≡ value_at terms c.value };
 
     ghost numbers_of = { λ c. c.value ∷ [] };
 
@@ -60,6 +67,7 @@ impl<'p> Component<'p> for MinInclusive {
             view,
             Side::From,
             self.value,
+            self.read,
             MIN_INCLUSIVE,
             at,
             values,

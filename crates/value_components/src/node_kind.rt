@@ -68,6 +68,8 @@ impl<'p> Component<'p> for NodeKind {
 
     ghost knows = { λ known g. Unit };
 
+    ghost is_read_of = { λ c terms. Unit };
+
     ghost numbers_of = { λ c. [] };
 
     ghost asks_of = { λ c vs. [] };

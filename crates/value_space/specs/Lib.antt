@@ -4,5 +4,6 @@ pub mod Counts
 pub mod Laws
 pub mod Moments
 pub mod Numbers
+pub mod ReadValues
 pub mod Values
 pub mod inner

@@ -3,26 +3,30 @@ ghost use Rattle.std.specs.Prelude.{◌≡◌};
 ghost use Rattle.shx_term.specs.ValidTriples.{IsNotWide};
 ghost use Rattle.value_space.specs.Compared.{read_as};
 ghost use Rattle.value_space.specs.Counts.{is_fewer, is_fewer_read, is_more, is_more_read};
+ghost use Rattle.value_space.specs.ReadValues.{value_read};
 
-use crate::ReadLiteral;
+use crate::{ReadLiteral, Value};
 use shx_term::Term;
 use std::cmp::Ordering;
 
-/// Whether so many are fewer than the number that a term is; no count is less than what is no number. It
-/// takes time linear in the lexical form; see [`is_fewer_read`] for a bound that many counts are held to.
-pub fn is_fewer(count: usize, bound: &Term) -> bool
-    requires { IsNotWide bound.now }
+/// Whether so many are fewer than the number that a term is, whose value was read before; no count is less
+/// than what is no number. It takes constant time.
+pub fn is_fewer(count: usize, bound: &Term, value: Option<Value>) -> bool
+    requires narrow { IsNotWide bound.now }
+    requires value { value ≡ value_read bound.now }
     ensures { result ≡ is_fewer count bound.now }
 {
-    is_fewer_read(count, &ReadLiteral::of_term(bound))
+    is_fewer_read(count, &ReadLiteral::again(bound, value))
 }
 
-/// Whether so many are more than the number that a term is; no count is more than what is no number.
-pub fn is_more(count: usize, bound: &Term) -> bool
-    requires { IsNotWide bound.now }
+/// Whether so many are more than the number that a term is, whose value was read before; no count is more
+/// than what is no number. It takes constant time.
+pub fn is_more(count: usize, bound: &Term, value: Option<Value>) -> bool
+    requires narrow { IsNotWide bound.now }
+    requires value { value ≡ value_read bound.now }
     ensures { result ≡ is_more count bound.now }
 {
-    is_more_read(count, &ReadLiteral::of_term(bound))
+    is_more_read(count, &ReadLiteral::again(bound, value))
 }
 
 /// [`is_fewer`] by a term that was read, in constant time.

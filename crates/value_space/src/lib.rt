@@ -6,6 +6,7 @@
 //! | `values.rt` | `value_of`, `wide`, `is_float`, `matches_datatype` |
 //! | `read_literal.rt` | `ReadLiteral`: a literal that is read once and compared with many |
 //! | `comparison.rt` | `less` and `less_eq` of two literals; `is_less` and `is_less_eq` of two terms |
+//! | `read_values.rt` | `value_read`, `value_at`: what is read of a term before others are compared with it |
 //! | `count.rt` | `is_fewer` and `is_more`: a count against the number of a literal |
 //! | `order.rt` | the order of values, where they have one |
 //! | `laws.rt` | the laws of that order, and of counts |
@@ -15,8 +16,9 @@
 //! | `digits.rt` | signs and digits, which these forms are made of |
 //!
 //! It stands on `shx_term`, and on `jiff` for the numbers of days. Start with `value.rt`; `specs/Values.antt`
-//! says which value a literal has, `specs/Comparison.antt` when one is less than another, and
-//! `specs/Compared.antt` and `specs/Counts.antt` the same of terms and of counts.
+//! says which value a literal has, `specs/Comparison.antt` when one is less than another,
+//! `specs/Compared.antt` and `specs/Counts.antt` the same of terms and of counts, and
+//! `specs/ReadValues.antt` what is read of a term.
 #![tactic(auto)]
 
 mod comparison;
@@ -30,6 +32,7 @@ mod number;
 mod numeral;
 mod order;
 mod read_literal;
+mod read_values;
 mod value;
 mod values;
 mod zone;
@@ -41,5 +44,6 @@ pub use laws::{
     less_is_irreflexive, less_is_transitive, no_count_is_fewer_and_more, numbers_are_ordered,
 };
 pub use read_literal::ReadLiteral;
+pub use read_values::{value_at, value_read};
 pub use value::Value;
 pub use values::{is_float, matches_datatype, value_of, wide};

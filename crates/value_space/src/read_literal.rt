@@ -2,6 +2,7 @@
 ghost use Rattle.std.specs.Prelude.{◌≡◌, false};
 ghost use Rattle.shx_term.specs.ValidTriples.{IsNotWide};
 ghost use Rattle.shx_term.specs.WideLiterals.{is_wide};
+ghost use Rattle.value_space.specs.ReadValues.{value_read};
 ghost use Rattle.value_space.specs.inner.Canonical.{IsCanonical, IsCanonical-prop};
 
 use crate::Value;
@@ -45,6 +46,21 @@ impl<'a> ReadLiteral<'a> {
     {
         match term {
             Term::Lit(literal) => Some(ReadLiteral::of(literal)),
+            _ => None,
+        }
+    }
+
+    /// A term whose value was read before, in constant time; nothing where it is no literal.
+    pub fn again(term: &'a Term, value: Option<Value>) -> Option<ReadLiteral<'a>>
+        requires narrow { IsNotWide term.now }
+        requires value { value ≡ value_read term.now }
+        ensures { read_as result ≡ compared_by term.now }
+    {
+        match (term, value) {
+            (Term::Lit(literal), Some(value)) => Some(ReadLiteral {
+                value,
+                text: literal.lexical.as_str(),
+            }),
             _ => None,
         }
     }

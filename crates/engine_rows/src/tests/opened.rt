@@ -1,5 +1,6 @@
 //! Plans and graphs of texts.
-ghost use Rattle.std.specs.Prelude.{◌≡◌, ◌≤◌, length, IfOk};
+ghost use Rattle.std.specs.Prelude.{◌≡◌, ◌++◌, List, IfOk, OnOk};
+ghost use Rattle.shx_term.specs.declared.term.Term.{Term};
 ghost use Rattle.graph_view.specs.ListGraph.{plain_graph};
 ghost use Rattle.graph_view.specs.Valid.{IsValidView};
 ghost use Rattle.shape_eval.specs.Plan.{IsPlan, planned};
@@ -30,8 +31,10 @@ const PREFIXES: &str = "\
 // How many triples the data may hold.
 const TRIPLES: u64 = 8;
 
-// What a text behind the prefixes states.
-fn read(alloc: Global, text: &str, scope: Scope, pool: &mut Pool) -> Result<Document, RowFault> {
+// What a text behind the prefixes states. The terms of the pool stay.
+fn read(alloc: Global, text: &str, scope: Scope, pool: &mut Pool) -> Result<Document, RowFault>
+    ensures { OnOk result ((more : List Term) × (pool.new.terms ≡ pool.old.terms ++ more)) }
+{
     let base = "file:///";
     if !is_absolute(base) {
         return Err(RowFault::Unread);
@@ -46,7 +49,9 @@ fn read(alloc: Global, text: &str, scope: Scope, pool: &mut Pool) -> Result<Docu
     }
 }
 
-fn state(graph: &mut ListGraph, t: Triple) -> Result<(), RowFault> {
+fn state(graph: &mut ListGraph, t: Triple) -> Result<(), RowFault>
+    ensures { graph.new.pool.terms ≡ graph.old.pool.terms }
+{
     if !is_known_triple(graph, &t) || graph.insert(t).is_err() {
         return Err(RowFault::Unread);
     }
@@ -59,7 +64,9 @@ fn graph_of(
     pool: Pool,
     document: &Document,
     triples: u64,
-) -> Result<ListGraph, RowFault> {
+) -> Result<ListGraph, RowFault>
+    ensures { IfOk result (λ graph. graph.pool.terms ≡ pool.terms) }
+{
     let mut graph = ListGraph::new(alloc, pool, triples);
     for t in &document.triples {
         state(&mut graph, *t)?;
@@ -98,13 +105,10 @@ fn shapes_of(alloc: Global, text: &str, pool: Pool) -> Result<Shapes, RowFault>
     ensures fits { IfOk result (λ shapes. IsPlan shapes.pool.terms (plan_of shapes.plan).shapes) }
     ensures plan { IfOk result
         (λ shapes. plan_of shapes.plan ≡ planned shapes.pool.terms (plan_of shapes.plan).shapes) }
-    ensures terms { IfOk result (λ shapes. length pool.terms ≤ length shapes.pool.terms) }
+    ensures terms { IfOk result (λ shapes.
+        (more : List Term) × (shapes.pool.terms ≡ pool.terms ++ more)) }
 {
-    let known = pool.len();
     let Stated { graph, document: _ } = state_text(alloc, text, Scope::Shapes, pool, 1_000)?;
-    if graph.pool().len() < known {
-        return Err(RowFault::Unread);
-    }
     let plan = compiled(alloc, &graph)?;
     Ok(Shapes {
         plan,
@@ -119,14 +123,17 @@ pub(super) struct Stated {
     pub(super) document: Document,
 }
 
-// The graph may hold so many triples.
+// The graph may hold so many triples. The terms of the pool stay.
 fn state_text(
     alloc: Global,
     text: &str,
     scope: Scope,
     mut pool: Pool,
     triples: u64,
-) -> Result<Stated, RowFault> {
+) -> Result<Stated, RowFault>
+    ensures { IfOk result (λ stated.
+        (more : List Term) × (stated.graph.pool.terms ≡ pool.terms ++ more)) }
+{
     let document = read(alloc, text, scope, &mut pool)?;
     let graph = graph_of(alloc, pool, &document, triples)?;
     Ok(Stated { graph, document })
@@ -135,11 +142,11 @@ fn state_text(
 // The valid graph of a data text, in which the terms of the pool stay.
 fn data_of(alloc: Global, text: &str, pool: Pool) -> Result<Stated, RowFault>
     ensures valid { IfOk result (λ read. IsValidView (plain_graph read.graph)) }
-    ensures terms { IfOk result (λ read. length pool.terms ≤ length read.graph.pool.terms) }
+    ensures terms { IfOk result (λ read.
+        (more : List Term) × (read.graph.pool.terms ≡ pool.terms ++ more)) }
 {
-    let known = pool.len();
     let data = state_text(alloc, text, Scope::Data, pool, TRIPLES)?;
-    if data.graph.pool().len() >= known && is_valid(&data.graph) {
+    if is_valid(&data.graph) {
         Ok(data)
     } else {
         Err(RowFault::Unread)

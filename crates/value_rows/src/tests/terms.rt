@@ -8,7 +8,7 @@ use shx_term::{Literal, Term};
 use std::alloc::Global;
 use value_space::{
     ReadLiteral, is_fewer, is_fewer_read, is_less, is_less_eq, is_more, is_more_read, less,
-    less_eq, wide,
+    less_eq, value_read, wide,
 };
 
 fn is_wide(term: &Term) -> bool
@@ -96,8 +96,9 @@ fn counts_so(count: usize, bound: &Term, answer: &str) -> bool {
     if is_wide(bound) {
         return answer == "wide";
     }
+    let value = value_read(bound);
     let read = ReadLiteral::of_term(bound);
-    count_name(is_fewer(count, bound), is_more(count, bound)) == answer
+    count_name(is_fewer(count, bound, value), is_more(count, bound, value)) == answer
         && count_name(is_fewer_read(count, &read), is_more_read(count, &read)) == answer
 }
 

@@ -1,5 +1,5 @@
-use Rattle.edit_engine.proofs.PlanLemmas.{plan_known}
+use Rattle.edit_engine.proofs.PlanLemmas.{plan_known_more}
 use Rattle.edit_engine.proofs.laws.plans_stay_known.Goals as goal
 
 pub returns : goal.returns
-returns c terms longer shapes le known = plan_known terms longer le shapes known
+returns c terms more shapes known = plan_known_more terms more shapes known

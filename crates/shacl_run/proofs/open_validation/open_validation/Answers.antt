@@ -1,6 +1,4 @@
-use Rattle.std.proofs.Common.{◌≤◌, List, length, refl, sym, ap, ◌∙◌, subst, arith, length-append}
-use Rattle.shx_term.specs.declared.term.Term.{Term}
-use Rattle.shx_term.specs.Pool.{with_terms}
+use Rattle.std.proofs.Common.{refl, sym, ◌∙◌, subst}
 use Rattle.shx_term.specs.TripleTerms.{terms_of}
 use Rattle.shx_term.proofs.HeldLemmas.{with_terms_grow}
 use Rattle.graph_view.specs.Graph.{Graph}
@@ -49,7 +47,6 @@ validation_over-requires-clause-plan c =
     let held = c.args.accepted.pool.terms in
     let shapes = (plan_of c.args.accepted.plan).shapes in
     let grown = with_terms_grow held (terms_of end.triples) in
-    let longer : length held ≤ length (with_terms held (terms_of end.triples)) =
-    omega (arith, ap (λ (ts : List Term). length ts) grown.1, length-append held grown.0) in
     subst (λ (g : Graph). IsKnownPlan g.terms shapes) (sym is.2)
-    (c.plans_stay_known.ensures held (with_terms held (terms_of end.triples)) shapes longer c.requires.known)
+    (subst (λ ts. IsKnownPlan ts shapes) (sym grown.1)
+    (c.plans_stay_known.ensures held grown.0 shapes c.requires.known))

@@ -1,5 +1,5 @@
 use Rattle.std.specs.Prelude.{Contains, map}
-use Rattle.std.proofs.Common.{arith, ap}
+use Rattle.std.proofs.Common.{arith, ap, ◌∙◌}
 use Rattle.std.proofs.lemmas.List.Elements.{All-same}
 use Rattle.shape_decl.specs.Declarations.{told_decl}
 use Rattle.shape_compile.specs.Constraints.{count_constraints, other_constraints, pair_constraints, said_by}
@@ -28,13 +28,14 @@ add_counts-requires-clause-siblings c =
     (All_siblings known (told_decl c.args.decl.now) c.args.declared.now.pool.now.terms
     (map told_decl c.args.declared.now.decls.now) c.requires.named)
 
-pub returns : goal.returns
-returns c =
+pub returns-clause-said : goal.returns-clause-said
+returns-clause-said c =
     let nodes = c.args.order.now.nodes.keys in
     let d = told_decl c.args.decl.now in
     let terms = c.args.declared.now.pool.now.terms in
     let ds = map told_decl c.args.declared.now.decls.now in
-    six_in_turn (value_constraints d) (text_constraints terms d) (pair_constraints d) (shape_constraints d)
+    c.read_terms.ensures.said nodes
+    ∙ six_in_turn (value_constraints d) (text_constraints terms d) (pair_constraints d) (shape_constraints d)
     (count_constraints terms ds d) (other_constraints terms ds d)
     (ap (map (said_by nodes)) c.new-out.ensures.items)
     (rw (c.of_values.ensures d) at (c.in_ok-add_values.ensures nodes))

@@ -66,5 +66,6 @@ returns c = λ d at.
       messages = c.in_ok-from_slice.ensures.items ∙ c.values_of.ensures;
       deactivated = c.is_any_true.ensures ∙ ap (is_any_true declared.pool.now.terms) c.values_of-2.ensures;
       targets = c.in_ok-targets_of.ensures;
-      constraints = c.in_ok-constraints_of.ensures;
+      constraints = c.in_ok-constraints_of.ensures.said;
+      read = c.in_ok-constraints_of.ensures.read;
     })

@@ -5,7 +5,7 @@ use Rattle.shx_term.proofs.MemberLemmas.{none_in_empty}
 use Rattle.graph_view.specs.Graph.{HasTerms}
 use Rattle.comp_core.specs.Memo.{remembered_of}
 use Rattle.comp_core.specs.declared.pair.Pair.{Pair}
-use Rattle.shape_eval.specs.Constraint.{constraint_numbers}
+use Rattle.shape_eval.specs.Constraint.{IsReadOf, constraint_numbers}
 use Rattle.shape_eval.specs.Nested.{asked_pairs, nested_in}
 use Rattle.shape_eval.specs.Own.{asked_key}
 use Rattle.shape_eval.specs.Recalled.{AreRecalled, Brings}
@@ -14,7 +14,7 @@ use Rattle.shape_eval.specs.inner.Told.{IsHeld}
 use Rattle.shape_eval.proofs.AnswerLemmas.{IsOneAsked, all_held, asked_are, asked_at, brings_below}
 use Rattle.shape_eval.proofs.AnswerLemmas.{held_below, more_held, nested_recalled, off_answer, off_nests_none}
 use Rattle.shape_eval.proofs.AnswerLemmas.{on_answer, stays_below}
-use Rattle.shape_eval.proofs.LevelLemmas.{numbers_known}
+use Rattle.shape_eval.proofs.LevelLemmas.{numbers_known, shape_known}
 use Rattle.shape_eval.proofs.RecalledLemmas.{AreRight-same, Brings-more, Brings-none, IsRecallOf-one}
 use Rattle.shape_eval.proofs.RecalledLemmas.{RemembersSame-then}
 use Rattle.shape_eval.proofs.ShapeLemmas.{values_known}
@@ -182,6 +182,13 @@ check_each-requires-clause-numbers g t c =
     subst (λ cs. HasTerms view (flat_map constraint_numbers cs)) (sym c.deref-3.ensures.value)
     (numbers_known view c.args.shapes.now c.requires.plan c.args.pair.shape c.index-shapes-pair.result
     (shape_is g t (goal.at.check_each-requires-clause-numbers g t c).After-pool))
+
+pub check_each-requires-clause-read : goal.check_each-requires-clause-read
+check_each-requires-clause-read g t c =
+    let view = g.V.GraphView.graph c.args.view.now in
+    subst (All (λ k. IsReadOf k view.terms)) (sym c.deref-3.ensures.value)
+    (shape_known view c.args.shapes.now c.requires.plan c.args.pair.shape c.index-shapes-pair.result
+    (shape_is g t (goal.at.check_each-requires-clause-read g t c).After-pool)).read
 
 pub check_each-requires-clause-held : goal.check_each-requires-clause-held
 check_each-requires-clause-held g t c =

@@ -7,9 +7,9 @@ use Rattle.comp_core.specs.declared.pair.Pair.{Pair}
 use Rattle.value_components.specs.Class.{class_reads}
 use Rattle.shape_eval.specs.declared.constraint.Constraint.{Constraint}
 use Rattle.shape_eval.specs.Constraint.{constraint_asks, constraint_hits, constraint_numbers}
-use Rattle.shape_eval.specs.Constraint.{constraint_reads}
+use Rattle.shape_eval.specs.Constraint.{IsReadOf, constraint_reads}
 use Rattle.shape_eval.proofs.CheckedLemmas.{noted_unless}
-use Rattle.shape_eval.proofs.ItemLemmas.{part_at, flat_map-take_item}
+use Rattle.shape_eval.proofs.ItemLemmas.{flat_map-take_item, item_at, part_at}
 use Rattle.shape_eval.proofs.checking.check_each.Goals as goal
 
 pub check_next-requires-clause-numbers : goal.check_next-requires-clause-numbers
@@ -17,6 +17,12 @@ check_next-requires-clause-numbers g c =
     part_at (λ id. id < length (g.V.GraphView.graph c.args.view.now).terms) constraint_numbers
     c.args.constraints.now c.loop-constraint.constraint-index c.constraint-item.result
     c.loop-constraint-test.true c.constraint-item.is c.requires.numbers
+
+pub check_next-requires-clause-read : goal.check_next-requires-clause-read
+check_next-requires-clause-read g c =
+    item_at (λ k. IsReadOf k (g.V.GraphView.graph c.args.view.now).terms) c.args.constraints.now
+    c.loop-constraint.constraint-index c.constraint-item.result c.loop-constraint-test.true
+    c.constraint-item.is c.requires.read
 
 pub check_next-requires-clause-held : goal.check_next-requires-clause-held
 check_next-requires-clause-held g c =

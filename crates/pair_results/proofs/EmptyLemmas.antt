@@ -1,11 +1,12 @@
 -- Where no shape has a node and nothing is staged.
 use Rattle.std.specs.Prelude.{◌≡◌, ℕ, zero, suc, [], ◌∷◌, ◌++◌, flat_map, length, slice_get, All}
-use Rattle.std.specs.Prelude.{Contains}
+use Rattle.std.specs.Prelude.{Contains, List, Option, Some, None}
 use Rattle.std.specs.List.Sorted.{IsStrictlySortedBy}
 use Rattle.std.proofs.Common.{refl, sym, ap, ◌∙◌, subst, arith, true≢false}
 use Rattle.shx_term.proofs.MemberLemmas.{All_head, All_of_each, All_tail, Contains-from_map, each_of_All}
 use Rattle.shx_term.specs.TermOrder.{term_cmp}
-use Rattle.pair_results.specs.PairResults.{HasNothing, Nodes, nodes_if_any, rows_in}
+use Rattle.comp_core.specs.declared.row.ResultRow.{ResultRow}
+use Rattle.pair_results.specs.PairResults.{HasNothing, Nodes, nodes_if_any, place_of, rows_in}
 use Rattle.pair_results.specs.PairResults.{rows_of_nodes}
 use Rattle.pair_results.specs.inner.Invariant.{IsCounted, Staged}
 use Rattle.pair_results.proofs.ShapeLemmas.{entries_of, kept, Tree, Trees}
@@ -43,6 +44,9 @@ sorted_empty trees empty =
         subst IsInOrder (sym none) nothing_sorted
 
 module _ (trees : Trees) (staged : Staged) (empty : All IsEmpty trees) where
+  apart : ◌≡◌ {A = Option (List ResultRow)} None (Some []) → ⊥
+  apart e = cc
+
   pub HasNothing-empty : HasNothing (kept (entries_of trees) staged)
   HasNothing-empty = record {
     each = λ shape node. ap (λ nodes. rows_in nodes node) (no_nodes trees empty shape);
@@ -52,6 +56,10 @@ module _ (trees : Trees) (staged : Staged) (empty : All IsEmpty trees) where
   IsCounted-empty none = subst (λ s. IsCounted (kept (entries_of trees) s) 0 0) (sym none) (record {
     ordered = sorted_empty trees empty;
     places = record { each = λ shape node there. absurd (true≢false (sym there)) };
+    needed = record {
+      each = λ shape node is.
+          absurd (apart (sym (ap (λ nodes. place_of nodes node) (no_nodes trees empty shape)) ∙ is));
+    };
     counted = sym (ap length (no_rows trees empty));
     staged = omega arith;
     fits = omega arith;

@@ -7,14 +7,14 @@ use Rattle.std.specs.Map.{keys_of, lookup, remove_entry, set_value}
 use Rattle.std.specs.BTreeMap.{insert_entry}
 use Rattle.std.specs.Ordering.{eq_by_cmp, is_eq, match_ordering}
 use Rattle.std.specs.declared.cmp.Ordering.TheVariants.{Less, Equal, Greater}
-use Rattle.std.proofs.Common.{refl, sym, ap, ◌∙◌, cond, arith, length-append}
+use Rattle.std.proofs.Common.{refl, sym, ap, ◌∙◌, cond, arith, length-append, true≢false}
 use Rattle.std.proofs.lemmas.Bool.{eqb-true}
 use Rattle.shx_term.specs.TermOrder.{term_cmp}
 use Rattle.shx_term.specs.declared.term.Term.{Term}
-use Rattle.shx_term.specs.inner.TermOrderLaws.{same_term_exact}
+use Rattle.shx_term.specs.inner.TermOrderLaws.{same_term_exact, same_term_itself}
 use Rattle.comp_core.specs.declared.row.ResultRow.{ResultRow}
 use Rattle.pair_results.specs.PairResults.{Nodes, place_of, rows_if_any, rows_in, rows_of_nodes}
-use Rattle.pair_results.specs.inner.Invariant.{KeepOtherPlaces, KeepPlaces, SameRowsIn}
+use Rattle.pair_results.specs.inner.Invariant.{IsFilled, KeepPlaces, SameOtherPlaces, SameRowsIn}
 
 abbrev pub IsInOrder : Nodes → Type 0
 IsInOrder nodes = IsStrictlySortedBy term_cmp (keys_of nodes)
@@ -127,6 +127,11 @@ module _ (old new : Nodes) (node : Term) where
           by other true is there = rw (added other, is) refl
           by other false is there = rw (added other, is) there
 
+      pub SameOtherPlaces-added : SameOtherPlaces node old new
+      SameOtherPlaces-added = record {
+        each = λ other apart. added other ∙ ap (λ b. cond b (Some rows) (place_of old other)) apart;
+      }
+
   -- one that has no results is taken out
   module _ (gone : (other : Term) → place_of new other ≡ cond (tied node other) None (place_of old other))
     where
@@ -142,5 +147,22 @@ module _ (old new : Nodes) (node : Term) where
           by other false is =
               ap rows_if_any (gone other) ∙ ap (λ b. rows_if_any (cond b None (place_of old other))) is
 
-      pub KeepOtherPlaces-removed : KeepOtherPlaces node old new
-      KeepOtherPlaces-removed = record { each = λ other apart there. rw (gone other, apart) there }
+      pub SameOtherPlaces-removed : SameOtherPlaces node old new
+      SameOtherPlaces-removed = record {
+        each = λ other apart. gone other ∙ ap (λ b. cond b None (place_of old other)) apart;
+      }
+
+      pub IsFilled-removed : IsFilled new node
+      IsFilled-removed is =
+          let none : place_of new node ≡ None =
+          gone node ∙ ap (λ b. cond b None (place_of old node)) (same_term_itself node) in
+          apart (sym none ∙ is)
+        where
+          apart : ◌≡◌ {A = Option (List ResultRow)} None (Some []) → ⊥
+          apart e = cc
+
+-- one that has results is filled
+pub IsFilled-held : (nodes : Nodes) (node : Term) → (length (rows_in nodes node) == 0) ≡ false
+    → IsFilled nodes node
+IsFilled-held nodes node some is =
+    true≢false (sym (ap (λ place. length (rows_if_any place) == 0) is) ∙ some)

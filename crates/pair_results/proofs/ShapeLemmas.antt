@@ -18,7 +18,8 @@ use Rattle.comp_core.specs.declared.row.ResultRow.{ResultRow}
 use Rattle.pair_results.specs.PairResults.{Kept, Nodes, SameChanges, SameRows}
 use Rattle.pair_results.specs.PairResults.{is_at, nodes_if_any, nodes_of, or_else, place_of, rows_after}
 use Rattle.pair_results.specs.PairResults.{rows_at, rows_if_any, rows_in, rows_of_nodes}
-use Rattle.pair_results.specs.inner.Invariant.{HavePlaces, IsCounted, KeepOtherPlaces}
+use Rattle.pair_results.specs.inner.Invariant.{AreNeeded, HavePlaces, IsCounted, IsFilled}
+use Rattle.pair_results.specs.inner.Invariant.{SameOtherPlaces}
 use Rattle.pair_results.specs.inner.Invariant.{SameRowsIn, Staged, staged_rows}
 use Rattle.pair_results.specs.declared.pair_results.Place.{Place}
 use Rattle.pair_results.proofs.NodeLemmas.{rows_in_within, tied, IsInOrder}
@@ -101,7 +102,7 @@ module _ (shapes : List Nodes) (staged left : Staged) (shape : ℕ) (es : Nodes)
     }
 
     -- the places of what is staged then
-    pub HavePlaces-replaced : (node : Term) → HavePlaces old → KeepOtherPlaces node (nodes_of old shape) es
+    pub HavePlaces-replaced : (node : Term) → HavePlaces old → SameOtherPlaces node (nodes_of old shape) es
         → (IsSome (lookup (is_at shape node) left) → IsSome (place_of es node))
         → ((n : ℕ) (other : Term) → IsSome (lookup (is_at n other) left)
         → IsSome (lookup (is_at n other) staged))
@@ -119,15 +120,48 @@ module _ (shapes : List Nodes) (staged left : Staged) (shape : ℕ) (es : Nodes)
             let same = same_term_exact node other is in
             subst (λ t. IsSome (place_of es t)) same
             (at_node (subst (λ t. IsSome (lookup (is_at shape t) left)) (sym same) there))
-        by other false is there = keep.each other is (places.each shape other (fewer shape other there))
+        by other false is there =
+            subst IsSome (sym (keep.each other is)) (places.each shape other (fewer shape other there))
+
+    -- the places that are empty then
+    pub AreNeeded-replaced : (node : Term) → AreNeeded old → SameOtherPlaces node (nodes_of old shape) es
+        → (place_of es node ≡ Some [] → IsSome (lookup (is_at shape node) left))
+        → ((n : ℕ) (other : Term) → at shape node n other ≡ false → IsSome (lookup (is_at n other) staged)
+        → IsSome (lookup (is_at n other) left))
+        → AreNeeded new
+    AreNeeded-replaced node needed keep at_node more = record {
+      each = λ n other.
+          by_shape (λ m nodes. place_of nodes other ≡ Some [] → IsSome (lookup (is_at m other) left))
+          (λ empty. here other (tied node other) refl empty)
+          (λ m apart empty. more m other (elsewhere m other apart) (needed.each m other empty)) n;
+    }
+      where
+        elsewhere : (m : ℕ) (other : Term) → (shape ≡ m → ⊥) → at shape node m other ≡ false
+        elsewhere m other apart = by (shape == m) refl
+          where
+            by : (b : Bool) → (shape == m) ≡ b → (b && tied node other) ≡ false
+            by true is = absurd (apart (eqb-true shape m is))
+            by false is = refl
+
+        here : (other : Term) (b : Bool) → tied node other ≡ b → place_of es other ≡ Some []
+            → IsSome (lookup (is_at shape other) left)
+        here other true is empty =
+            let same = same_term_exact node other is in
+            subst (λ t. IsSome (lookup (is_at shape t) left)) same
+            (at_node (subst (λ t. place_of es t ≡ Some []) (sym same) empty))
+        here other false is empty =
+            let there : IsSome (lookup (is_at shape other) staged) =
+            needed.each shape other (sym (keep.each other is) ∙ empty) in
+            more shape other ((λ i. nat_eq_equiv.refl shape i && tied node other) ∙ is) there
 
     pub IsCounted-replaced : (count coming counted comes : ℕ) → IsCounted old count coming
-        → IsInOrder es → HavePlaces new
+        → IsInOrder es → HavePlaces new → AreNeeded new
         → counted + length (rows_of_nodes (nodes_of old shape)) ≡ count + length (rows_of_nodes es)
         → length (staged_rows new) ≤ comes → counted + comes < 2 ^ 64 → IsCounted new counted comes
-    IsCounted-replaced count coming counted comes before sorted places is enough fits = record {
+    IsCounted-replaced count coming counted comes before sorted places needed is enough fits = record {
       ordered = All-set IsInOrder shapes shape es sorted before.ordered;
       places = places;
+      needed = needed;
       counted =
           let was = before.counted in
           let set_count = count-set shapes shape es inside in
@@ -168,16 +202,21 @@ nodes_indexed trees shape tree inside is =
 -- new is old with these results at a node, and no other place is lost
 pub record Makes (old new : Nodes) (node : Term) (rows : List ResultRow) : Type 0 where
   pub each : (other : Term) → rows_in new other ≡ cond (tied node other) rows (rows_in old other)
-  pub places : KeepOtherPlaces node old new
+  pub places : SameOtherPlaces node old new
+  pub filled : IsFilled new node
 
 pub Makes-put : (old put new : Nodes) (node : Term) (rows : List ResultRow)
     → ((other : Term) → place_of put other ≡ cond (tied node other) (Some rows) (place_of old other))
-    → SameRowsIn put new → KeepOtherPlaces node put new → Makes old new node rows
-Makes-put old put new node rows is same keep = record {
+    → SameRowsIn put new → SameOtherPlaces node put new → IsFilled new node → Makes old new node rows
+Makes-put old put new node rows is same keep filled = record {
   each = λ other. same.each other ∙ ap rows_if_any (is other) ∙ by other (tied node other);
   places = record {
-    each = λ other apart there. keep.each other apart (rw (is other, apart) there);
+    each = λ other apart.
+        keep.each other apart
+        ∙ is other
+        ∙ ap (λ b. cond b (Some rows) (place_of old other)) apart;
   };
+  filled = filled;
 }
   where
     by : (other : Term) (b : Bool)
@@ -212,12 +251,22 @@ module _ (shapes : List Nodes) (staged left : Staged) (p : Place) (rows : List R
       abbrev after : Kept
       after = kept (set shapes p.shape es) left
 
-      pub HavePlaces-taken : KeepOtherPlaces p.node nodes es → HavePlaces after
+      pub HavePlaces-taken : SameOtherPlaces p.node nodes es → HavePlaces after
       HavePlaces-taken keep =
           HavePlaces-replaced shapes staged left p.shape es first_within p.node places
-          (subst (λ m. KeepOtherPlaces p.node m es) (sym same) keep)
+          (subst (λ m. SameOtherPlaces p.node m es) (sym same) keep)
           (λ there. absurd (true≢false (sym there ∙ ap is_some takes.none)))
           (left_found staged left p rows takes)
+
+      pub AreNeeded-taken : AreNeeded before → SameOtherPlaces p.node nodes es → IsFilled es p.node
+          → AreNeeded after
+      AreNeeded-taken needed keep filled =
+          AreNeeded-replaced shapes staged left p.shape es first_within p.node needed
+          (subst (λ m. SameOtherPlaces p.node m es) (sym same) keep)
+          (λ empty. absurd (filled empty))
+          (λ n other apart there. subst IsSome
+          (found_before staged left p rows takes n other
+          ∙ ap (λ b. cond b (Some rows) (lookup (is_at n other) left)) apart) there)
 
       -- what is not made is as it was
       pub SameRows-taken : SameRowsIn nodes es → SameRows before after
@@ -226,16 +275,16 @@ module _ (shapes : List Nodes) (staged left : Staged) (p : Place) (rows : List R
           (subst (λ m. SameRowsIn m es) (sym same) keep)
 
       pub IsCounted-taken : (count coming : ℕ) → IsCounted before count coming
-          → IsInOrder es → KeepOtherPlaces p.node nodes es
+          → IsInOrder es → SameOtherPlaces p.node nodes es → IsFilled es p.node
           → rows_of_nodes es ≡ rows_of_nodes nodes → IsCounted after count coming
-      IsCounted-taken count coming was sorted keep all =
+      IsCounted-taken count coming was sorted keep filled all =
           let less = count-left staged left p rows takes in
           let enough = was.staged in
           let fits = was.fits in
           let long : length (rows_of_nodes es) ≡ length (rows_of_nodes nodes) = ap length all in
           let held = ap (λ m. length (rows_of_nodes m)) same in
           IsCounted-replaced shapes staged left p.shape es first_within count coming count coming was sorted
-          (HavePlaces-taken keep) (omega arith) (omega arith) fits
+          (HavePlaces-taken keep) (AreNeeded-taken was.needed keep filled) (omega arith) (omega arith) fits
 
       module _ (makes : Makes nodes es p.node rows) where
         at_place : rows_at after p.shape p.node ≡ rows
@@ -287,5 +336,5 @@ module _ (shapes : List Nodes) (staged left : Staged) (p : Place) (rows : List R
             let fits = was.fits in
             let held = ap (λ m. length (rows_of_nodes m)) same in
             IsCounted-replaced shapes staged left p.shape es first_within count coming (count - gone + more)
-            (coming - more) was sorted (HavePlaces-taken makes.places) (omega arith) (omega arith)
-            (omega arith)
+            (coming - more) was sorted (HavePlaces-taken makes.places)
+            (AreNeeded-taken was.needed makes.places makes.filled) (omega arith) (omega arith) (omega arith)

@@ -14,14 +14,14 @@ use Rattle.pair_results.specs.PairResults.{rows_after}
 use Rattle.pair_results.specs.PairResults.{rows_at, rows_if_any, rows_of_nodes, staged_at, SameChanges}
 use Rattle.pair_results.specs.PairResults.{SameRows}
 use Rattle.pair_results.specs.PairResults.{Stages}
-use Rattle.pair_results.specs.inner.Invariant.{AddsAt, HavePlaces, IsCounted, KeepOtherPlaces, KeepPlaces}
-use Rattle.pair_results.specs.inner.Invariant.{SameRowsIn, Staged, staged_rows}
+use Rattle.pair_results.specs.inner.Invariant.{AddsAt, AreNeeded, HavePlaces, IsCounted, IsFilled}
+use Rattle.pair_results.specs.inner.Invariant.{KeepPlaces, SameOtherPlaces, SameRowsIn, Staged, staged_rows}
 use Rattle.pair_results.proofs.NodeLemmas.{IsInOrder}
 use Rattle.pair_results.proofs.OrderLemmas.{nodes_sorted}
 use Rattle.pair_results.proofs.ShapeLemmas.{by_shape, entries_of, kept, nodes_here, nodes_indexed}
 use Rattle.pair_results.proofs.ShapeLemmas.{within_trees, HavePlaces-replaced, Tree, Trees}
-use Rattle.pair_results.proofs.ShapeLemmas.{IsCounted-replaced, SameRows-replaced}
-use Rattle.pair_results.proofs.StagedLemmas.{at, at_exact}
+use Rattle.pair_results.proofs.ShapeLemmas.{AreNeeded-replaced, IsCounted-replaced, SameRows-replaced}
+use Rattle.pair_results.proofs.StagedLemmas.{at, at_exact, at_itself}
 
 -- what holds anyhow holds where a call is refused
 pub on_any_Err : {X E : Type 0} (r : Result X E) (P : Type 0) → P → OnErr r P
@@ -33,16 +33,17 @@ on_any_Err (Err e) P holds = holds
 pub SameRowsIn-then : (a b c : Nodes) → SameRowsIn a b → SameRowsIn b c → SameRowsIn a c
 SameRowsIn-then a b c first second = record { each = λ node. second.each node ∙ first.each node }
 
-pub KeepOtherPlaces-then : (node : Term) (a b c : Nodes) → KeepPlaces a b → KeepOtherPlaces node b c
-    → KeepOtherPlaces node a c
-KeepOtherPlaces-then node a b c first second = record {
-  each = λ other apart there. second.each other apart (first.each other there);
+pub SameOtherPlaces-then : (node : Term) (a b c : Nodes) → SameOtherPlaces node a b
+    → SameOtherPlaces node b c → SameOtherPlaces node a c
+SameOtherPlaces-then node a b c first second = record {
+  each = λ other apart. second.each other apart ∙ first.each other apart;
 }
 
 -- what becomes of the nodes of a shape where the place of one is taken out again
 pub record Vacates (node : Term) (old new : Tree) : Type 0 where
   pub rows : SameRowsIn old.entries new.entries
-  pub others : KeepOtherPlaces node old.entries new.entries
+  pub others : SameOtherPlaces node old.entries new.entries
+  pub filled : IsFilled new.entries node
   pub all : rows_of_nodes new.entries ≡ rows_of_nodes old.entries
   pub ordered : IsOrdered term_cmp old → IsOrdered term_cmp new
 
@@ -123,14 +124,14 @@ module _ (shapes : List Nodes) (staged left : Staged) (shape : ℕ) (inside : sh
             ap (λ list. or_else list (lookup (is_at n other) staged)) (kept_rows.each n other)
 
     -- one place is lost, at which nothing was
-    pub HavePlaces-lost : (node : Term) → HavePlaces old → left ≡ staged → KeepOtherPlaces node nodes es
+    pub HavePlaces-lost : (node : Term) → HavePlaces old → left ≡ staged → SameOtherPlaces node nodes es
         → place_of nodes node ≡ None → HavePlaces new
     HavePlaces-lost node places is keep none =
         let was : place_of (nodes_of old shape) node ≡ None = ap (λ m. place_of m node) same ∙ none in
         let nothing : lookup (is_at shape node) left ≡ None =
         ap (lookup (is_at shape node)) is ∙ not_staged old shape node places was in
         HavePlaces-replaced shapes staged left shape es inside node places
-        (subst (λ m. KeepOtherPlaces node m es) (sym same) keep)
+        (subst (λ m. SameOtherPlaces node m es) (sym same) keep)
         (λ there. absurd (true≢false (sym there ∙ ap is_some nothing)))
         (λ n other there. subst (λ (s : Staged). IsSome (lookup (is_at n other) s)) is there)
 
@@ -175,18 +176,47 @@ module _ (shapes : List Nodes) (staged left : Staged) (shape : ℕ) (inside : sh
             subst (λ b. IsSome (if b then Some rows else lookup (is_at n other) staged)) is there in
             grown keep n other (places.each n other was)
 
+    -- nothing changes
+    pub AreNeeded-same : AreNeeded old → left ≡ staged → es ≡ nodes → AreNeeded new
+    AreNeeded-same needed is same_nodes = record {
+      each = λ n other empty.
+          subst (λ (s : Staged). IsSome (lookup (is_at n other) s)) (sym is)
+          (by_shape shapes staged left shape es inside
+          (λ m list. place_of list other ≡ Some [] → IsSome (lookup (is_at m other) staged))
+          (λ here. needed.each shape other
+          (ap (λ m. place_of m other) (same ∙ sym same_nodes) ∙ here)) (λ m _ there. needed.each m other there)
+          n empty);
+    }
+
+    -- the place of one is lost
+    pub AreNeeded-lost : (node : Term) → AreNeeded old → left ≡ staged → SameOtherPlaces node nodes es
+        → IsFilled es node → AreNeeded new
+    AreNeeded-lost node needed is keep filled =
+        AreNeeded-replaced shapes staged left shape es inside node needed
+        (subst (λ m. SameOtherPlaces node m es) (sym same) keep) (λ empty. absurd (filled empty))
+        (λ n other _ there. subst (λ (s : Staged). IsSome (lookup (is_at n other) s)) (sym is) there)
+
+    -- more is staged at a place
+    pub AreNeeded-staged : (node : Term) (rows : List ResultRow) → AreNeeded old
+        → AddsAt staged left shape node rows → SameOtherPlaces node nodes es → AreNeeded new
+    AreNeeded-staged node rows needed adds keep =
+        AreNeeded-replaced shapes staged left shape es inside node needed
+        (subst (λ m. SameOtherPlaces node m es) (sym same) keep)
+        (λ _. rw (adds.each shape node, at_itself shape node) refl)
+        (λ n other apart there. rw (adds.each n other, apart) there)
+
     pub IsCounted-at : (count coming more comes : ℕ) → IsCounted old count coming
-        → IsInOrder es → HavePlaces new → rows_of_nodes es ≡ rows_of_nodes nodes
+        → IsInOrder es → HavePlaces new → AreNeeded new → rows_of_nodes es ≡ rows_of_nodes nodes
         → length (staged_rows new) ≤ length (staged_rows old) + more
         → length (staged_rows old) + more ≤ comes → length (all_rows old) + comes < 2 ^ 64
         → IsCounted new count comes
-    IsCounted-at count coming more comes was sorted places all more_staged enough fits =
+    IsCounted-at count coming more comes was sorted places needed all more_staged enough fits =
         let counted = was.counted in
         let long : length (rows_of_nodes es) ≡ length (rows_of_nodes nodes) = ap length all in
         let before : length (rows_of_nodes (nodes_of old shape)) ≡ length (rows_of_nodes nodes) =
         ap (λ m. length (rows_of_nodes m)) same in
         IsCounted-replaced shapes staged left shape es inside count coming count comes was sorted places
-        (omega arith) (omega arith) (omega arith)
+        needed (omega arith) (omega arith) (omega arith)
 
 -- ---- the same of shapes as code keeps them, and of the value that contracts see
 
@@ -233,15 +263,16 @@ module _ (trees : Trees) (staged left : Staged) (value : Kept) (view : kept (ent
         (enough : length (staged_rows value) + more ≤ comes) (fits : length (all_rows value) + comes < 2 ^ 64)
       where
         counted : HavePlaces (kept (set (entries_of trees) shape es.entries) left)
+            → AreNeeded (kept (set (entries_of trees) shape es.entries) left)
             → length (flat_map (λ e. e.1) left) ≤ length (flat_map (λ e. e.1) staged) + more
             → IsCounted stored count comes
-        counted places more_staged =
+        counted places needed more_staged =
             subst (λ k. IsCounted k count comes) is_stored
             (IsCounted-at (entries_of trees) staged left shape inside tree.entries es.entries same count
             coming more comes was
             (order (subst (λ m. IsInOrder m) same
             (nodes_sorted (entries_of trees) shape was.ordered)))
-            places all more_staged
+            places needed all more_staged
             (subst (λ k. length (staged_rows k) + more ≤ comes) (sym view) enough)
             (subst (λ k. length (all_rows k) + comes < 2 ^ 64) (sym view) fits))
 
@@ -252,28 +283,36 @@ module _ (trees : Trees) (staged left : Staged) (value : Kept) (view : kept (ent
             ap (λ (s : Staged). length (flat_map (λ e. e.1) s)) kept_staged in
             omega arith
 
-        pub IsCounted-grown : left ≡ staged → KeepPlaces tree.entries es.entries
-            → IsCounted stored count comes
-        IsCounted-grown kept_staged keep =
+        -- nothing changes
+        pub IsCounted-same : left ≡ staged → es.entries ≡ tree.entries → IsCounted stored count comes
+        IsCounted-same kept_staged is_same =
             counted
             (HavePlaces-grown (entries_of trees) staged left shape inside tree.entries es.entries same
-            was.places kept_staged keep)
+            was.places kept_staged
+            (record { each = λ other there. subst (λ m. IsSome (place_of m other)) (sym is_same) there }))
+            (AreNeeded-same (entries_of trees) staged left shape inside tree.entries es.entries same
+            was.needed kept_staged is_same)
             (no_more kept_staged)
 
-        pub IsCounted-lost : (node : Term) → left ≡ staged → KeepOtherPlaces node tree.entries es.entries
-            → place_of tree.entries node ≡ None → IsCounted stored count comes
-        IsCounted-lost node kept_staged keep none =
+        pub IsCounted-lost : (node : Term) → left ≡ staged → SameOtherPlaces node tree.entries es.entries
+            → IsFilled es.entries node → place_of tree.entries node ≡ None → IsCounted stored count comes
+        IsCounted-lost node kept_staged keep filled none =
             counted
             (HavePlaces-lost (entries_of trees) staged left shape inside tree.entries es.entries same node
             was.places kept_staged keep none)
+            (AreNeeded-lost (entries_of trees) staged left shape inside tree.entries es.entries same node
+            was.needed kept_staged keep filled)
             (no_more kept_staged)
 
         pub IsCounted-staged : (node : Term) (rows : List ResultRow) → AddsAt staged left shape node rows
-            → more ≡ length rows → KeepPlaces tree.entries es.entries → IsSome (place_of es.entries node)
+            → more ≡ length rows → KeepPlaces tree.entries es.entries
+            → SameOtherPlaces node tree.entries es.entries → IsSome (place_of es.entries node)
             → IsCounted stored count comes
-        IsCounted-staged node rows adds many keep made =
+        IsCounted-staged node rows adds many keep others made =
             let more_staged = adds.count in
             counted
             (HavePlaces-staged (entries_of trees) staged left shape inside tree.entries es.entries same node
             rows was.places adds keep made)
+            (AreNeeded-staged (entries_of trees) staged left shape inside tree.entries es.entries same node
+            rows was.needed adds others)
             (omega arith)

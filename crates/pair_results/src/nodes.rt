@@ -1,9 +1,9 @@
 //! The nodes of one shape: each has a place, where its results stand, or where there is room for some.
-ghost use Rattle.std.specs.Prelude.{◌≡◌, ◌+◌, [], Some, is_none, IsSome, IfOk, OnOk, OnErr, length};
+ghost use Rattle.std.specs.Prelude.{◌≡◌, ◌+◌, [], false, Some, is_none, IsSome, IfOk, OnOk, OnErr, length};
 ghost use Rattle.std.specs.BTreeMap.{IsOrdered, Updates};
 ghost use Rattle.shx_term.specs.TermOrder.{term_cmp};
 ghost use Rattle.pair_results.specs.PairResults.{place_of, rows_in, rows_of_nodes};
-ghost use Rattle.pair_results.specs.inner.Invariant.{KeepOtherPlaces, KeepPlaces, SameRowsIn};
+ghost use Rattle.pair_results.specs.inner.Invariant.{IsFilled, KeepPlaces, SameOtherPlaces, SameRowsIn};
 
 use comp_core::{ResultRow, RowList};
 use shx_term::{Memory, Term};
@@ -28,6 +28,9 @@ pub(crate) fn make_place(alloc: Global, nodes: &mut Nodes, node: &Term) -> Resul
     ensures new { IfOk result (λ new. new ≡ is_none (place_of nodes.old.entries node.now)) }
     ensures rows { SameRowsIn nodes.old.entries nodes.new.entries }
     ensures places { KeepPlaces nodes.old.entries nodes.new.entries }
+    ensures others { SameOtherPlaces node.now nodes.old.entries nodes.new.entries }
+    ensures held { IfOk result (λ new. new ≡ false → nodes.new.entries ≡ nodes.old.entries) }
+    ensures refused { OnErr result (nodes.new.entries ≡ nodes.old.entries) }
     ensures made { OnOk result (IsSome (place_of nodes.new.entries node.now)) }
     ensures all { rows_of_nodes nodes.new.entries ≡ rows_of_nodes nodes.old.entries }
     ensures ordered { IsOrdered term_cmp nodes.old → IsOrdered term_cmp nodes.new }
@@ -63,11 +66,13 @@ pub(crate) fn put(nodes: &mut Nodes, node: &Term, rows: RowList) -> u64
 /// Takes out the place of a node that has no results. It takes no memory.
 pub(crate) fn vacate(nodes: &mut Nodes, node: &Term)
     ensures rows { SameRowsIn nodes.old.entries nodes.new.entries }
-    ensures others { KeepOtherPlaces node.now nodes.old.entries nodes.new.entries }
+    ensures others { SameOtherPlaces node.now nodes.old.entries nodes.new.entries }
+    ensures filled { IsFilled nodes.new.entries node.now }
     ensures all { rows_of_nodes nodes.new.entries ≡ rows_of_nodes nodes.old.entries }
     ensures ordered { IsOrdered term_cmp nodes.old → IsOrdered term_cmp nodes.new }
 {
-    if rows_in(nodes, node).is_empty() {
+    let is_vacant = rows_in(nodes, node).is_empty();
+    if is_vacant {
         nodes.remove(node);
     }
 }

@@ -6,15 +6,15 @@ use Rattle.std.proofs.lemmas.List.{take_more}
 use Rattle.std.proofs.lemmas.List.Elements.{Contains-append_left, Contains-append_right}
 use Rattle.std.proofs.lemmas.List.Elements.{Contains-append_cases}
 use Rattle.std.proofs.lemmas.Map.Lookups.{CmpEqualImpliesEq}
-use Rattle.shx_term.proofs.MemberLemmas.{Contains-one}
+use Rattle.shx_term.proofs.MemberLemmas.{Contains-at, Contains-one}
 use Rattle.graph_view.specs.declared.key.Key.{Key}
 use Rattle.graph_view.specs.Key.{key_cmp}
 use Rattle.graph_view.specs.inner.KeyLaws.{key_cmp_ties, same_key_exact}
 use Rattle.read_records.specs.declared.reader.Reader.{Reader}
 use Rattle.read_records.specs.Reader.{reader_cmp}
 use Rattle.read_records.specs.inner.ReaderLaws.{reader_cmp_ties, same_reader_exact}
-use Rattle.read_records.specs.inner.Filing.{AddsOne, Filed, Reading, Stands, StandsUnderEach, StaysIn}
-use Rattle.read_records.specs.inner.Filing.{reading}
+use Rattle.read_records.specs.inner.Filing.{AddsOne, AddsSome, Filed, Reading, Stands, StandsUnderEach}
+use Rattle.read_records.specs.inner.Filing.{StaysIn, reading}
 
 -- ---- orders that tell apart
 
@@ -34,6 +34,27 @@ StaysIn-then first next = record { each = λ x c. next.each x (first.each x c) }
 
 pub StaysIn-added : {old new : Filed} {more : Reading} → AddsOne old new more → StaysIn old new
 StaysIn-added added = record { each = λ x c. (added.each x).1 (inl c) }
+
+-- ---- what is added
+
+pub AddsSome-itself : {xs : Filed} {keys : List Key} {reader : Reader} → AddsSome xs xs keys reader
+AddsSome-itself = record { each = λ x c. inl c }
+
+-- one more, of these keys
+pub AddsSome-one : (keys : List Key) (i : ℕ) (d : Key) (reader : Reader) → i < length keys
+    → {first old new : Filed} → AddsSome first old keys reader
+    → AddsOne old new (reading (get_or keys i d) reader) → AddsSome first new keys reader
+AddsSome-one keys i d reader inside before step = record {
+  each = λ x c. elim ((step.each x).0 c) [
+    | inl there ↦ before.each x there
+    | inr same ↦ inr (
+      sym (ap (λ (y : Reading). y.reader) same),
+      subst (Contains keys) (sym (ap (λ (y : Reading). y.key) same)) (Contains-at keys i d inside),
+    )
+  ];
+}
+
+-- ---- under some keys
 
 -- the members of the first elements of a list and of one more
 pub Contains-taken : {X : Type 0} (xs : List X) (i : ℕ) (d : X) → i < length xs → (x : X)

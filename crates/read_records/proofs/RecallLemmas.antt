@@ -20,7 +20,7 @@ use Rattle.comp_core.specs.declared.pair.Pair.{Pair}
 use Rattle.comp_core.specs.declared.row.ResultRow.{ResultRow}
 use Rattle.comp_core.specs.Memo.{remembered_of}
 use Rattle.comp_core.specs.Pairs.{same_pair, same_pair_exact}
-use Rattle.read_records.proofs.GatheredLemmas.{as_note, kept_of_all}
+use Rattle.read_records.proofs.GatheredLemmas.{AreFilled-of_all, as_note, kept_of_all}
 use Rattle.read_records.proofs.SeenLemmas.{MakesStaged-seen, SameNotes-seen, SameStaged-seen, StagesFor-seen}
 use Rattle.read_records.proofs.SeenLemmas.{change_seen, coming_seen, kept_seen}
 use Rattle.read_records.proofs.StoreLemmas.{is_at}
@@ -34,6 +34,7 @@ use Rattle.read_records.specs.Recall.{entry_of, kept_of, pair_cmp, recalled, sta
 use Rattle.read_records.specs.Store.{MakesStaged, SameNotes, SameStaged, StagesFor, change_for}
 use Rattle.read_records.specs.Store.{coming_for, if_noted, note_at}
 use Rattle.read_records.specs.inner.Masks.{AreStaged, MasksAmong}
+use Rattle.read_records.specs.inner.Notes.{AreFilled}
 use Rattle.read_records.specs.inner.ReaderLaws.{reader_cmp_ties}
 use Rattle.read_records.specs.inner.Remembered.{NotedRows, as_recalled, as_remembered}
 
@@ -136,6 +137,21 @@ answer_noted answer = record { value = answer.rows.items; reads = answer.reads }
 abbrev pub pair_note : Pair × PairAnswer (List Key) → Reader × Option (Noted (List ResultRow))
 pair_note e = (OfPair e.0, Some (answer_noted e.1))
 
+noted_by_reader : (es : List (Pair × PairAnswer (List Key)))
+    → map (as_note answer_noted) (by_reader es) ≡ map pair_note es
+noted_by_reader es =
+    map-map (as_note answer_noted) (λ (e : Pair × PairAnswer (List Key)). (OfPair e.0, e.1)) es
+
+-- something is noted for each of them
+pub AreFilled-given : (all : List (Pair × PairAnswer (List Key)))
+    (kept : BTreeMap Reader (Option (Noted (List ResultRow))))
+    → tree.IsFromIterResult reader_cmp (map pair_note all) kept → IsDistinct same_pair (keys_of all)
+    → AreFilled kept.entries
+AreFilled-given all kept made once =
+    AreFilled-of_all answer_noted (by_reader all) kept
+    (subst (λ notes. tree.IsFromIterResult reader_cmp notes kept) (sym (noted_by_reader all)) made)
+    (distinct_readers all once)
+
 -- exactly these are kept
 pub kept_given : (all : List (Pair × PairAnswer (List Key)))
     (kept : BTreeMap Reader (Option (Noted (List ResultRow))))
@@ -152,11 +168,6 @@ kept_given all kept made once p =
     ∙ ap (option_map answer_noted) (lookup-by_reader p all))
     ∙ back (lookup (same_pair p) all)
   where
-    noted_by_reader : (es : List (Pair × PairAnswer (List Key)))
-        → map (as_note answer_noted) (by_reader es) ≡ map pair_note es
-    noted_by_reader es =
-        map-map (as_note answer_noted) (λ (e : Pair × PairAnswer (List Key)). (OfPair e.0, e.1)) es
-
     back : (found : Option (PairAnswer (List Key)))
         → option_map as_remembered (option_map answer_noted found) ≡ option_map remembered_of found
     back None = refl

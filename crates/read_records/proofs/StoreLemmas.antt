@@ -1,19 +1,24 @@
 -- Notes of readers: an entry that is made, filled or taken out, and the keys that are left.
-use Rattle.std.specs.Prelude.{◌≡◌, Bool, true, false, not, [], Option, Some, None, cond, Contains}
-use Rattle.std.specs.Prelude.{IsSome, is_some, ◌↔◌}
+use Rattle.std.specs.Prelude.{◌≡◌, ℕ, ◌+◌, ◌<◌, Bool, true, false, not, List, [], length, Option, Some, None}
+use Rattle.std.specs.Prelude.{cond, drop, Contains, IsSome, is_some, ◌↔◌, ◌⊎◌}
 use Rattle.std.specs.BTreeMap.{BTreeMap, Updates}
+use Rattle.std.specs.Cmp.{eq_by_cmp_equiv}
 use Rattle.std.specs.Ordering.{eq_by_cmp}
-use Rattle.std.proofs.Common.{refl, sym, ap, ◌∙◌, subst, true≢false}
+use Rattle.std.proofs.Common.{refl, sym, ap, ◌∙◌, subst, inl, inr, get_or, true≢false}
+use Rattle.std.proofs.lemmas.List.{drop_more}
 use Rattle.std.proofs.lemmas.Map.Views.{tells_apart}
+use Rattle.shx_term.proofs.MemberLemmas.{Contains-cases, none_in_empty}
 use Rattle.graph_view.specs.declared.key.Key.{Key}
 use Rattle.read_records.proofs.ReadingLemmas.{reader_cmp_exact}
 use Rattle.read_records.specs.declared.noted.Noted.{Noted}
 use Rattle.read_records.specs.declared.reader.Reader.{Reader}
 use Rattle.read_records.specs.Reader.{reader_cmp}
 use Rattle.read_records.specs.Store.{MakesStaged, Notes, Stored, changed_to, if_noted, kept_for, note_at}
-use Rattle.read_records.specs.inner.Notes.{AreUnder, ComesToSame, HasKey, HasNoted, HavePlaces, SameNoted}
-use Rattle.read_records.specs.inner.Notes.{StandsFor}
-use Rattle.read_records.specs.inner.Filing.{Filed, IsLeft, Reading, Stands, StaysIn, reading}
+use Rattle.read_records.specs.inner.Notes.{AddsPlace, AreFilled, AreNeeded, AreNeededBut, AreUnder}
+use Rattle.read_records.specs.inner.Notes.{ComesToSame, HasKey, HasNoted, HavePlaces, HaveRead, HaveReadBut}
+use Rattle.read_records.specs.inner.Notes.{IsStore, IsUntidy, SameNoted, StandsFor, keys_noted}
+use Rattle.read_records.specs.inner.Filing.{AddsSome, Filed, IsLeft, Reading, Stands, StaysIn, reading}
+use Rattle.read_records.specs.inner.ReaderLaws.{reader_cmp_total}
 
 abbrev pub is_at : Reader → Reader → Bool
 is_at reader other = eq_by_cmp reader_cmp reader other
@@ -37,6 +42,25 @@ module _ {T : Type 0} where
       by : (b : Bool) → is_at reader other ≡ b → P other (cond b entry (note_at old other))
       by true tied = subst (λ r. P r entry) (tells_apart reader_cmp_exact reader other tied) here
       by false apart = there
+
+  -- where something is put, or elsewhere
+  put_cases : {old new : Notes (Noted T)} {reader : Reader} {entry : Entry T} → Puts old new reader entry
+      → (other : Reader) → (reader ≡ other) ⊎ (note_at new other ≡ note_at old other)
+  put_cases {old} {new} {reader} {entry} puts other = by (is_at reader other) refl
+    where
+      by : (b : Bool) → is_at reader other ≡ b → (reader ≡ other) ⊎ (note_at new other ≡ note_at old other)
+      by true tied = inl (tells_apart reader_cmp_exact reader other tied)
+      by false apart = inr (puts.each other ∙ ap (λ b. cond b entry (note_at old other)) apart)
+
+  put_here : {old new : Notes (Noted T)} {reader : Reader} {entry : Entry T} → Puts old new reader entry
+      → note_at new reader ≡ entry
+  put_here {old} {new} {reader} {entry} puts =
+      puts.each reader
+      ∙ ap (λ b. cond b entry (note_at old reader)) ((eq_by_cmp_equiv reader_cmp_total).refl reader)
+
+  pub some_put : {old new : Notes (Noted T)} {reader : Reader} {noted : Option (Noted T)}
+      → Puts old new reader (Some noted) → IsSome (note_at new reader)
+  some_put puts = ap is_some (put_here puts)
 
   -- ---- what was read
 
@@ -102,22 +126,33 @@ module _ {T : Type 0} where
         (λ there. absurd (true≢false (sym there ∙ ap is_some none))) other (entered.each other);
   }
 
+  pub AddsPlace-put : {old new : Notes (Noted T)} {reader : Reader} {entry : Entry T}
+      → Puts old new reader entry → AddsPlace old new reader
+  AddsPlace-put puts = record {
+    each = λ other is. elim (put_cases puts other) [
+      | inl tied ↦ inr tied
+      | inr same ↦ inl (sym same ∙ is)
+    ];
+  }
+
   pub none_there : (entry : Entry T) (b : Bool) → b ≡ is_some entry → not b ≡ true → entry ≡ None
   none_there None b is absent = refl
   none_there (Some reads) b is absent = absurd (true≢false (sym absent ∙ ap not is))
 
   -- an entry that is made where there was none, without reads
-  pub record MakesPlace (old new : Notes (Noted T)) : Type 0 where
+  pub record MakesPlace (old new : Notes (Noted T)) (reader : Reader) : Type 0 where
     pub reads : SameNoted old new
     pub entries : HavePlaces old new
+    pub vacant : AddsPlace old new reader
 
   pub MakesPlace-new : (reader : Reader) (old new : BTreeMap Reader (Option (Noted T)))
       → false ≡ is_some (note_at old.entries reader) → Updates reader_cmp old new reader (Some None)
-      → MakesPlace old.entries new.entries
+      → MakesPlace old.entries new.entries reader
   MakesPlace-new reader old new absent updates = record {
     reads = SameNoted-put puts
         (sym (ap if_noted (none_there (note_at old.entries reader) false absent refl)));
     entries = HavePlaces-put puts;
+    vacant = AddsPlace-put puts;
   }
     where
       puts : Puts old.entries new.entries reader (Some None)
@@ -181,73 +216,338 @@ module _ {T : Type 0} where
         (λ has. true≢false (sym (absent (subst (λ e. HasKey e key) (sym is) has)))) (kept.keeps indexed);
   }
 
-  -- ---- what is recorded, what is staged, and the readings of both
+  -- ---- whoever stands under a key has read it
 
-  -- what always holds of them
-  abbrev pub IsStore : Notes (Noted T) → Notes (Noted T) → Filed → Type 0
-  IsStore records staged readings =
-      AreUnder records readings × AreUnder staged readings × HavePlaces staged records
+  abbrev Reads : Notes (Noted T) → Notes (Noted T) → Reader → Key → Type 0
+  Reads kept staged reader key = HasNoted kept reader key ⊎ HasNoted staged reader key
+
+  -- the keys of an entry
+  keys_of_entry : (entry : Entry T) (noted : Option (Noted T)) (key : Key) → entry ≡ Some noted
+      → HasKey entry key → Contains (keys_noted noted) key
+  keys_of_entry entry noted key is has =
+      let same : Some has.noted ≡ noted = cc (is, has.stands) in
+      subst (λ n. Contains (keys_noted n) key) same has.read
+
+  entry_of_keys : (entry : Entry T) (noted : Option (Noted T)) (key : Key) → entry ≡ Some noted
+      → Contains (keys_noted noted) key → HasKey entry key
+  entry_of_keys entry None key is c = absurd (none_in_empty key c)
+  entry_of_keys entry (Some noted) key is c = record { noted = noted; stands = is; read = c }
+
+  SameNoted-turned : {old new : Notes (Noted T)} → SameNoted old new → SameNoted new old
+  SameNoted-turned same = record { each = λ reader. sym (same.each reader) }
+
+  Reads-same : {old new : Notes (Noted T)} (staged : Notes (Noted T)) → SameNoted old new
+      → (reader : Reader) (key : Key) → Reads old staged reader key → Reads new staged reader key
+  Reads-same staged same reader key h = elim h [
+    | inl has ↦ inl (HasNoted-same (SameNoted-turned same) reader key has)
+    | inr has ↦ inr has
+  ]
+
+  pub HaveRead-same : {old new staged : Notes (Noted T)} {readings : Filed} → SameNoted old new
+      → HaveRead old staged readings → HaveRead new staged readings
+  HaveRead-same {staged = staged} same read = record {
+    each = λ reader key stands. Reads-same staged same reader key (read.each reader key stands);
+  }
+
+  pub HaveRead-fewer : {kept staged : Notes (Noted T)} {old new : Filed}
+      → ((x : Reading) → Stands new x → Stands old x) → HaveRead kept staged old → HaveRead kept staged new
+  HaveRead-fewer fewer read = record {
+    each = λ reader key stands. read.each reader key (fewer (reading key reader) stands);
+  }
+
+  -- one key of what went is looked at: it goes, or is still read
+  HaveReadBut-step : {kept staged : Notes (Noted T)} {old new : Filed} (reader : Reader)
+      (keys : List Key) (i : ℕ) (d : Key) → i < length keys
+      → ((x : Reading) → Stands new x → Stands old x)
+      → (Stands new (reading (get_or keys i d) reader) → Reads kept staged reader (get_or keys i d))
+      → HaveReadBut kept staged old reader (drop i keys)
+      → HaveReadBut kept staged new reader (drop (i + 1) keys)
+  HaveReadBut-step {kept} {staged} {old} {new} reader keys i d inside fewer here before = record {
+    each = λ other key stands. elim (before.each other key (fewer (reading key other) stands)) [
+      | inl has ↦ inl has
+      | inr left ↦ elim (Contains-cases (get_or keys i d) key (drop (i + 1) keys)
+          (subst (λ ks. Contains ks key) (drop_more keys i d inside) left.1)) [
+            | inl same ↦ inl (now other key left.0 same stands)
+            | inr later ↦ inr (left.0, later)
+          ]
+    ];
+  }
+    where
+      now : (other : Reader) (key : Key) → reader ≡ other → key ≡ get_or keys i d
+          → Stands new (reading key other) → Reads kept staged other key
+      now other key tied same stands =
+          subst (λ r. Reads kept staged r key) tied
+          (subst (Reads kept staged reader) (sym same)
+          (here (subst (λ k. Stands new (reading k reader)) same
+          (subst (λ r. Stands new (reading key r)) (sym tied) stands))))
+
+  -- it is read by what is kept, or by what is staged
+  pub HaveReadBut-kept : {kept staged : Notes (Noted T)} {readings : Filed} (reader : Reader)
+      (keys : List Key) (i : ℕ) (d : Key) → i < length keys → {held : Entry T} → held ≡ note_at kept reader
+      → HasKey held (get_or keys i d) → HaveReadBut kept staged readings reader (drop i keys)
+      → HaveReadBut kept staged readings reader (drop (i + 1) keys)
+  HaveReadBut-kept reader keys i d inside is has before =
+      HaveReadBut-step reader keys i d inside (λ x there. there)
+      (λ _. inl (subst (λ e. HasKey e (get_or keys i d)) is has)) before
+
+  pub HaveReadBut-staged : {kept staged : Notes (Noted T)} {readings : Filed} (reader : Reader)
+      (keys : List Key) (i : ℕ) (d : Key) → i < length keys → {held : Entry T} → held ≡ note_at staged reader
+      → HasKey held (get_or keys i d) → HaveReadBut kept staged readings reader (drop i keys)
+      → HaveReadBut kept staged readings reader (drop (i + 1) keys)
+  HaveReadBut-staged reader keys i d inside is has before =
+      HaveReadBut-step reader keys i d inside (λ x there. there)
+      (λ _. inr (subst (λ e. HasKey e (get_or keys i d)) is has)) before
+
+  -- and else goes
+  pub HaveReadBut-left : {kept staged : Notes (Noted T)} {old new : Filed} (reader : Reader)
+      (keys : List Key) (i : ℕ) (d : Key) → i < length keys → IsLeft old new (reading (get_or keys i d) reader)
+      → HaveReadBut kept staged old reader (drop i keys)
+      → HaveReadBut kept staged new reader (drop (i + 1) keys)
+  HaveReadBut-left reader keys i d inside left before =
+      HaveReadBut-step reader keys i d inside (λ x there. ((left.each x).0 there).0)
+      (λ there. absurd (((left.each (reading (get_or keys i d) reader)).0 there).1 refl)) before
+
+  pub HaveRead-none : {kept staged : Notes (Noted T)} {readings : Filed} {reader : Reader} {keys : List Key}
+      → keys ≡ [] → HaveReadBut kept staged readings reader keys → HaveRead kept staged readings
+  HaveRead-none none but = record {
+    each = λ other key stands. elim (but.each other key stands) [
+      | inl has ↦ has
+      | inr left ↦ absurd (none_in_empty key (subst (λ ks. Contains ks key) none left.1))
+    ];
+  }
+
+  -- of some keys of a reader, those are left that are still to be looked at
+  pub record IsLookedAt (kept staged : Notes (Noted T)) (old new : Filed) (reader : Reader)
+      (all left : List Key) : Type 0 where
+    pub keeps : HaveReadBut kept staged old reader all → HaveReadBut kept staged new reader left
+
+  -- ---- places
+
+  -- one is there
+  pub some_there : (entry : Entry T) (b : Bool) → b ≡ is_some entry → not b ≡ false → IsSome entry
+  some_there None b is there = absurd (true≢false (sym (ap not is) ∙ there))
+  some_there (Some reads) b is there = refl
+
+  pub not_vacant : (noted : Noted T) → ◌≡◌ {A = Entry T} (Some None) (Some (Some noted)) → ⊥
+  not_vacant noted e = cc
+
+  -- where nothing was noted, the entry is taken out
+  pub AreNeeded-vacated : {old new others : Notes (Noted T)} {reader : Reader} → Puts old new reader None
+      → AreNeededBut old others reader → AreNeeded new others
+  AreNeeded-vacated {old} {new} {others} {reader} puts but = record {
+    each = λ other is. elim (put_cases puts other) [
+      | inl tied ↦ absurd (empty (sym (subst (λ r. note_at new r ≡ None) tied (put_here puts)) ∙ is))
+      | inr same ↦ elim (but.each other (sym same ∙ is)) [
+        | inl there ↦ there
+        | inr tied ↦ absurd (empty (sym (subst (λ r. note_at new r ≡ None) tied (put_here puts)) ∙ is))
+      ]
+    ];
+  }
+    where
+      empty : ◌≡◌ {A = Entry T} None (Some None) → ⊥
+      empty e = cc
+
+  -- or something is noted there, or among the others
+  pub AreNeeded-held : {notes others : Notes (Noted T)} {reader : Reader}
+      → (note_at notes reader ≡ Some None → IsSome (note_at others reader))
+      → AreNeededBut notes others reader → AreNeeded notes others
+  AreNeeded-held {notes} {others} {reader} held but = record {
+    each = λ other is. elim (but.each other is) [
+      | inl there ↦ there
+      | inr tied ↦ subst (λ r. IsSome (note_at others r)) tied
+          (held (subst (λ r. note_at notes r ≡ Some None) (sym tied) is))
+    ];
+  }
+
+  -- ---- what is kept, what is staged, and the readings of both
 
   -- nothing is staged
-  pub IsStore-kept : {records staged : Notes (Noted T)} {readings : Filed} → staged ≡ []
-      → AreUnder records readings → IsStore records staged readings
-  IsStore-kept {records} {readings = readings} none under =
-      subst (λ staged. IsStore records staged readings) (sym none) (
-        under,
-        record { each = λ reader key has. absurd (true≢false (sym (ap is_some has.stands))) },
-        record { each = λ reader there. absurd (true≢false (sym there)) },
-      )
+  pub IsStore-kept : {kept staged : Notes (Noted T)} {readings : Filed} → staged ≡ []
+      → AreUnder kept readings → HaveRead kept [] readings → AreFilled kept
+      → IsStore kept staged readings
+  IsStore-kept {kept} {readings = readings} none under read filled =
+      subst (λ staged. IsStore kept staged readings) (sym none) (record {
+        kept_under = under;
+        staged_under = record { each = λ reader key has. absurd (true≢false (sym (ap is_some has.stands))) };
+        places = record { each = λ reader there. absurd (true≢false (sym there)) };
+        read = read;
+        needed = record { each = λ reader is. absurd (filled.each reader is) };
+      })
 
-  -- one that has entered, and stands under its keys, is staged
-  pub IsStore-staged : {records entered staged changed : Notes (Noted T)} {old new : Filed}
-      {reader : Reader} {reads : Option (Noted T)} → IsStore records staged old → MakesPlace records entered
-      → StaysIn old new
-      → IsSome (note_at entered reader) → StandsFor new reads reader
-      → Puts staged changed reader (Some reads) → IsStore entered changed new
-  IsStore-staged kept entered stays there stands puts = (
-    AreUnder-same entered.reads (AreUnder-stays stays kept.0),
-    AreUnder-put puts stands (AreUnder-stays stays kept.1),
-    HavePlaces-first puts (λ _. there) (HavePlaces-then kept.2 entered.entries),
-  )
+  -- nothing is left of what went
+  pub IsStore-tidied : {kept tidied staged : Notes (Noted T)} {old new : Filed} {reader : Reader}
+      {gone : Option (Noted T)} → IsUntidy kept staged old reader gone
+      → (AreUnder kept old → AreUnder kept new) → (AreUnder staged old → AreUnder staged new)
+      → (HaveReadBut kept staged old reader (keys_noted gone) → HaveRead kept staged new)
+      → SameNoted kept tidied → (HavePlaces staged kept → HavePlaces staged tidied)
+      → (AreNeededBut kept staged reader → AreNeeded tidied staged) → IsStore tidied staged new
+  IsStore-tidied was first next read same places needed = record {
+    kept_under = AreUnder-same same (first was.kept_under);
+    staged_under = next was.staged_under;
+    places = places was.places;
+    read = HaveRead-same same (read was.read);
+    needed = needed was.needed;
+  }
 
-  -- a reader has entered
-  pub IsStore-entered : {records entered staged : Notes (Noted T)} {old new : Filed}
-      → IsStore records staged old → SameNoted records entered → HavePlaces records entered
-      → StaysIn old new → IsStore entered staged new
-  IsStore-entered kept same places stays = (
-    AreUnder-same same (AreUnder-stays stays kept.0),
-    AreUnder-stays stays kept.1,
-    HavePlaces-then kept.2 places,
-  )
+  -- nothing went, and something is staged
+  pub IsStore-held : {kept staged : Notes (Noted T)} {readings : Filed} {reader : Reader}
+      {gone : Option (Noted T)} → IsUntidy kept staged readings reader gone → gone ≡ None
+      → IsSome (note_at staged reader) → IsStore kept staged readings
+  IsStore-held was none there = record {
+    kept_under = was.kept_under;
+    staged_under = was.staged_under;
+    places = was.places;
+    read = HaveRead-none (ap keys_noted none) was.read;
+    needed = AreNeeded-held (λ _. there) was.needed;
+  }
+
+  -- what an entry of a reader brings
+  pub record Enters (kept entered : Notes (Noted T)) (old new : Filed) (reader : Reader)
+      (noted : Option (Noted T)) : Type 0 where
+    pub reads : SameNoted kept entered
+    pub entries : HavePlaces kept entered
+    pub stays : StaysIn old new
+    pub vacant : AddsPlace kept entered reader
+    pub only : AddsSome old new (keys_noted noted) reader
+
+  -- it has entered, and may stand under some of its keys
+  pub IsUntidy-entered : {kept entered staged : Notes (Noted T)} {old new : Filed} {reader : Reader}
+      {noted : Option (Noted T)} → IsStore kept staged old → Enters kept entered old new reader noted
+      → IsUntidy entered staged new reader noted
+  IsUntidy-entered {staged = staged} was enters = record {
+    kept_under = AreUnder-same enters.reads (AreUnder-stays enters.stays was.kept_under);
+    staged_under = AreUnder-stays enters.stays was.staged_under;
+    places = HavePlaces-then was.places enters.entries;
+    read = record {
+      each = λ other key stands. elim (enters.only.each (reading key other) stands) [
+        | inl before ↦ inl (Reads-same staged enters.reads other key (was.read.each other key before))
+        | inr more ↦ inr more
+      ];
+    };
+    needed = record {
+      each = λ other is. elim (enters.vacant.each other is) [
+        | inl before ↦ inl (was.needed.each other before)
+        | inr tied ↦ inr tied
+      ];
+    };
+  }
+
+  -- and is staged, in the place of what went
+  pub IsUntidy-staged : {kept entered staged changed : Notes (Noted T)} {old new : Filed} {reader : Reader}
+      {noted : Option (Noted T)} → IsStore kept staged old → Enters kept entered old new reader noted
+      → IsSome (note_at entered reader) → StandsFor new noted reader
+      → Puts staged changed reader (Some noted)
+      → IsUntidy entered changed new reader (if_noted (note_at staged reader))
+  IsUntidy-staged {kept} {entered} {staged} {changed} {old} {new} {reader} {noted} was enters there stands puts =
+      record {
+        kept_under = before.kept_under;
+        staged_under = AreUnder-put puts stands before.staged_under;
+        places = HavePlaces-first puts (λ _. there) before.places;
+        read = record {
+          each = λ other key is. elim (before.read.each other key is) [
+            | inl has ↦ elim has [
+              | inl held ↦ inl (inl held)
+              | inr held ↦ elim (put_cases puts other) [
+                | inl tied ↦ inr (tied, gone other key tied held)
+                | inr same ↦ inl (inr (subst (λ e. HasKey e key) (sym same) held))
+              ]
+            ]
+            | inr more ↦ inl (inr (subst (λ r. HasNoted changed r key) more.0
+                (entry_of_keys (note_at changed reader) noted key (put_here puts) more.1)))
+          ];
+        };
+        needed = record {
+          each = λ other is. elim (before.needed.each other is) [
+            | inl held ↦ inl (put_at puts (λ r e. IsSome (note_at staged r) → IsSome e) (λ _. refl) other
+                (λ h. h) held)
+            | inr tied ↦ inr tied
+          ];
+        };
+      }
+    where
+      before : IsUntidy entered staged new reader noted
+      before = IsUntidy-entered was enters
+
+      gone : (other : Reader) (key : Key) → reader ≡ other → HasNoted staged other key
+          → Contains (keys_noted (if_noted (note_at staged reader))) key
+      gone other key tied held =
+          let here : HasNoted staged reader key = subst (λ r. HasNoted staged r key) (sym tied) held in
+          subst (λ n. Contains (keys_noted n) key) (sym (ap if_noted here.stands)) here.read
 
   -- one that was staged goes
-  pub IsStore-taken : {records staged left : Notes (Noted T)} {readings : Filed} {reader : Reader}
-      → IsStore records staged readings → Puts staged left reader None → IsStore records left readings
-  IsStore-taken kept taken = (
-    kept.0,
-    AreUnder-put taken tt kept.1,
-    HavePlaces-first taken (λ there. absurd (true≢false (sym there))) kept.2,
-  )
-
-  -- what went is forgotten
-  pub IsStore-tidied : {records left staged : Notes (Noted T)} {old new : Filed}
-      → IsStore records staged old → (AreUnder records old → AreUnder records new)
-      → (AreUnder staged old → AreUnder staged new)
-      → SameNoted records left → (HavePlaces staged records → HavePlaces staged left)
-      → IsStore left staged new
-  IsStore-tidied kept first next same places =
-      (AreUnder-same same (first kept.0), next kept.1, places kept.2)
+  pub IsUntidy-taken : {kept staged left : Notes (Noted T)} {readings : Filed} {reader : Reader}
+      {noted : Option (Noted T)} → IsStore kept staged readings → note_at staged reader ≡ Some noted
+      → Puts staged left reader None → IsUntidy kept left readings reader noted
+  IsUntidy-taken {kept} {staged} {left} {readings} {reader} {noted} was is taken = record {
+    kept_under = was.kept_under;
+    staged_under = AreUnder-put taken tt was.staged_under;
+    places = HavePlaces-first taken (λ there. absurd (true≢false (sym there))) was.places;
+    read = record {
+      each = λ other key stands. elim (was.read.each other key stands) [
+        | inl has ↦ inl (inl has)
+        | inr has ↦ elim (put_cases taken other) [
+          | inl tied ↦ inr (
+            tied,
+            keys_of_entry (note_at staged reader) noted key is
+                (subst (λ r. HasNoted staged r key) (sym tied) has),
+          )
+          | inr same ↦ inl (inr (subst (λ e. HasKey e key) (sym same) has))
+        ]
+      ];
+    };
+    needed = record {
+      each = λ other none. elim (put_cases taken other) [
+        | inl tied ↦ inr tied
+        | inr same ↦ inl (subst IsSome (sym same) (was.needed.each other none))
+      ];
+    };
+  }
 
   -- one that was staged is made
-  pub IsStore-made : {records made staged left : Notes (Noted T)} {readings : Filed} {reader : Reader}
-      {reads : Option (Noted T)} → IsStore records staged readings → note_at staged reader ≡ Some reads
-      → Puts staged left reader None → Puts records made reader (Some reads) → IsStore made left readings
-  IsStore-made {reader = reader} {reads = reads} kept was taken puts = (
-    AreUnder-put puts (StandsFor-under reader reads kept.1 was) kept.0,
-    AreUnder-put taken tt kept.1,
-    HavePlaces-first taken (λ there. absurd (true≢false (sym there)))
-        (HavePlaces-then kept.2 (HavePlaces-put puts)),
-  )
+  pub IsUntidy-made : {kept made staged left : Notes (Noted T)} {readings : Filed} {reader : Reader}
+      {noted gone : Option (Noted T)} → IsStore kept staged readings → note_at staged reader ≡ Some noted
+      → Puts staged left reader None → Puts kept made reader (Some noted) → note_at kept reader ≡ Some gone
+      → IsUntidy made left readings reader gone
+  IsUntidy-made {kept} {made} {staged} {left} {readings} {reader} {noted} {gone} was is taken puts had =
+      record {
+        kept_under = AreUnder-put puts (StandsFor-under reader noted was.staged_under is) was.kept_under;
+        staged_under = AreUnder-put taken tt was.staged_under;
+        places = HavePlaces-first taken (λ there. absurd (true≢false (sym there)))
+            (HavePlaces-then was.places (HavePlaces-put puts));
+        read = record {
+          each = λ other key stands. elim (was.read.each other key stands) [
+            | inl has ↦ elim (put_cases puts other) [
+              | inl tied ↦ inr (
+                tied,
+                keys_of_entry (note_at kept reader) gone key had
+                    (subst (λ r. HasNoted kept r key) (sym tied) has),
+              )
+              | inr same ↦ inl (inl (subst (λ e. HasKey e key) (sym same) has))
+            ]
+            | inr has ↦ elim (put_cases taken other) [
+              | inl tied ↦ inl (inl (now other key tied has))
+              | inr same ↦ inl (inr (subst (λ e. HasKey e key) (sym same) has))
+            ]
+          ];
+        };
+        needed = record {
+          each = λ other none. elim (put_cases puts other) [
+            | inl tied ↦ inr tied
+            | inr same ↦ elim (put_cases taken other) [
+              | inl tied ↦ inr tied
+              | inr left_same ↦ inl (subst IsSome (sym left_same)
+                  (was.needed.each other (sym same ∙ none)))
+            ]
+          ];
+        };
+      }
+    where
+      now : (other : Reader) (key : Key) → reader ≡ other → HasNoted staged other key
+          → HasNoted made other key
+      now other key tied has =
+          subst (λ r. HasNoted made r key) tied
+          (subst (λ e. HasKey e key) (is ∙ sym (put_here puts))
+          (subst (λ r. HasNoted staged r key) (sym tied) has))
 
   -- once all is made, nothing is staged, and what is recorded is what it came to
   pub MakesStaged-made : {old mid new : Stored (Noted T)} → ComesToSame old mid → ComesToSame mid new

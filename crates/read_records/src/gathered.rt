@@ -3,7 +3,7 @@ ghost use Rattle.shx_term.specs.Members.{Adds};
 ghost use Rattle.graph_view.specs.declared.key.Key.{Key};
 ghost use Rattle.read_records.specs.declared.posting.Posting.{Posting};
 ghost use Rattle.read_records.specs.inner.Postings.{place, posting};
-ghost use Rattle.read_records.specs.inner.Filing.{AddsOne, ChangesOne, HoldSame, Reading, Stands};
+ghost use Rattle.read_records.specs.inner.Filing.{AddsOne, AddsSome, ChangesOne, HoldSame, Reading, Stands};
 ghost use Rattle.read_records.specs.inner.Filing.{StandsUnderEach, StaysIn, no_postings};
 ghost use Rattle.read_records.specs.inner.Filing.{nothing_filed, reading};
 
@@ -142,6 +142,7 @@ impl Gathered {
     /// Adds a reader under each of these keys.
     pub(crate) fn add_all(&mut self, keys: &[Key], reader: Reader) -> Result<(), Memory>
         ensures stay { OnOk result (StaysIn self.old self.new) }
+        ensures only { OnOk result (AddsSome self.old self.new keys.now reader) }
         ensures added { OnOk result (StandsUnderEach self.new keys.now reader) }
     {
         for key in keys {

@@ -1,12 +1,13 @@
 //! Entries of readers: what is noted for each, and under which keys it stands for that.
-ghost use Rattle.std.specs.Prelude.{◌≡◌, ◌↔◌, Some, IsTrue, IsSome, IfOk, OnOk};
+ghost use Rattle.std.specs.Prelude.{◌≡◌, ◌↔◌, [], Some, IsTrue, IsSome, IfOk, OnOk};
 ghost use Rattle.std.specs.Option.{option_copied};
 ghost use Rattle.std.specs.BTreeMap.{Updates};
 ghost use Rattle.read_records.specs.Reader.{reader_cmp};
 ghost use Rattle.read_records.specs.Store.{note_at};
-ghost use Rattle.read_records.specs.inner.Notes.{AreUnder, HasKey, HasNoted, HavePlaces, SameNoted};
-ghost use Rattle.read_records.specs.inner.Notes.{StandsFor};
-ghost use Rattle.read_records.specs.inner.Filing.{Stands, StandsUnderEach, StaysIn, reading};
+ghost use Rattle.read_records.specs.inner.Notes.{AddsPlace, AreNeeded, AreNeededBut, AreUnder, HasKey};
+ghost use Rattle.read_records.specs.inner.Notes.{HasNoted, HavePlaces, HaveRead, HaveReadBut, IsStore};
+ghost use Rattle.read_records.specs.inner.Notes.{IsUntidy, SameNoted, StandsFor, keys_noted};
+ghost use Rattle.read_records.specs.inner.Filing.{AddsSome, Stands, StandsUnderEach, StaysIn, reading};
 ghost use Rattle.graph_view.specs.declared.key.Key.{Key};
 
 use crate::Reader;
@@ -50,6 +51,8 @@ pub(crate) fn enter_note<T: Drop>(
     ensures reads { SameNoted notes.old.entries notes.new.entries }
     ensures entries { HavePlaces notes.old.entries notes.new.entries }
     ensures readings { StaysIn readings.old readings.new }
+    ensures vacant { AddsPlace notes.old.entries notes.new.entries reader }
+    ensures only { AddsSome readings.old readings.new (keys_noted noted.now) reader }
     ensures entered { OnOk result (IsSome (note_at notes.new.entries reader)) }
     ensures stands { OnOk result (StandsFor readings.new noted.now reader) }
 {
@@ -69,6 +72,7 @@ fn enter_keys<T: Drop>(
 ) -> Result<(), Memory>
     requires { (key : Key) → HasKey (option_copied held) key → Stands readings.old (reading key reader) }
     ensures stay { StaysIn readings.old readings.new }
+    ensures only { AddsSome readings.old readings.new keys.now reader }
     ensures added { OnOk result (StandsUnderEach readings.new keys.now reader) }
 {
     for key in keys {
@@ -82,6 +86,7 @@ fn enter_keys<T: Drop>(
 fn make_place<T: Drop>(notes: &mut Notes<T>, reader: Reader) -> Result<(), Memory>
     ensures reads { SameNoted notes.old.entries notes.new.entries }
     ensures entries { HavePlaces notes.old.entries notes.new.entries }
+    ensures vacant { AddsPlace notes.old.entries notes.new.entries reader }
     ensures entered { OnOk result (IsSome (note_at notes.new.entries reader)) }
 {
     if !notes.contains_key(&reader) {
@@ -98,7 +103,8 @@ pub(crate) fn replace_note<T: Drop>(
     noted: Option<Noted<T>>,
 ) -> Option<Noted<T>>
     requires { IsSome (note_at notes.old.entries reader) }
-    ensures { Updates reader_cmp notes.old notes.new reader (Some noted) }
+    ensures put { Updates reader_cmp notes.old notes.new reader (Some noted) }
+    ensures gone { note_at notes.old.entries reader ≡ Some result }
 {
     match notes.insert(reader, noted) {
         Ok(Some(replaced)) => replaced,
@@ -106,16 +112,35 @@ pub(crate) fn replace_note<T: Drop>(
     }
 }
 
-/// Takes the entry of a reader out, where nothing is noted for it and it has none among the others. It takes
-/// no memory.
-pub(crate) fn vacate_place<T: Drop>(notes: &mut Notes<T>, others: &Notes<T>, reader: &Reader)
+/// Takes out what is held for a reader and not needed any longer, now that this went. It takes no memory.
+pub(crate) fn tidy<T: Drop>(
+    kept: &mut Notes<T>,
+    staged: &Notes<T>,
+    readings: &mut Filing,
+    reader: Reader,
+    gone: &Option<Noted<T>>,
+)
+    requires { IsUntidy kept.old.entries staged.now.entries readings.old reader gone.now }
+    ensures kept { SameNoted kept.old.entries kept.new.entries }
+    ensures tidied { IsStore kept.new.entries staged.now.entries readings.new }
+{
+    forget_note(readings, kept, staged, reader, gone);
+    vacate_place(kept, staged, &reader);
+}
+
+// Takes the entry of a reader out, where nothing is noted for it and it has none among the others. It takes
+// no memory.
+fn vacate_place<T: Drop>(notes: &mut Notes<T>, others: &Notes<T>, reader: &Reader)
     ensures reads { SameNoted notes.old.entries notes.new.entries }
     ensures entries { HavePlaces others.now.entries notes.old.entries
         → HavePlaces others.now.entries notes.new.entries }
+    ensures needed { AreNeededBut notes.old.entries others.now.entries reader.now
+        → AreNeeded notes.new.entries others.now.entries }
 {
     let is_vacant = match notes.get(reader) {
         Some(None) => !others.contains_key(reader),
-        _ => false,
+        Some(Some(_)) => false,
+        None => false,
     };
     if is_vacant {
         notes.remove(reader);
@@ -124,7 +149,8 @@ pub(crate) fn vacate_place<T: Drop>(notes: &mut Notes<T>, others: &Notes<T>, rea
 
 /// The readings of all that is noted.
 pub(crate) fn gathered_from<T: Drop>(alloc: Global, notes: &Notes<T>) -> Result<Gathered, Memory>
-    ensures { IfOk result (λ gathered. AreUnder notes.now.entries gathered) }
+    ensures under { IfOk result (λ gathered. AreUnder notes.now.entries gathered) }
+    ensures read { IfOk result (λ gathered. HaveRead notes.now.entries [] gathered) }
 {
     let mut gathered = Gathered::new(alloc);
     for (reader, noted) in notes {
@@ -135,9 +161,9 @@ pub(crate) fn gathered_from<T: Drop>(alloc: Global, notes: &Notes<T>) -> Result<
     Ok(gathered)
 }
 
-/// Takes a reader out from under the keys of what went, where it has not read them by either of its entries.
-/// It takes no memory.
-pub(crate) fn forget_note<T: Drop>(
+// Takes a reader out from under the keys of what went, where it has not read them by either of its entries.
+// It takes no memory.
+fn forget_note<T: Drop>(
     readings: &mut Filing,
     kept: &Notes<T>,
     staged: &Notes<T>,
@@ -146,6 +172,8 @@ pub(crate) fn forget_note<T: Drop>(
 )
     ensures kept { AreUnder kept.now.entries readings.old → AreUnder kept.now.entries readings.new }
     ensures staged { AreUnder staged.now.entries readings.old → AreUnder staged.now.entries readings.new }
+    ensures read { HaveReadBut kept.now.entries staged.now.entries readings.old reader (keys_noted gone.now)
+        → HaveRead kept.now.entries staged.now.entries readings.new }
 {
     let Some(noted) = gone else {
         return;

@@ -13,14 +13,12 @@ ghost use Rattle.read_records.specs.Recall.{pair_cmp};
 ghost use Rattle.read_records.specs.Store.{MakesStaged, SameNotes, SameStaged, StagesFor};
 ghost use Rattle.read_records.specs.Store.{coming_for, kept_for};
 ghost use Rattle.read_records.specs.inner.Masks.{AreStaged, MasksAmong};
-ghost use Rattle.read_records.specs.inner.Notes.{ComesToSame, HasNoted};
+ghost use Rattle.read_records.specs.inner.Notes.{AreFilled, ComesToSame, HasNoted};
 
 use crate::Reader;
 use crate::filing::Filing;
 use crate::noted::Noted;
-use crate::notes::{
-    Notes, enter_note, forget_note, gathered_from, has_noted, replace_note, vacate_place,
-};
+use crate::notes::{Notes, enter_note, gathered_from, has_noted, replace_note, tidy};
 use comp_core::Pair;
 use graph_view::Key;
 use shx_term::Memory;
@@ -42,14 +40,13 @@ pub(crate) struct Store<T: Drop> {
 impl<T: Drop> Model for Store<T> {
     ghost use Rattle.read_records.specs.declared.noted.Noted.{Noted};
     ghost use Rattle.read_records.specs.Store.{Stored};
-    ghost use Rattle.read_records.specs.inner.Notes.{AreUnder, HavePlaces};
+    ghost use Rattle.read_records.specs.inner.Notes.{IsStore};
 
     ghost Value = { Stored (Noted T) };
 
     ghost view = { λ a. record { kept = a.kept.entries; staged = a.staged.entries } };
 
-    ghost invariant = { λ a. AreUnder a.kept.entries a.readings × AreUnder a.staged.entries a.readings
-        × HavePlaces a.staged.entries a.kept.entries };
+    ghost invariant = { λ a. IsStore a.kept.entries a.staged.entries a.readings };
 }
 
 impl<T: Drop> Store<T> {
@@ -67,6 +64,7 @@ impl<T: Drop> Store<T> {
     /// This is kept, and nothing staged. The readings are gathered and sorted, which takes time `O(n log n)`
     /// for n keys, and memory for the readings twice more while they are sorted.
     pub(crate) fn of_kept(alloc: Global, kept: Notes<T>) -> Result<Store<T>, Memory>
+        requires { AreFilled kept.entries }
         ensures { IfOk result (λ made. made ≡ record { kept = kept.entries; staged = [] }) }
     {
         let readings = gathered_from(alloc, &kept)?.in_order(alloc)?;
@@ -159,14 +157,32 @@ impl<T: Drop> Store<T> {
         ensures refused { OnErr result (SameStaged self.old self.new) }
     {
         if let Err(refused) = enter_note(&mut self.kept, &mut self.readings, reader, &noted) {
-            self.tidy(reader, &noted);
+            tidy(
+                &mut self.kept,
+                &self.staged,
+                &mut self.readings,
+                reader,
+                &noted,
+            );
             return Err(refused);
         }
         match self.staged.insert(reader, noted) {
-            Ok(Some(replaced)) => self.tidy(reader, &replaced),
+            Ok(Some(replaced)) => tidy(
+                &mut self.kept,
+                &self.staged,
+                &mut self.readings,
+                reader,
+                &replaced,
+            ),
             Ok(None) => {}
             Err(AllocFailed { value: (_, noted) }) => {
-                self.tidy(reader, &noted);
+                tidy(
+                    &mut self.kept,
+                    &self.staged,
+                    &mut self.readings,
+                    reader,
+                    &noted,
+                );
                 return Err(AllocError);
             }
         }
@@ -198,15 +214,6 @@ impl<T: Drop> Store<T> {
         Ok(())
     }
 
-    /// Takes out what is held for a reader and not needed any longer, now that this went.
-    fn tidy(&mut self, reader: Reader, gone: &Option<Noted<T>>)
-        ensures kept { SameNotes self.old self.new }
-        ensures staged { self.new.staged ≡ self.old.staged }
-    {
-        forget_note(&mut self.readings, &self.kept, &self.staged, reader, gone);
-        vacate_place(&mut self.kept, &self.staged, &reader);
-    }
-
     /// Makes what is staged, and then nothing is staged. It takes no memory, and logarithmic time for each
     /// key of what was kept.
     pub(crate) fn commit(&mut self)
@@ -227,7 +234,13 @@ impl<T: Drop> Store<T> {
             return false;
         };
         let replaced = replace_note(&mut self.kept, reader, noted);
-        self.tidy(reader, &replaced);
+        tidy(
+            &mut self.kept,
+            &self.staged,
+            &mut self.readings,
+            reader,
+            &replaced,
+        );
         true
     }
 
@@ -236,8 +249,25 @@ impl<T: Drop> Store<T> {
         ensures kept { SameNotes self.old self.new }
         ensures staged { self.new.staged ≡ [] }
     {
-        while let Some((reader, noted)) = self.staged.pop_first() {
-            self.tidy(reader, &noted);
-        }
+        while self.drop_first() {}
+    }
+
+    /// Forgets the first of what is staged, where there is something.
+    fn drop_first(&mut self) -> bool
+        ensures kept { SameNotes self.old self.new }
+        ensures fewer { OnTrue result (length self.old.staged ≡ length self.new.staged + 1) }
+        ensures done { OnFalse result (self.new.staged ≡ []) }
+    {
+        let Some((reader, noted)) = self.staged.pop_first() else {
+            return false;
+        };
+        tidy(
+            &mut self.kept,
+            &self.staged,
+            &mut self.readings,
+            reader,
+            &noted,
+        );
+        true
     }
 }

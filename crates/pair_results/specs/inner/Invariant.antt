@@ -1,5 +1,6 @@
--- What is true of all that is kept: whatever is staged has its place, and the counts are right.
-use Rattle.std.specs.Prelude.{◌≡◌, ℕ, ◌+◌, ◌<◌, ◌≤◌, ◌^◌, false, ◌&&◌, ◌==◌, List, length, flat_map}
+-- What is true of all that is kept: whatever is staged has its place, no other place is empty, and the counts
+-- are right.
+use Rattle.std.specs.Prelude.{◌≡◌, ℕ, ◌+◌, ◌<◌, ◌≤◌, ◌^◌, false, ◌&&◌, ◌==◌, List, [], length, flat_map}
 use Rattle.std.specs.Prelude.{if◌then◌else◌, Some, IsSome}
 use Rattle.std.specs.Map.{lookup}
 use Rattle.std.specs.Ordering.{eq_by_cmp}
@@ -23,9 +24,15 @@ pub record HavePlaces (kept : Kept) : Type 0 where
   pub each : (shape : ℕ) (node : Term) → IsSome (staged_at kept shape node)
       → IsSome (place_of (nodes_of kept shape) node)
 
+-- a node that has a place has results, or some are staged for it
+pub record AreNeeded (kept : Kept) : Type 0 where
+  pub each : (shape : ℕ) (node : Term) → place_of (nodes_of kept shape) node ≡ Some []
+      → IsSome (staged_at kept shape node)
+
 pub record IsCounted (kept : Kept) (count coming : ℕ) : Type 0 where
   pub ordered : AreInTermOrder kept
   pub places : HavePlaces kept
+  pub needed : AreNeeded kept
   pub counted : count ≡ length (all_rows kept)
   pub staged : length (staged_rows kept) ≤ coming
   pub fits : count + coming < 2 ^ 64
@@ -46,7 +53,11 @@ pub record SameRowsIn (old new : Nodes) : Type 0 where
 pub record KeepPlaces (old new : Nodes) : Type 0 where
   pub each : (node : Term) → IsSome (place_of old node) → IsSome (place_of new node)
 
--- every node but one that has a place keeps it
-pub record KeepOtherPlaces (node : Term) (old new : Nodes) : Type 0 where
-  pub each : (other : Term) → eq_by_cmp term_cmp node other ≡ false → IsSome (place_of old other)
-      → IsSome (place_of new other)
+-- every node but one has the place that it had, or none
+pub record SameOtherPlaces (node : Term) (old new : Nodes) : Type 0 where
+  pub each : (other : Term) → eq_by_cmp term_cmp node other ≡ false
+      → place_of new other ≡ place_of old other
+
+-- a node that has a place has results
+abbrev pub IsFilled : Nodes → Term → Type 0
+IsFilled nodes node = place_of nodes node ≡ Some [] → ⊥

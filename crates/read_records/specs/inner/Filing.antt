@@ -80,6 +80,10 @@ pub record IsLeft (old new : Filed) (gone : Reading) : Type 0 where
 pub record StaysIn (old new : Filed) : Type 0 where
   pub each : (x : Reading) → Stands old x → Stands new x
 
+-- one reader may stand under some of these keys, and else nobody where they did not
+pub record AddsSome (old new : Filed) (keys : List Key) (reader : Reader) : Type 0 where
+  pub each : (x : Reading) → Stands new x → Stands old x ⊎ ((reader ≡ x.reader) × Contains keys x.key)
+
 -- the reader stands under each of the keys
 pub record StandsUnderEach (readings : Filed) (keys : List Key) (reader : Reader) : Type 0 where
   pub each : (key : Key) → Contains keys key → Stands readings (reading key reader)

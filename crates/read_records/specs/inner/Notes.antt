@@ -1,6 +1,6 @@
 -- Notes of readers: a value and the keys that were read for it; and whether whoever has read a key stands
 -- under it.
-use Rattle.std.specs.Prelude.{◌≡◌, List, Option, Some, None, Contains, IsSome, map}
+use Rattle.std.specs.Prelude.{◌≡◌, List, [], Option, Some, None, Contains, IsSome, ◌⊎◌, map}
 use Rattle.std.specs.Option.{option_map}
 use Rattle.graph_view.specs.declared.key.Key.{Key}
 use Rattle.read_records.specs.declared.noted.Noted.{Noted}
@@ -48,6 +48,63 @@ module _ {T : Type 0} where
   -- whoever has an entry among the first has one among the second
   pub record HavePlaces (first second : Notes (Noted T)) : Type 0 where
     pub each : (reader : Reader) → IsSome (note_at first reader) → IsSome (note_at second reader)
+
+  -- ---- that no more is held than is needed
+
+  -- the keys of what is noted, if anything is
+  abbrev pub keys_noted : Option (Noted T) → List Key
+  keys_noted None = []
+  keys_noted (Some noted) = noted.reads
+
+  -- whoever stands under a key has read it, by one of two entries
+  pub record HaveRead (kept staged : Notes (Noted T)) (readings : Filed) : Type 0 where
+    pub each : (reader : Reader) (key : Key) → Stands readings (reading key reader)
+        → HasNoted kept reader key ⊎ HasNoted staged reader key
+
+  -- the same, but that one reader may stand under these keys
+  pub record HaveReadBut (kept staged : Notes (Noted T)) (readings : Filed) (reader : Reader)
+      (keys : List Key) : Type 0 where
+    pub each : (other : Reader) (key : Key) → Stands readings (reading key other)
+        → (HasNoted kept other key ⊎ HasNoted staged other key) ⊎ ((reader ≡ other) × Contains keys key)
+
+  -- something is noted for whoever has an entry
+  pub record AreFilled (notes : Notes (Noted T)) : Type 0 where
+    pub each : (reader : Reader) → note_at notes reader ≡ Some None → ⊥
+
+  -- an entry where nothing is noted is there for one among others
+  pub record AreNeeded (notes others : Notes (Noted T)) : Type 0 where
+    pub each : (reader : Reader) → note_at notes reader ≡ Some None → IsSome (note_at others reader)
+
+  -- the same, but for one reader
+  pub record AreNeededBut (notes others : Notes (Noted T)) (reader : Reader) : Type 0 where
+    pub each : (other : Reader) → note_at notes other ≡ Some None
+        → IsSome (note_at others other) ⊎ (reader ≡ other)
+
+  -- an entry is made for one reader at most, where nothing is noted
+  pub record AddsPlace (old new : Notes (Noted T)) (reader : Reader) : Type 0 where
+    pub each : (other : Reader) → note_at new other ≡ Some None
+        → (note_at old other ≡ Some None) ⊎ (reader ≡ other)
+
+  -- ---- what is kept, what is staged, and the readings of both
+
+  -- what is always so
+  pub record IsStore (kept staged : Notes (Noted T)) (readings : Filed) : Type 0 where
+    pub kept_under : AreUnder kept readings
+    pub staged_under : AreUnder staged readings
+    pub places : HavePlaces staged kept
+    pub read : HaveRead kept staged readings
+    pub needed : AreNeeded kept staged
+
+  -- and where something of a reader went, which may have left its keys and an entry behind
+  pub record IsUntidy (kept staged : Notes (Noted T)) (readings : Filed) (reader : Reader)
+      (gone : Option (Noted T)) : Type 0 where
+    pub kept_under : AreUnder kept readings
+    pub staged_under : AreUnder staged readings
+    pub places : HavePlaces staged kept
+    pub read : HaveReadBut kept staged readings reader (keys_noted gone)
+    pub needed : AreNeededBut kept staged reader
+
+  -- ---- what changes
 
   -- the same stands for each
   pub record SameNoted (old new : Notes (Noted T)) : Type 0 where

@@ -1,7 +1,9 @@
 use Rattle.std.specs.Prelude.{◌≡◌, None}
 use Rattle.std.proofs.Common.{sym, ◌∙◌, subst}
 use Rattle.pair_results.specs.PairResults.{place_of}
-use Rattle.pair_results.proofs.NodeLemmas.{all-inserted, none_of, KeepPlaces-added, SameRowsIn-added}
+use Rattle.pair_results.specs.inner.Invariant.{SameOtherPlaces}
+use Rattle.pair_results.proofs.NodeLemmas.{all-inserted, none_of, KeepPlaces-added}
+use Rattle.pair_results.proofs.NodeLemmas.{SameOtherPlaces-added, SameRowsIn-added}
 use Rattle.pair_results.proofs.nodes.make_place.Goals as goal
 
 -- where a place was added, there was none
@@ -20,6 +22,12 @@ pub returns-clause-places : goal.returns-clause-places
 returns-clause-places c =
     KeepPlaces-added _ _ _ _ (c.new-rows.ensures ∙ c.new.ensures.items) (absent c)
     c.in_ok-insert.ensures.updates.0
+
+pub returns-clause-others : goal.returns-clause-others
+returns-clause-others c =
+    subst (λ node. SameOtherPlaces node c.args.nodes.now.entries c.insert.new.self.entries) c.in_ok-copy.ensures
+    (SameOtherPlaces-added _ _ _ _ (c.new-rows.ensures ∙ c.new.ensures.items) (absent c)
+    c.in_ok-insert.ensures.updates.0)
 
 pub returns-clause-all : goal.returns-clause-all
 returns-clause-all c =

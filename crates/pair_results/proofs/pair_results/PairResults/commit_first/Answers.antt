@@ -36,7 +36,8 @@ invariant_of-self-2 c =
     let takes = TakesFirst-popped _ _ _ _ c.in-Some.ensures.removal c.in-Some.ensures.updates.1 in
     let inside = within_trees _ _ (first_within _ _ _ _ _ takes c.self.invariant.places) in
     let same = nodes_indexed _ _ _ inside c.index_mut-nodes.ensures.value in
-    let makes = Makes-put _ _ _ _ _ c.put-gone.ensures.put.0 c.vacate.ensures.rows c.vacate.ensures.others in
+    let makes = Makes-put _ _ _ _ _ c.put-gone.ensures.put.0 c.vacate.ensures.rows c.vacate.ensures.others
+    c.vacate.ensures.filled in
     rw map-set
     (IsCounted-made _ _ _ _ _ takes c.self.invariant.places _ _ same makes _ _ _ _ c.self.invariant
     (c.vacate.ensures.ordered (c.put-gone.ensures.ordered
@@ -51,6 +52,7 @@ returns-clause-changes c =
     let takes = TakesFirst-popped _ _ _ _ c.in-Some.ensures.removal c.in-Some.ensures.updates.1 in
     let inside = within_trees _ _ (first_within _ _ _ _ _ takes c.self.invariant.places) in
     let same = nodes_indexed _ _ _ inside c.index_mut-nodes.ensures.value in
-    let makes = Makes-put _ _ _ _ _ c.put-gone.ensures.put.0 c.vacate.ensures.rows c.vacate.ensures.others in
+    let makes = Makes-put _ _ _ _ _ c.put-gone.ensures.put.0 c.vacate.ensures.rows c.vacate.ensures.others
+    c.vacate.ensures.filled in
     rw (← c.self.view_is, map-set)
     (SameChanges-made _ _ _ _ _ takes c.self.invariant.places _ _ same makes)

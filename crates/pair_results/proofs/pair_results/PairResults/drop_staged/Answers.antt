@@ -30,5 +30,5 @@ loop-place-preserved c =
           (IsCounted-taken _ _ _ _ _ takes places _ _ same _ _ c.loop-place.invariant.counted
           (c.vacate.ensures.ordered (subst IsInOrder same
           (nodes_sorted _ _ c.loop-place.invariant.counted.ordered)))
-          c.vacate.ensures.others c.vacate.ensures.all);
+          c.vacate.ensures.others c.vacate.ensures.filled c.vacate.ensures.all);
     }

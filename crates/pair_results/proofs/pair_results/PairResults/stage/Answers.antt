@@ -5,8 +5,8 @@ use Rattle.std.proofs.lemmas.List.{set-set}
 use Rattle.pair_results.specs.PairResults.{place_of, Kept}
 use Rattle.pair_results.proofs.NodeLemmas.{empty_if, none_if, none_of}
 use Rattle.pair_results.proofs.ShapeLemmas.{entries_of, nodes_indexed, within_trees}
-use Rattle.pair_results.proofs.StageLemmas.{IsCounted-grown, IsCounted-lost, IsCounted-staged}
-use Rattle.pair_results.proofs.StageLemmas.{KeepOtherPlaces-then, SameChanges-stored, SameRows-stored}
+use Rattle.pair_results.proofs.StageLemmas.{IsCounted-lost, IsCounted-same, IsCounted-staged}
+use Rattle.pair_results.proofs.StageLemmas.{SameOtherPlaces-then, SameChanges-stored, SameRows-stored}
 use Rattle.pair_results.proofs.StageLemmas.{SameRowsIn-then, Stages-nothing, Stages-stored, Vacates}
 use Rattle.pair_results.proofs.StageLemmas.{Vacates-set}
 use Rattle.pair_results.proofs.StageLemmas.{on_any_Err}
@@ -27,9 +27,9 @@ returns-then-not-contains_key-clause-staged c =
 
 pub invariant_of-self : goal.invariant_of-self
 invariant_of-self c =
-    IsCounted-grown _ _ _ _ c.self.view_is _ c.requires _ _ c.index_mut.ensures.value _ _ _ _ c.self.invariant
+    IsCounted-same _ _ _ _ c.self.view_is _ c.requires _ _ c.index_mut.ensures.value _ _ _ _ c.self.invariant
     c.in_err-is_new.ensures.ordered c.in_err-is_new.ensures.all c.in_ok-self-inside.ensures.enough
-    c.in_ok-self-inside.ensures.fits refl c.in_err-is_new.ensures.places
+    c.in_ok-self-inside.ensures.fits refl c.in_err-is_new.ensures.refused
 
 pub returns-in_err-is_new-clause-kept : goal.returns-in_err-is_new-clause-kept
 returns-in_err-is_new-clause-kept c =
@@ -51,6 +51,7 @@ vacated c =
     Vacates-set _ _ _ _ _ _ (within_trees _ _ inside) c.index_mut-then-is_new.ensures.value (record {
       rows = c.vacate.ensures.rows;
       others = c.vacate.ensures.others;
+      filled = c.vacate.ensures.filled;
       all = c.vacate.ensures.all;
       ordered = c.vacate.ensures.ordered;
     })
@@ -63,14 +64,14 @@ invariant_of-self-then-is_new c =
     (λ sorted. vacates.ordered (c.make_place.ensures.ordered sorted))
     (vacates.all ∙ c.make_place.ensures.all) c.in_ok-self-inside.ensures.enough
     c.in_ok-self-inside.ensures.fits _ c.in-Err.ensures.refused
-    (KeepOtherPlaces-then _ _ _ _ c.make_place.ensures.places vacates.others)
+    (SameOtherPlaces-then _ _ _ _ c.make_place.ensures.others vacates.others) vacates.filled
     (none_if _ (sym c.in_ok-is_new.ensures.new ∙ c.if-is_new.true)))
 
 pub invariant_of-self-else-is_new : goal.invariant_of-self-else-is_new
 invariant_of-self-else-is_new c =
-    IsCounted-grown _ _ _ _ c.self.view_is _ c.requires _ _ c.index_mut.ensures.value _ _ _ _ c.self.invariant
+    IsCounted-same _ _ _ _ c.self.view_is _ c.requires _ _ c.index_mut.ensures.value _ _ _ _ c.self.invariant
     c.make_place.ensures.ordered c.make_place.ensures.all c.in_ok-self-inside.ensures.enough
-    c.in_ok-self-inside.ensures.fits c.in-Err.ensures.refused c.make_place.ensures.places
+    c.in_ok-self-inside.ensures.fits c.in-Err.ensures.refused (c.in_ok-is_new.ensures.held c.if-is_new.false)
 
 pub returns-then-is_new-clause-kept : goal.returns-then-is_new-clause-kept
 returns-then-is_new-clause-kept c =
@@ -101,7 +102,7 @@ invariant_of-self-in_default c =
     IsCounted-staged _ _ _ _ c.self.view_is _ c.requires _ _ c.index_mut.ensures.value _ _ _ _
     c.self.invariant c.make_place.ensures.ordered c.make_place.ensures.all c.in_ok-self-inside.ensures.enough
     c.in_ok-self-inside.ensures.fits _ _ c.in_default.ensures.staged c.len.ensures c.make_place.ensures.places
-    c.in_ok-is_new.ensures.made
+    c.make_place.ensures.others c.in_ok-is_new.ensures.made
 
 pub returns-clause-kept : goal.returns-clause-kept
 returns-clause-kept c =

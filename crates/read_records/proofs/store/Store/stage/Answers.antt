@@ -1,33 +1,54 @@
-use Rattle.read_records.proofs.StoreLemmas.{IsStore-entered, IsStore-staged}
+use Rattle.std.proofs.Common.{sym, ap, ◌∙◌, subst}
+use Rattle.read_records.specs.Store.{if_noted}
+use Rattle.read_records.specs.inner.Notes.{IsUntidy}
+use Rattle.read_records.proofs.StoreLemmas.{IsStore-held, IsUntidy-entered, IsUntidy-staged, some_put}
 use Rattle.read_records.proofs.store.Store.stage.Goals as goal
 
-pub invariant_of-self-in-Ok-Some : goal.invariant_of-self-in-Ok-Some
-invariant_of-self-in-Ok-Some g c =
-    IsStore-staged c.self.invariant
-    (record { reads = c.enter_note.ensures.reads; entries = c.enter_note.ensures.entries })
-    c.enter_note.ensures.readings c.in_default.ensures.entered c.in_default.ensures.stands
-    (record { each = c.in-Ok-Some.ensures.updates.0 })
+pub tidy-requires : goal.tidy-requires
+tidy-requires g c =
+    IsUntidy-entered c.self.invariant (record {
+      reads = c.enter_note.ensures.reads;
+      entries = c.enter_note.ensures.entries;
+      stays = c.enter_note.ensures.readings;
+      vacant = c.enter_note.ensures.vacant;
+      only = c.enter_note.ensures.only;
+    })
+
+pub tidy-requires-in-Err-insert : goal.tidy-requires-in-Err-insert
+tidy-requires-in-Err-insert g c =
+    let untidy = IsUntidy-entered c.self.invariant (record {
+      reads = c.enter_note.ensures.reads;
+      entries = c.enter_note.ensures.entries;
+      stays = c.enter_note.ensures.readings;
+      vacant = c.enter_note.ensures.vacant;
+      only = c.enter_note.ensures.only;
+    }) in
+    rw c.in-Err-insert.ensures.err
+    (subst (IsUntidy _ _ _ c.args.reader) (sym (ap (λ e. e.1) c.in-Err-insert.ensures.value_returned)) untidy)
+
+pub tidy-requires-in-Ok-Some : goal.tidy-requires-in-Ok-Some
+tidy-requires-in-Ok-Some g c =
+    let untidy = IsUntidy-staged c.self.invariant (record {
+      reads = c.enter_note.ensures.reads;
+      entries = c.enter_note.ensures.entries;
+      stays = c.enter_note.ensures.readings;
+      vacant = c.enter_note.ensures.vacant;
+      only = c.enter_note.ensures.only;
+    }) c.in_default.ensures.entered c.in_default.ensures.stands
+    (record { each = c.in-Ok-Some.ensures.updates.0 }) in
+    subst (IsUntidy _ _ _ c.args.reader)
+    (sym (ap if_noted c.in-Ok-Some.ensures.old) ∙ ap if_noted c.in-Ok-Some.field-0-is) untidy
 
 pub invariant_of-self-in-Ok-None : goal.invariant_of-self-in-Ok-None
 invariant_of-self-in-Ok-None g c =
-    IsStore-staged c.self.invariant
-    (record { reads = c.enter_note.ensures.reads; entries = c.enter_note.ensures.entries })
-    c.enter_note.ensures.readings c.in_default.ensures.entered c.in_default.ensures.stands
-    (record { each = c.in-Ok-None.ensures.updates.0 })
-
-pub returns-in-Ok-Some-clause-staged : goal.returns-in-Ok-Some-clause-staged
-returns-in-Ok-Some-clause-staged g c = record {
-  each = λ other.
-      rw (c.tidy-in-Ok-Some.ensures.staged, ← c.self.view_is) (c.in-Ok-Some.ensures.updates.0 other);
-}
-
-pub invariant_of-self : goal.invariant_of-self
-invariant_of-self g c =
-    IsStore-entered c.self.invariant c.enter_note.ensures.reads c.enter_note.ensures.entries
-    c.enter_note.ensures.readings
-
-pub invariant_of-self-in-Err-insert : goal.invariant_of-self-in-Err-insert
-invariant_of-self-in-Err-insert g c =
-    rw c.in-Err-insert.ensures.err
-    (IsStore-entered c.self.invariant c.enter_note.ensures.reads c.enter_note.ensures.entries
-    c.enter_note.ensures.readings)
+    let puts = c.in-Ok-None.ensures.updates.0 in
+    IsStore-held (IsUntidy-staged c.self.invariant (record {
+      reads = c.enter_note.ensures.reads;
+      entries = c.enter_note.ensures.entries;
+      stays = c.enter_note.ensures.readings;
+      vacant = c.enter_note.ensures.vacant;
+      only = c.enter_note.ensures.only;
+    }) c.in_default.ensures.entered c.in_default.ensures.stands
+    (record { each = puts }))
+    (sym (ap if_noted c.in-Ok-None.ensures.old) ∙ ap if_noted c.in-Ok-None.field-0-is)
+    (some_put (record { each = puts }))

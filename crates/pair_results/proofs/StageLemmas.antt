@@ -184,8 +184,8 @@ module _ (shapes : List Nodes) (staged left : Staged) (shape : ℕ) (inside : sh
           (by_shape shapes staged left shape es inside
           (λ m list. place_of list other ≡ Some [] → IsSome (lookup (is_at m other) staged))
           (λ here. needed.each shape other
-          (ap (λ m. place_of m other) (same ∙ sym same_nodes) ∙ here)) (λ m _ there. needed.each m other there)
-          n empty);
+          (ap (λ m. place_of m other) (same ∙ sym same_nodes) ∙ here))
+          (λ m _ there. needed.each m other there) n empty);
     }
 
     -- the place of one is lost

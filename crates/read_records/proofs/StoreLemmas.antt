@@ -300,7 +300,8 @@ module _ {T : Type 0} where
 
   -- and else goes
   pub HaveReadBut-left : {kept staged : Notes (Noted T)} {old new : Filed} (reader : Reader)
-      (keys : List Key) (i : ℕ) (d : Key) → i < length keys → IsLeft old new (reading (get_or keys i d) reader)
+      (keys : List Key) (i : ℕ) (d : Key) → i < length keys
+      → IsLeft old new (reading (get_or keys i d) reader)
       → HaveReadBut kept staged old reader (drop i keys)
       → HaveReadBut kept staged new reader (drop (i + 1) keys)
   HaveReadBut-left reader keys i d inside left before =
@@ -438,7 +439,8 @@ module _ {T : Type 0} where
       → IsSome (note_at entered reader) → StandsFor new noted reader
       → Puts staged changed reader (Some noted)
       → IsUntidy entered changed new reader (if_noted (note_at staged reader))
-  IsUntidy-staged {kept} {entered} {staged} {changed} {old} {new} {reader} {noted} was enters there stands puts =
+  IsUntidy-staged {kept} {entered} {staged} {changed} {old} {new} {reader} {noted} was enters there stands
+      puts =
       record {
         kept_under = before.kept_under;
         staged_under = AreUnder-put puts stands before.staged_under;

@@ -25,8 +25,8 @@ returns-clause-places c =
 
 pub returns-clause-others : goal.returns-clause-others
 returns-clause-others c =
-    subst (λ node. SameOtherPlaces node c.args.nodes.now.entries c.insert.new.self.entries) c.in_ok-copy.ensures
-    (SameOtherPlaces-added _ _ _ _ (c.new-rows.ensures ∙ c.new.ensures.items) (absent c)
+    subst (λ node. SameOtherPlaces node c.args.nodes.now.entries c.insert.new.self.entries)
+    c.in_ok-copy.ensures (SameOtherPlaces-added _ _ _ _ (c.new-rows.ensures ∙ c.new.ensures.items) (absent c)
     c.in_ok-insert.ensures.updates.0)
 
 pub returns-clause-all : goal.returns-clause-all

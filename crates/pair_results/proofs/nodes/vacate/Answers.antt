@@ -7,7 +7,8 @@ use Rattle.pair_results.proofs.nodes.vacate.Goals as goal
 
 -- what is taken out has no results
 empty : (c : goal.Joined-remove) → rows_in c.args.nodes.now.entries c.args.node.now ≡ []
-empty c = sym c.rows_in.ensures ∙ empty_of c.rows_in.result.now (sym c.is_empty-is_vacant.ensures ∙ c.if-is_vacant.true)
+empty c = sym c.rows_in.ensures
+    ∙ empty_of c.rows_in.result.now (sym c.is_empty-is_vacant.ensures ∙ c.if-is_vacant.true)
 
 pub returns-then-is_vacant-clause-rows : goal.returns-then-is_vacant-clause-rows
 returns-then-is_vacant-clause-rows c = SameRowsIn-removed _ _ _ c.remove.ensures.updates.0 (empty c)

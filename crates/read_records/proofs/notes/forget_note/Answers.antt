@@ -1,7 +1,9 @@
 use Rattle.read_records.proofs.StoreLemmas.{HaveReadBut-kept, HaveReadBut-left, HaveReadBut-staged}
 use Rattle.read_records.proofs.StoreLemmas.{KeepsUnder-left}
 use Rattle.read_records.proofs.notes.forget_note.Goals.{then-not-has_key+then-not-has_key-2, else-not-has_key}
-use Rattle.read_records.proofs.notes.forget_note.Goals.{else-not-has_key-via-then-not-has_key+else-not-has_key-2}
+use Rattle.read_records.proofs.notes.forget_note.Goals.{
+  else-not-has_key-via-then-not-has_key+else-not-has_key-2,
+}
 use Rattle.read_records.proofs.notes.forget_note.Goals.{else-not-has_key-via-else-not-has_key}
 use Rattle.std.proofs.Common.{refl}
 use Rattle.read_records.proofs.notes.forget_note.Goals as goal

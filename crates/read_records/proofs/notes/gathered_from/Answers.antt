@@ -1,7 +1,7 @@
 use Rattle.std.proofs.Common.{sym, ◌∙◌, subst, inl}
-use Rattle.read_records.proofs.GatheredLemmas.{AreGathered-next, AreOfEntries-next, AreOfEntries-none, at_noted}
+use Rattle.read_records.proofs.GatheredLemmas.{AreGathered-next, AreOfEntries-next, AreOfEntries-none}
 use Rattle.read_records.proofs.GatheredLemmas.{AreOfEntries-skip, AreUnder-gathered, HaveRead-gathered}
-use Rattle.read_records.proofs.GatheredLemmas.{same_noted}
+use Rattle.read_records.proofs.GatheredLemmas.{at_noted, same_noted}
 use Rattle.read_records.proofs.ReadingLemmas.{StaysIn-itself}
 use Rattle.read_records.specs.inner.Filing.{AddsSome, StandsUnderEach}
 use Rattle.read_records.proofs.notes.gathered_from.Goals as goal

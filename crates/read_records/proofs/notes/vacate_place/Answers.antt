@@ -1,7 +1,8 @@
 use Rattle.std.specs.Prelude.{◌≡◌, Some, None}
 use Rattle.std.proofs.Common.{sym, ap, ◌∙◌}
 use Rattle.std.specs.Option.{option_copied}
-use Rattle.read_records.proofs.StoreLemmas.{AreNeeded-held, AreNeeded-vacated, HavePlaces-vacated, SameNoted-put}
+use Rattle.read_records.proofs.StoreLemmas.{AreNeeded-held, AreNeeded-vacated, HavePlaces-vacated}
+use Rattle.read_records.proofs.StoreLemmas.{SameNoted-put}
 use Rattle.read_records.proofs.StoreLemmas.{none_there, not_vacant, some_there}
 use Rattle.read_records.specs.Store.{note_at, if_noted}
 use Rattle.read_records.proofs.notes.vacate_place.Goals.{in-Some-None, in-Some-Some, in-None}
@@ -36,7 +37,8 @@ returns-then-is_vacant-clause-needed g c =
 pub returns-else-is_vacant-clause-needed : goal.returns-else-is_vacant-clause-needed
 returns-else-is_vacant-clause-needed g c =
     AreNeeded-held (elim c.match-get.branch [
-      | in-Some-None w ↦ λ _. some_there _ _ w.contains_key.ensures (sym w.is_vacant-is ∙ c.if-is_vacant.false)
+      | in-Some-None w ↦ λ _.
+          some_there _ _ w.contains_key.ensures (sym w.is_vacant-is ∙ c.if-is_vacant.false)
       | in-Some-Some w ↦ λ is. absurd (not_vacant _ (sym is ∙ sym c.get.ensures.value
           ∙ ap option_copied w.in-Some-Some.is ∙ ap Some w.in-Some-Some.field-0-is))
       | in-None w ↦ λ is. absurd (let e = sym c.get.ensures.value ∙ ap option_copied w.in-None.is in cc)

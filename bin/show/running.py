@@ -21,7 +21,7 @@ class NotRun(Exception):
 
 def ended(words, **others):
     """What the program writes, and the status that it ends with. What its words name may be open files."""
-    program = os.environ.get("SHACL_KEEP", BESIDE)
+    program = os.environ.get("SHACL_KEEP") or (BESIDE if os.path.exists(BESIDE) else "shacl_keep")
     try:
         ran = subprocess.run([program, *words], stdout=subprocess.PIPE, close_fds=False, check=False,
                              **others)

@@ -5,7 +5,7 @@ _shacl_keep() {
     _init_completion -s || return
     case $prev in
         --format)
-            mapfile -t COMPREPLY < <(compgen -W 'lines turtle' -- "$cur")
+            COMPREPLY=($(compgen -W 'lines turtle' -- "$cur"))
             return
             ;;
         --base)
@@ -13,7 +13,7 @@ _shacl_keep() {
             ;;
     esac
     if [[ $cur == -* ]]; then
-        mapfile -t COMPREPLY < <(compgen -W '--format --base --' -- "$cur")
+        COMPREPLY=($(compgen -W '--format --base --' -- "$cur"))
     else
         _filedir
     fi

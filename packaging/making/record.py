@@ -1,0 +1,26 @@
+"""RELEASE: what a release was made from, and what it holds, one fact a line."""
+
+from collections.abc import Iterator, Mapping, Sequence
+from pathlib import Path
+
+from .checkout import crates_below, output_of, sha256, version
+from .contents import PROGRAMS
+from .verdicts import verdict_lines
+
+
+def measured(file: Path) -> str:
+    """The checksum and the size of a file."""
+    content = file.read_bytes()
+    return f"{sha256(content)} {len(content)}"
+
+
+def lines(programs: Mapping[str, Path], packages: Sequence[Path], logs: Sequence[Path]) -> Iterator[str]:
+    crates = crates_below(PROGRAMS)
+    yield f"version {version()}"
+    yield f"kit {output_of('rt', 'version').strip()}"
+    yield f"sources {output_of('bin/source_sum', *crates).strip()}"
+    for name, file in programs.items():
+        yield f"program {name} {measured(file)}"
+    for file in packages:
+        yield f"package {file.name} {measured(file)}"
+    yield from verdict_lines(crates, logs)

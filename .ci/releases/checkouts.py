@@ -33,7 +33,7 @@ def expected():
 def fresh(folder):
     """A fresh checkout of what is committed."""
     checkout = Path(tempfile.mkdtemp(dir=folder)) / "checkout"
-    subprocess.run(["git", "clone", "-q", "--depth", "1", f"file://{TOP}", checkout], check=True)
+    subprocess.run(["git", "clone", "-q", TOP, checkout], check=True)
     return checkout
 
 

@@ -74,7 +74,7 @@ class Command:
 
 
 class Proof(Command):
-    """The proof of one crate, in a copy of what it stands on: two proofs in one folder wait for each other."""
+    """The proof of one crate, in a copy of what it stands on: two in one folder wait for each other."""
 
     def __init__(self, crate: str, below: Iterable[str], jobs: int, rooms: Path) -> None:
         room = Path(tempfile.mkdtemp(prefix=f"{crate}-", dir=rooms))

@@ -1,4 +1,4 @@
-"""The limits of the program (README, "How a run ends") that a small text reaches: what is at the limit is
+"""The limits of the program (docs/REFERENCE.md, "Limits") that a small text reaches: what is at the limit is
 answered, and one more is refused. `runs` has those of brackets, of nesting and of references. A `main` that
 runs with smaller limits, or larger ones, is refused by these; `large` alone says something of the number of
 triples and terms and of the bytes of a text, whose limits no small text reaches."""

@@ -2,7 +2,7 @@
 such run ends with 5, and what it put is a front of what is due.
 
 That is so of a pipe without a reader too, however the caller has set SIGPIPE: the program ignores it, so the
-write fails and no signal ends the run. Otherwise the run would have no status of the README's.
+write fails and no signal ends the run. Otherwise the run would have no status that docs/REFERENCE.md has.
 """
 
 import os

@@ -1,4 +1,5 @@
 """The words of shacl_show: its own options, and those that are passed on to the program."""
+from pathlib import Path
 from typing import NamedTuple, Optional
 
 HELP = """usage: shacl_show [--html FILE] [--base IRI] [--] SHAPES DATA [SCRIPT]
@@ -13,6 +14,7 @@ it has ended.
   --html FILE   writes the report to FILE, as a page that needs nothing else; the terminal gets the counts
   --base IRI    the IRI over which references of the texts are resolved, passed on to shacl_keep
   --help        this text
+  --version     the version
 
 Behind -- each word is a file. The status is that of shacl_keep: 0 where the data conforms, 1 where it does
 not, 2 for words that cannot be read, 3 for a text that is refused, 4, 5 and 6 for an input, an output or
@@ -22,12 +24,15 @@ this.
 """
 
 
+VERSION = Path(__file__).resolve().parents[2] / "VERSION"
+
+
 class Words(NamedTuple):
     passed: list  # the words for the program
     files: list  # shapes, data and perhaps a script
     page: Optional[str]
     base: str
-    is_help: bool
+    answer: Optional[str]  # what is asked of the tool itself, and answered without a run
 
 
 class NotRead(Exception):
@@ -52,7 +57,9 @@ def read_words(words):
         if word == "--":
             return asked(passed + words[at:], files + words[at + 1:], options)
         if word in ("--help", "-h"):
-            return Words([], [], None, "", True)
+            return Words([], [], None, "", HELP)
+        if word == "--version":
+            return Words([], [], None, "", f"shacl_show {VERSION.read_text().strip()}")
         at += 1
         if word.partition("=")[0] in ("--html", "--base", "--format"):
             name, value, is_next = split_option(word, words[at:])
@@ -74,4 +81,4 @@ def asked(passed, files, options):
         raise NotRead("it reads reports in lines, so that --format can be nothing else")
     if options.get("--html") == "":
         raise NotRead("--html has an empty name")
-    return Words(passed, files, options.get("--html"), options.get("--base", "file:///"), False)
+    return Words(passed, files, options.get("--html"), options.get("--base", "file:///"), None)

@@ -9,6 +9,8 @@ from pathlib import Path
 
 # What tools leave in folders, and is no part of them.
 _LEFT = {"__pycache__", ".mypy_cache", ".pytest_cache"}
+# In a package a command is run by Debian's Python, whichever a user has in front of it on the path.
+_ANY_PYTHON, _DEBIAN_PYTHON = b"#!/usr/bin/env python3\n", b"#!/usr/bin/python3\n"
 
 
 def md5(file: Path) -> str:
@@ -31,8 +33,10 @@ class Tree:
         self.put(f"{place}.gz", gzip.compress(content.encode(), 9, mtime=0))
 
     def put_file(self, file: Path, folder: str) -> None:
-        is_run = file.stat().st_mode & stat.S_IXUSR
-        self.put(f"{folder}/{file.name}", file.read_bytes(), 0o755 if is_run else 0o644)
+        content, is_run = file.read_bytes(), file.stat().st_mode & stat.S_IXUSR
+        if content.startswith(_ANY_PYTHON):
+            content = _DEBIAN_PYTHON + content.removeprefix(_ANY_PYTHON)
+        self.put(f"{folder}/{file.name}", content, 0o755 if is_run else 0o644)
 
     def put_all(self, source: Path, folder: str) -> None:
         """A file, or all that is in a folder."""

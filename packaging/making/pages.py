@@ -33,13 +33,19 @@ def reference_page(command: str, text: str) -> str:
         return made.read_text(encoding="utf-8")
 
 
+def for_help2man(help_text: str) -> str:
+    """A help text as help2man reads it: it knows a usage by its capital letter, and other ones by `or`."""
+    usage, rest = re.split(r"\n(?=\n)", help_text, 1)
+    usage = re.sub(r"\n {7}", "\n  or:  ", usage.replace("usage:", "Usage:", 1))
+    return usage + "\n" + re.sub(r"^options:$", "Options:", rest, flags=re.M)
+
+
 def tool_page(command: str, about: str, help_text: str) -> str:
-    """The page of a tool, from its help. `help2man` asks a command for that, and knows a usage by its capital
-    letter."""
+    """The page of a tool, from its help."""
     with tempfile.TemporaryDirectory() as folder:
         asked = Path(folder, command)
         said = Path(folder, "help")
-        said.write_text(re.sub(r"\Ausage:", "Usage:", help_text), encoding="utf-8")
+        said.write_text(for_help2man(help_text), encoding="utf-8")
         asked.write_text(f"#!/bin/sh\ncat {said}\n")
         asked.chmod(0o755)
         words = ["--no-info", f"--name={about}", f"--version-string={command} {version()}"]

@@ -4,7 +4,7 @@ from typing import NamedTuple
 
 MAIN, DRILL = "shacl-keep", "shacl-keep-drill"
 _DOC = f"usr/share/doc/{MAIN}"
-_OWN = f"usr/share/{MAIN}"
+_PYTHON = "usr/lib/python3/dist-packages/shacl_keep"
 
 # The programs: the package of each, and its folder there.
 PROGRAMS = {
@@ -16,10 +16,10 @@ PROGRAMS = {
 # Files and folders of the checkout, and the folders of the package that they, or what is in them, go to.
 FILES = {
     MAIN: (
-        ("VERSION", _OWN),
-        ("bin/shacl_show", f"{_OWN}/bin"),
-        ("bin/shacl_split", f"{_OWN}/bin"),
-        ("bin/show", f"{_OWN}/bin/show"),
+        ("VERSION", _PYTHON),
+        ("python/shacl_keep", _PYTHON),
+        ("bin/shacl_show", "usr/bin"),
+        ("bin/shacl_split", "usr/bin"),
         ("README.md", _DOC),
         ("docs/REFERENCE.md", f"{_DOC}/docs"),
         ("docs/USE.md", f"{_DOC}/docs"),
@@ -32,17 +32,6 @@ FILES = {
     ),
     DRILL: (),
 }
-
-# Links in the package. The tools look for the program beside them.
-LINKS = {
-    MAIN: (
-        ("usr/bin/shacl_show", f"../share/{MAIN}/bin/shacl_show"),
-        ("usr/bin/shacl_split", f"../share/{MAIN}/bin/shacl_split"),
-        (f"{_OWN}/bin/shacl_keep", "../../../bin/shacl_keep"),
-    ),
-    DRILL: (),
-}
-
 
 class Tool(NamedTuple):
     """A command that has a help text: its file in the checkout, and what it is for."""

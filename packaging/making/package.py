@@ -8,7 +8,7 @@ from pathlib import Path
 from . import completions, help_text, pages
 from .changes import debian_changes, epoch
 from .checkout import TOP, NotMade, output_of, text_of, version
-from .contents import FILES, LINKS, MAIN, OPTIONS, PROGRAMS, TOOLS
+from .contents import FILES, MAIN, OPTIONS, PROGRAMS, TOOLS
 from .help_text import Option
 from .programs import needed_libc
 from .tree import Tree
@@ -81,8 +81,6 @@ def make_package(package: str, programs: Mapping[str, Path], folder: Path) -> Pa
             tree.put(f"{place}/{name}", programs[name].read_bytes(), 0o755)
     for source, place in FILES[package]:
         tree.put_all(TOP / source, place)
-    for place, to in LINKS[package]:
-        tree.link(place, to)
     if package == MAIN:
         put_commands(tree, programs["shacl_keep"])
     put_notes(tree, package)

@@ -47,10 +47,6 @@ class Tree:
             if it.name not in _LEFT:
                 self.put_all(it, folder if it.is_file() else f"{folder}/{it.name}")
 
-    def link(self, place: str, to: str) -> None:
-        (self.folder / place).parent.mkdir(parents=True, exist_ok=True)
-        (self.folder / place).symlink_to(to)
-
     def files(self) -> Iterator[Path]:
         """The files that a package installs, by their names."""
         for it in sorted(self.folder.rglob("*")):

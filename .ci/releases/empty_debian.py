@@ -31,10 +31,10 @@ def sources_of_apt():
     return next((it for it in lists if it.is_file() and it.stat().st_size), None)
 
 
-def is_there(tool):
-    """Whether a tool is there, or can be installed."""
+def is_there(tool, package=None):
+    """Whether a tool is there, or can be installed from the package that has it."""
     if not shutil.which(tool):
-        for words in (["apt-get", "update"], ["apt-get", "install", "--yes", tool]):
+        for words in (["apt-get", "update"], ["apt-get", "install", "--yes", package or tool]):
             subprocess.run(words, stdout=subprocess.DEVNULL, stderr=subprocess.DEVNULL, check=False)
     return shutil.which(tool) is not None
 

@@ -28,17 +28,22 @@ def sha256(content: bytes) -> str:
     return hashlib.sha256(content).hexdigest()
 
 
-def output_of(*words: str, given: str = "", known: Mapping[str, str] | None = None) -> str:
-    """What a command prints that is called at the top and reads a text."""
+def bytes_of(*words: str, given: bytes = b"", known: Mapping[str, str] | None = None) -> bytes:
+    """What a command prints that is called at the top and reads what is given."""
     env = {**os.environ, "LC_ALL": "C.UTF-8", **(known or {})}
     try:
-        ran = subprocess.run(words, cwd=TOP, env=env, input=given.encode(), capture_output=True, check=False)
+        ran = subprocess.run(words, cwd=TOP, env=env, input=given, capture_output=True, check=False)
     except FileNotFoundError as error:
         raise NotMade(f"there is no {words[0]}, which has to be installed") from error
     if ran.returncode != 0:
         said = ran.stderr.decode(errors="replace").strip()
         raise NotMade(f"`{' '.join(words[:2])}` ended with {ran.returncode}: {said}")
-    return ran.stdout.decode()
+    return ran.stdout
+
+
+def output_of(*words: str, known: Mapping[str, str] | None = None) -> str:
+    """What a command prints, as a text."""
+    return bytes_of(*words, known=known).decode()
 
 
 def crates_below(programs: Iterable[str]) -> list[str]:

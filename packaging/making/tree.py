@@ -1,11 +1,12 @@
 """The files of a package, in a folder: nothing of it depends on who makes it, when and where."""
 
-import gzip
 import hashlib
 import os
 import stat
 from collections.abc import Iterator
 from pathlib import Path
+
+from .checkout import bytes_of
 
 # What tools leave in folders, and is no part of them.
 _LEFT = {"__pycache__", ".mypy_cache", ".pytest_cache"}
@@ -30,7 +31,7 @@ class Tree:
         file.chmod(mode)
 
     def put_packed(self, place: str, content: str) -> None:
-        self.put(f"{place}.gz", gzip.compress(content.encode(), 9, mtime=0))
+        self.put(f"{place}.gz", bytes_of("gzip", "-9n", given=content.encode()))
 
     def put_file(self, file: Path, folder: str) -> None:
         content, is_run = file.read_bytes(), file.stat().st_mode & stat.S_IXUSR

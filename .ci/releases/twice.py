@@ -1,5 +1,5 @@
-"""Whether packages are the same bytes where they are made twice: the second time in another folder, by another
-user, with other rights and times of files, in another zone and language."""
+"""Whether packages are the same bytes where they are made twice: the second time in another folder, by
+another user, with other rights and times of files, in another zone and language."""
 import os
 import pwd
 import shutil

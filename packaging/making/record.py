@@ -5,7 +5,6 @@ from pathlib import Path
 
 from .checkout import crates_below, output_of, sha256, version
 from .contents import PROGRAMS
-from .verdicts import verdict_lines
 
 
 def measured(file: Path) -> str:
@@ -14,13 +13,13 @@ def measured(file: Path) -> str:
     return f"{sha256(content)} {len(content)}"
 
 
-def lines(programs: Mapping[str, Path], packages: Sequence[Path], logs: Sequence[Path]) -> Iterator[str]:
-    crates = crates_below(PROGRAMS)
+def lines(programs: Mapping[str, Path], packages: Sequence[Path], verdicts: Sequence[str]) -> Iterator[str]:
+    """The lines of RELEASE, with those of verdicts at the end."""
     yield f"version {version()}"
     yield f"kit {output_of('rt', 'version').strip()}"
-    yield f"sources {output_of('bin/source_sum', *crates).strip()}"
+    yield f"sources {output_of('bin/source_sum', *crates_below(PROGRAMS)).strip()}"
     for name, file in programs.items():
         yield f"program {name} {measured(file)}"
     for file in packages:
         yield f"package {file.name} {measured(file)}"
-    yield from verdict_lines(crates, logs)
+    yield from verdicts

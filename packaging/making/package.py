@@ -62,13 +62,14 @@ def options_of_program(program: Path) -> list[Option]:
 
 
 def put_commands(tree: Tree, program: Path) -> None:
-    """The pages and the completions of the program and of the tools."""
+    """The pages and the completions of the program and of the tools. Debian's Python asks for help, whose
+    form another one may write otherwise."""
     man = "usr/share/man/man1"
     page = pages.reference_page("shacl_keep", text_of("docs/REFERENCE.md"))
     tree.put_packed(f"{man}/shacl_keep.1", page)
     put_completions(tree, "shacl_keep", options_of_program(program))
     for command, tool in TOOLS.items():
-        said = output_of(str(TOP / tool.file), "--help", known={"COLUMNS": "100"})
+        said = output_of("/usr/bin/python3", tool.file, "--help", known={"COLUMNS": "100"})
         tree.put_packed(f"{man}/{command}.1", pages.tool_page(command, tool.about, said))
         put_completions(tree, command, help_text.listed(said))
 

@@ -20,16 +20,27 @@ def in_texts(file):
     return found
 
 
+def in_outputs(file):
+    """The numbers of the lines that a page of formats has of outputs: they are as they are."""
+    found, is_inside = set(), False
+    for number, line in lines(file) if file == "docs/FORMATS.md" else ():
+        if line.startswith("```"):
+            is_inside = not is_inside
+        elif is_inside:
+            found.add(number)
+    return found
+
+
 def is_free(file, line):
     """Whether a line may be as long as it is: a row of a table, or one URL."""
     return file.endswith(".md") and line.lstrip().startswith("|") or URL.match(line)
 
 
 def check_lines():
-    """Lines that are too long, but for tables, URLs and the quoted texts of tests."""
+    """Lines that are too long, but for tables, URLs, outputs, and the quoted texts of tests."""
     for file in filter(SHARED.search, files()):
         long = [(n, line) for n, line in lines(file) if len(line) > WIDTH and not is_free(file, line)]
-        texts = in_texts(file) if long else set()
+        texts = in_texts(file) | in_outputs(file) if long else set()
         for number, line in long:
             if number not in texts:
                 yield Finding(file, number, f"the line has {len(line)} columns, and at most {WIDTH} may be")

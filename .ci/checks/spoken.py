@@ -29,6 +29,8 @@ DECLARED = (
 )
 DEFINED = (re.compile(rf"^ *(?:(?:abbrev|pub|record|data|mod) )*({NAME.pattern})(?= |$)(?! *=)", re.M),)
 CLAUSE = re.compile(r"\b(?:requires|ensures|ghost|fn) +(\w+)")
+# And where the Python package declares one.
+IN_PYTHON = re.compile(r"^ *(?:class|def|async def) +(\w+)|^ {4}(\w+):|^(\w+)(?::[^=]*)? = ", re.M)
 USED = re.compile(r"^ *(?:pub |ghost )*use ([^;\n]*(?:\{$[^;]*)?)", re.M)
 
 # Names that only derives, proofs and the machine have: of the kit, and of its goals.
@@ -54,6 +56,8 @@ def declared():
             found.update(NAME.findall(it))
         if "/proofs/" not in file:
             found.update(quoted(file))
+    for file in (it for it in files() if it.startswith("python/") and it.endswith(".py")):
+        found.update(name for names in IN_PYTHON.findall(text(file)) for name in names if name)
     return found
 
 

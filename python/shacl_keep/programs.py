@@ -2,9 +2,12 @@
 the installed package, or in the system."""
 
 import os
+import platform
 import shutil
 import subprocess
+import sys
 from pathlib import Path
+from typing import NoReturn
 
 from .errors import NotRun
 
@@ -18,11 +21,39 @@ def _is_checkout() -> bool:
     return _PACKAGE.parent.name == "python" and (_TOP / "crates.txt").exists()
 
 
+def _number(version: str) -> tuple[int, ...]:
+    return tuple(int(part) for part in version.split(".") if part.isdigit())
+
+
+def why_not_here(needs: str) -> str | None:
+    """Why this machine does not run a program that needs this processor and this C library, as `x86_64 2.34`;
+    None where it does."""
+    machine, libc = needs.split()
+    here, found = platform.machine(), platform.libc_ver(sys.executable)
+    if here == machine and found[0] == "glibc" and _number(found[1]) >= _number(libc):
+        return None
+    said = " ".join(found).strip() or "another C library"
+    return f"it needs a processor {machine} and glibc {libc} or later, and this machine has {here} and {said}"
+
+
+def _packed(name: str) -> str | None:
+    """The program in the installed package, if it is in there. Raises NotRun where it does not run here."""
+    file = _PACKAGE / "programs" / name
+    if not file.exists():
+        return None
+    why = why_not_here((_PACKAGE / "programs" / "needs").read_text("utf-8"))
+    if why:
+        raise NotRun(str(file), why)
+    return str(file)
+
+
 def _installed(name: str) -> str | None:
     """The program in the installed package, or in the system, if it is in one."""
-    for folder in (_PACKAGE / "programs", _SYSTEM):
-        if os.access(folder / name, os.X_OK):
-            return str(folder / name)
+    packed = _packed(name)
+    if packed:
+        return packed
+    if os.access(_SYSTEM / name, os.X_OK):
+        return str(_SYSTEM / name)
     return shutil.which(name)
 
 
@@ -62,3 +93,18 @@ def triples_path() -> str:
     if not found:
         raise NotRun("ttl_triples", "it is not there, and SHACL_KEEP_TRIPLES does not name it")
     return found
+
+
+def main() -> NoReturn:
+    """The command shacl_keep of the installed package: becomes the program."""
+    try:
+        program = _packed("shacl_keep")
+        if not program:
+            raise NotRun("shacl_keep", "this package was installed without it")
+        os.execv(program, ["shacl_keep", *sys.argv[1:]])
+    except NotRun as error:
+        why = str(error)
+    except OSError as error:
+        why = str(NotRun("shacl_keep", error.strerror or str(error)))
+    print(why, file=sys.stderr)
+    sys.exit(70)

@@ -18,6 +18,11 @@ def packages():
     return [(RELEASE.parent / name, sum_) for name, sum_, _ in told("package")]
 
 
+def wheels():
+    """The file of the wheel, with its sum."""
+    return [(RELEASE.parent / name, sum_) for name, sum_, _ in told("wheel")]
+
+
 def sum_of(file):
     return hashlib.sha256(file.read_bytes()).hexdigest()
 

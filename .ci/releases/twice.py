@@ -1,5 +1,5 @@
-"""Whether packages are the same bytes where they are made twice: the second time in another folder, by
-another user, with other rights and times of files, in another zone and language."""
+"""Whether packages and the wheel are the same bytes where they are made twice: the second time in another
+folder, by another user, with other rights and times of files, in another zone and language."""
 import os
 import pwd
 import shutil
@@ -7,22 +7,26 @@ import subprocess
 import tempfile
 from pathlib import Path
 
-from releases.empty_debian import is_there
+from releases.empty_debian import is_module, is_there
 from releases.told import TOP, packages, sum_of
 
 # What packages are made of, besides the programs.
 PARTS = ("VERSION", "CHANGELOG.md", "README.md", "bin", "docs", "examples", "packaging", "python")
-TOOLS = ("dpkg-deb", "objdump", "go-md2man", "help2man")
+TOOLS = {"dpkg-deb": "dpkg", "objdump": "binutils", "go-md2man": "go-md2man", "help2man": "help2man"}
+MODULES = {"build": "python3-build", "hatchling": "python3-hatchling"}
 MAKE = """
 import sys
 from pathlib import Path
 sys.dont_write_bytecode = True
 sys.path.insert(0, "packaging")
 from making.contents import FILES, PROGRAMS
+from making.changes import epoch
 from making.package import make_package
+from making.wheel import make_wheel
 programs = {name: Path(sys.argv[1], place, name) for name, (_, place) in PROGRAMS.items()}
 for package in FILES:
     make_package(package, programs, Path(sys.argv[2]))
+make_wheel(programs, Path(sys.argv[2]), epoch())
 """
 OLD = 1_000_000_000
 OTHER = {"user": "nobody", "umask": 0o077}
@@ -48,13 +52,14 @@ def made(checkout, programs, to, env, **how):
         how |= {"group": pwd.getpwnam(how["user"]).pw_gid, "extra_groups": []}
     words = ["python3", "-c", MAKE, programs, to]
     subprocess.run(words, cwd=checkout, env={**os.environ, **env}, check=True, **how)
-    return {it.name: sum_of(it) for it in to.glob("*.deb")}
+    return {it.name: sum_of(it) for it in (*to.glob("*.deb"), *to.glob("*.whl"))}
 
 
 def findings():
     if not packages():
         return
-    missing = [it for it in TOOLS if not is_there(it, {"objdump": "binutils"}.get(it, it))]
+    missing = [it for it, package in TOOLS.items() if not is_there(it, package)]
+    missing += [it for it, package in MODULES.items() if not is_there(it, package, is_module)]
     if missing:
         print(f"the release: not run: packages that are made twice (there is no {missing[0]})")
         return

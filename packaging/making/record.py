@@ -13,7 +13,9 @@ def measured(file: Path) -> str:
     return f"{sha256(content)} {len(content)}"
 
 
-def lines(programs: Mapping[str, Path], packages: Sequence[Path], verdicts: Sequence[str]) -> Iterator[str]:
+def lines(
+    programs: Mapping[str, Path], packages: Sequence[Path], wheel: Path, verdicts: Sequence[str]
+) -> Iterator[str]:
     """The lines of RELEASE, with those of verdicts at the end."""
     yield f"version {version()}"
     yield f"kit {output_of('rt', 'version').strip()}"
@@ -22,4 +24,5 @@ def lines(programs: Mapping[str, Path], packages: Sequence[Path], verdicts: Sequ
         yield f"program {name} {measured(file)}"
     for file in packages:
         yield f"package {file.name} {measured(file)}"
+    yield f"wheel {wheel.name} {measured(wheel)}"
     yield from verdicts

@@ -1,10 +1,12 @@
 """Whether the release is what these sources build to."""
+import hashlib
 import shutil
 import subprocess
 import tempfile
+import zipfile
 from pathlib import Path
 
-from releases.told import RELEASE, TOP, output, packages, sum_of, told
+from releases.told import RELEASE, TOP, output, packages, sum_of, told, wheels
 
 AGAIN = "after a green `rt ci`, bin/make_release makes the release anew"
 # Where the programs stand in the packages.
@@ -49,7 +51,25 @@ def of_packages():
                 yield f"the packages have another {name}"
 
 
+def of_wheel():
+    """Whether there is a wheel, and it is whole and holds the programs."""
+    if not wheels():
+        yield f"there is no wheel: {AGAIN}"
+    for wheel, sum_ in wheels():
+        if not wheel.is_file() or sum_of(wheel) != sum_:
+            yield f"{wheel.name} is not there, or damaged"
+            continue
+        with zipfile.ZipFile(wheel) as files:
+            held = {name: files.read(name) for name in files.namelist() if "/programs/" in name}
+        for name, due, _ in told("program"):
+            found = held.get(f"shacl_keep/programs/{name}")
+            if found is not None and hashlib.sha256(found).hexdigest() != due:
+                yield f"the wheel has another {name}"
+        if "shacl_keep/programs/shacl_keep" not in held:
+            yield "the wheel has no program"
+
+
 def findings():
     if not RELEASE.exists():
         return [f"there is none: {AGAIN}"]
-    return [*of_sources(), *of_programs(), *of_packages()]
+    return [*of_sources(), *of_programs(), *of_packages(), *of_wheel()]

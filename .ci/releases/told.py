@@ -19,7 +19,7 @@ def packages():
 
 
 def wheels():
-    """The file of the wheel, with its sum."""
+    """The file of the wheel, with its sum: the only one, or none."""
     return [(RELEASE.parent / name, sum_) for name, sum_, _ in told("wheel")]
 
 

@@ -1,5 +1,5 @@
-"""Whether packages and the wheel are the same bytes where they are made twice: the second time in another
-folder, by another user, with other rights and times of files, in another zone and language."""
+"""Whether packages and the wheel are the same bytes where they are made twice: the second time in another folder, by
+another user, with other rights and times of files, in another zone and language."""
 import os
 import pwd
 import shutil
@@ -12,8 +12,8 @@ from releases.told import TOP, packages, sum_of
 
 # What packages are made of, besides the programs.
 PARTS = ("VERSION", "CHANGELOG.md", "README.md", "bin", "docs", "examples", "packaging", "python")
-TOOLS = {"dpkg-deb": "dpkg", "objdump": "binutils", "go-md2man": "go-md2man", "help2man": "help2man"}
-MODULES = {"build": "python3-build", "hatchling": "python3-hatchling"}
+TOOLS = ("dpkg-deb", "objdump", "go-md2man", "help2man", "pyproject-build", "hatchling")
+PACKAGES = {"objdump": "binutils", "pyproject-build": "python3-build", "hatchling": "python3-hatchling"}
 MAKE = """
 import sys
 from pathlib import Path
@@ -26,7 +26,7 @@ from making.wheel import make_wheel
 programs = {name: Path(sys.argv[1], place, name) for name, (_, place) in PROGRAMS.items()}
 for package in FILES:
     make_package(package, programs, Path(sys.argv[2]))
-make_wheel(programs, Path(sys.argv[2]), epoch())
+make_wheel(programs, Path(sys.argv[2]))
 """
 OLD = 1_000_000_000
 OTHER = {"user": "nobody", "umask": 0o077}
@@ -45,21 +45,20 @@ def copied(folder):
 
 
 def made(checkout, programs, to, env, **how):
-    """The packages that are made of a checkout, by their names."""
+    """The packages, and the wheel, that are made of a checkout, by their names."""
     to.mkdir()
     if "user" in how:
         shutil.chown(to, how["user"])
         how |= {"group": pwd.getpwnam(how["user"]).pw_gid, "extra_groups": []}
     words = ["python3", "-c", MAKE, programs, to]
     subprocess.run(words, cwd=checkout, env={**os.environ, **env}, check=True, **how)
-    return {it.name: sum_of(it) for it in (*to.glob("*.deb"), *to.glob("*.whl"))}
+    return {it.name: sum_of(it) for it in to.iterdir()}
 
 
 def findings():
     if not packages():
         return
-    missing = [it for it, package in TOOLS.items() if not is_there(it, package)]
-    missing += [it for it, package in MODULES.items() if not is_there(it, package, is_module)]
+    missing = [it for it in TOOLS if not is_there(it, PACKAGES.get(it, it))]
     if missing:
         print(f"the release: not run: packages that are made twice (there is no {missing[0]})")
         return

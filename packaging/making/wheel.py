@@ -5,6 +5,7 @@ import tempfile
 from collections.abc import Mapping
 from pathlib import Path
 
+from .changes import epoch
 from .checkout import TOP, output_of, version
 from .programs import needed_libc
 from .tree import Tree
@@ -17,7 +18,7 @@ _MACHINE = "x86_64"
 _PARTS = ("shacl_keep", "pyproject.toml", "wheel_tag.py", "README.md")
 
 
-def make_wheel(programs: Mapping[str, Path], into: Path, epoch: int) -> Path:
+def make_wheel(programs: Mapping[str, Path], into: Path) -> Path:
     """Builds the wheel of these programs into a folder, without a network, and gives its file. The same files
     give the same bytes. It needs Debian's packages python3-build and python3-hatchling."""
     libc = max(needed_libc(programs[name]) for name in _PROGRAMS)
@@ -31,9 +32,9 @@ def make_wheel(programs: Mapping[str, Path], into: Path, epoch: int) -> Path:
         tree.put(f"{_FOLDER}/needs", f"{_MACHINE} {'.'.join(map(str, libc))}\n")
         for name in _PROGRAMS:
             tree.put(f"{_FOLDER}/{name}", programs[name].read_bytes(), 0o755)
-        tree.settle(epoch)
+        tree.settle(epoch())
         made = Path(folder) / "made"
-        known = {"SHACL_KEEP_PLATFORM": platform, "SOURCE_DATE_EPOCH": str(epoch)}
+        known = {"SHACL_KEEP_PLATFORM": platform, "SOURCE_DATE_EPOCH": str(epoch())}
         words = ["--wheel", "--no-isolation", "--skip-dependency-check", "--outdir", str(made)]
         output_of("/usr/bin/python3", "-m", "build", *words, str(tree.folder / "python"), known=known)
         (wheel,) = made.glob("*.whl")

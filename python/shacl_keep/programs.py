@@ -95,16 +95,21 @@ def triples_path() -> str:
     return found
 
 
-def main() -> NoReturn:
-    """The command shacl_keep of the installed package: becomes the program."""
+def _become(name: str) -> NoReturn:
+    """Becomes the program in the installed package. Raises NotRun where that cannot be."""
+    program = _packed(name)
+    if not program:
+        raise NotRun(name, "this package was installed without it")
     try:
-        program = _packed("shacl_keep")
-        if not program:
-            raise NotRun("shacl_keep", "this package was installed without it")
-        os.execv(program, ["shacl_keep", *sys.argv[1:]])
-    except NotRun as error:
-        why = str(error)
+        os.execv(program, [name, *sys.argv[1:]])
     except OSError as error:
-        why = str(NotRun("shacl_keep", error.strerror or str(error)))
-    print(why, file=sys.stderr)
-    sys.exit(70)
+        raise NotRun(program, error.strerror or str(error)) from error
+
+
+def main() -> NoReturn:
+    """The command shacl_keep of the installed package."""
+    try:
+        _become("shacl_keep")
+    except NotRun as error:
+        print(error, file=sys.stderr)
+        sys.exit(70)

@@ -15,6 +15,7 @@ import pytest
 from hypothesis import given
 from hypothesis import strategies as st
 
+import shacl_keep
 from conftest import EXAMPLES
 from kept_texts import DATA, SHAPES
 from shacl_keep.errors import Closed, Ended, KeepError, Killed, NoAnswer, NotRead, NotRun, PipeBroken
@@ -278,7 +279,7 @@ os.kill(os.getpid(), 9)
 
 
 def test_a_program_ends_with_its_parent(texts: tuple[str, str]) -> None:
-    found = dict(os.environ, PYTHONPATH=str(Path(__file__).parents[1]))
+    found = dict(os.environ, PYTHONPATH=str(Path(shacl_keep.__file__).parents[1]))
     parent = subprocess.run(
         [sys.executable, "-c", PARENT, *texts], env=found, stdout=subprocess.PIPE, check=False, timeout=60
     )

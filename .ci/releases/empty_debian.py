@@ -31,22 +31,12 @@ def sources_of_apt():
     return next((it for it in lists if it.is_file() and it.stat().st_size), None)
 
 
-def is_command(name):
-    return shutil.which(name) is not None
-
-
-def is_module(name):
-    """Whether Debian's Python has a module."""
-    words = ["/usr/bin/python3", "-c", f"import {name}"]
-    return subprocess.run(words, stderr=subprocess.DEVNULL, check=False).returncode == 0
-
-
-def is_there(name, package=None, is_found=is_command):
-    """Whether a command, or a module, is there, or can be installed."""
-    if not is_found(name):
-        for words in (["apt-get", "update"], ["apt-get", "install", "--yes", package or name]):
+def is_there(tool, package=None):
+    """Whether a tool is there, or can be installed from the package that has it."""
+    if not shutil.which(tool):
+        for words in (["apt-get", "update"], ["apt-get", "install", "--yes", package or tool]):
             subprocess.run(words, stdout=subprocess.DEVNULL, stderr=subprocess.DEVNULL, check=False)
-    return is_found(name)
+    return shutil.which(tool) is not None
 
 
 class Root:

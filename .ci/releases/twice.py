@@ -1,5 +1,5 @@
-"""Whether packages and the wheel are the same bytes where they are made twice: the second time in another folder, by
-another user, with other rights and times of files, in another zone and language."""
+"""Whether packages and the wheel are the same bytes where they are made twice: the second time in another
+folder, by another user, with other rights and times of files, in another zone and language."""
 import os
 import pwd
 import shutil
@@ -7,7 +7,7 @@ import subprocess
 import tempfile
 from pathlib import Path
 
-from releases.empty_debian import is_module, is_there
+from releases.empty_debian import is_there
 from releases.told import TOP, packages, sum_of
 
 # What packages are made of, besides the programs.
@@ -20,7 +20,6 @@ from pathlib import Path
 sys.dont_write_bytecode = True
 sys.path.insert(0, "packaging")
 from making.contents import FILES, PROGRAMS
-from making.changes import epoch
 from making.package import make_package
 from making.wheel import make_wheel
 programs = {name: Path(sys.argv[1], place, name) for name, (_, place) in PROGRAMS.items()}

@@ -33,7 +33,6 @@ FILES = {
     DRILL: (),
 }
 
-
 class Tool(NamedTuple):
     """A command that has a help text: its file in the checkout, and what it is for."""
 

@@ -7,8 +7,8 @@ import subprocess
 import tempfile
 from pathlib import Path
 
-from releases.empty_debian import is_there
-from releases.told import TOP, packages, sum_of
+from releases.told import TOP, not_run, packages, sum_of
+from releases.tools import is_there
 
 # What packages are made of, besides the programs.
 PARTS = ("VERSION", "CHANGELOG.md", "README.md", "bin", "docs", "examples", "packaging", "python")
@@ -59,7 +59,7 @@ def findings():
         return
     missing = [it for it in TOOLS if not is_there(it, PACKAGES.get(it, it))]
     if missing:
-        print(f"the release: not run: packages that are made twice (there is no {missing[0]})")
+        not_run("packages that are made twice", f"there is no {missing[0]}")
         return
     with tempfile.TemporaryDirectory() as name:
         folder = Path(name)

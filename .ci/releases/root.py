@@ -53,7 +53,7 @@ class Root:
             raise NotMade("there is no mmdebstrap")
         self.folder = folder
         options = [f"--aptopt={it}" for it in proxies_of_apt()]
-        how = ["--quiet", "--variant=minbase", f"--include={BESIDE}", *options]
+        how = ["--quiet", "--variant=apt", f"--include={BESIDE}", "--dpkgopt=force-unsafe-io", *options]
         made = subprocess.run(
             ["mmdebstrap", *how, SUITE, folder, *sources],
             stdin=subprocess.DEVNULL,

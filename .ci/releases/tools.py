@@ -3,19 +3,12 @@
 import os
 import shutil
 import subprocess
-from collections.abc import Callable
 
 QUIETLY = {"DEBIAN_FRONTEND": "noninteractive", "LANG": "C.UTF-8"}
 
 
 def is_command(name: str) -> bool:
     return shutil.which(name) is not None
-
-
-def is_module(name: str) -> bool:
-    """Whether Debian's Python has a module."""
-    words = ["/usr/bin/python3", "-c", f"import {name}"]
-    return subprocess.run(words, stderr=subprocess.DEVNULL, check=False).returncode == 0
 
 
 def install(package: str) -> None:
@@ -33,8 +26,8 @@ def install(package: str) -> None:
         )
 
 
-def is_there(name: str, package: str = "", is_found: Callable[[str], bool] = is_command) -> bool:
-    """Whether a command, or a module, is there, or can be installed."""
-    if not is_found(name):
+def is_there(name: str, package: str = "") -> bool:
+    """Whether a command is there, or can be installed from the package that has it."""
+    if not is_command(name):
         install(package or name)
-    return is_found(name)
+    return is_command(name)

@@ -51,7 +51,7 @@ def made(checkout, programs, to, env, **how):
         how |= {"group": pwd.getpwnam(how["user"]).pw_gid, "extra_groups": []}
     words = ["python3", "-c", MAKE, programs, to]
     subprocess.run(words, cwd=checkout, env={**os.environ, **env}, check=True, **how)
-    return {it.name: sum_of(it) for it in to.iterdir()}
+    return {it.name: sum_of(it) for it in to.iterdir() if it.is_file()}
 
 
 def findings():

@@ -9,7 +9,7 @@ called from Python.
 | `session`, `history`, `stock` | a session: edits, groups, undo, and a report that is always current |
 | `documents`, `texts` | several files as one graph, and the places in a text |
 | `rdf` | the faces for rdflib: `validate`, and `KeptGraph` |
-| `places`, `turtle`, `triples` | where in the texts a result stands |
+| `places`, `walks`, `turtle`, `triples` | where in the texts a result stands |
 | `formats`, `names`, `sayings` | reports for people and for tools: docs/FORMATS.md |
 | `spreading` | shapes in parts, and their reports joined |
 | `commands` | what `shacl_show` and `shacl_split` do |

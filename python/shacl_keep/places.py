@@ -6,13 +6,14 @@ written. `TurtleText` reads them from the text; what else reads the text may tak
 told first, and then the text is read once, so that the time is that of the text and the results."""
 
 import re
-from collections.abc import Iterable, Iterator
+from collections.abc import Iterable, Iterator, Sequence
 from typing import NamedTuple, Protocol
 
 from .report import Detail, Words
 from .spelled import IRI
 from .texts import Place
 from .triples import Triple
+from .walks import Walks
 
 _PREDICATE = re.compile(IRI)
 _INVERSE = re.compile(rf"\(\^({IRI})\)")
@@ -38,6 +39,11 @@ class Found(NamedTuple):
         return self.source.place_at(self.at)
 
 
+def _is_walked(words: Words) -> bool:
+    """Whether a result has a value that is no object, or subject, of the focus node itself."""
+    return words.value != "-" and words.path.startswith("(") and not _INVERSE.fullmatch(words.path)
+
+
 def _value_key(words: Words) -> int | None:
     """What a result's value is found by: its triple, where the path is a predicate, or one backwards. Keys
     are hashes, since those of a million results take little memory."""
@@ -52,17 +58,21 @@ def _value_key(words: Words) -> int | None:
 class ResultPlaces:
     """The places of these results in these data texts, and of their shapes in the shapes texts."""
 
-    def __init__(self, results: Iterable[Detail], data: Iterable[Source], shapes: Iterable[Source]) -> None:
+    def __init__(self, results: Iterable[Detail], data: Sequence[Source], shapes: Sequence[Source]) -> None:
         self._values: dict[int, Found | None] = {}
         self._subjects: dict[str, Found | None] = {}
         self._objects: dict[str, Found | None] = {}
         self._shapes: dict[str, Found | None] = {}
-        for result in results:
-            words = result.words
+        walked: set[str] = set()
+        for words in (result.words for result in results) if data or shapes else ():
             self._subjects[words.focus] = self._objects[words.focus] = self._shapes[words.shape] = None
             key = _value_key(words)
             if key is not None:
                 self._values[key] = None
+            elif _is_walked(words):
+                walked.add(words.path)
+        self._walks = Walks(walked)
+        self._ends: list[Found] = []
         for source in data:
             self._read_data(source)
         for source in shapes:
@@ -80,18 +90,28 @@ class ResultPlaces:
                 key = hash((subject, triple.verb.term, term))
                 if key in values and values[key] is None:
                     values[key] = Found(source, triple.object.start)
+            if self._walks.wants(triple.verb.term):
+                self._walks.add(subject, triple.verb.term, term, len(self._ends))
+                self._ends.append(Found(source, triple.object.start))
 
     def _read_shapes(self, source: Source) -> None:
         for triple in source.triples():
             if triple.subject in self._shapes and self._shapes[triple.subject] is None:
                 self._shapes[triple.subject] = Found(source, triple.start)
 
+    def _value(self, words: Words) -> Found | None:
+        """Where the triple of the value stands."""
+        key = _value_key(words)
+        if key is not None:
+            return self._values.get(key)
+        at = self._walks.place(words.focus, words.path, words.value) if _is_walked(words) else None
+        return None if at is None else self._ends[at]
+
     def place(self, result: Detail) -> Place | None:
         """Where a result stands, or None where neither its data nor its shape is in a text at hand."""
         words = result.words
-        key = _value_key(words)
         found = (
-            (self._values.get(key) if key is not None else None)
+            self._value(words)
             or self._subjects.get(words.focus)
             or self._objects.get(words.focus)
             or self._shapes.get(words.shape)

@@ -30,8 +30,7 @@ HOSTILE = {
     "data.ttl": PREFIXES
     + f'e:a e:p """{WILD}""" , "-2+3", "+1", "@x" .\n<http://e/%0A::error::,x=y> e:p "\\r\\n" .\n',
 }
-# What may not stand in a text for people or for a terminal: all controls but the line feed, and turns of
-# direction.
+# What may not stand in a text for people: all controls but the line feed, and turns of direction.
 RAW = re.compile("[\x00-\x09\x0b-\x1f\x7f-\x9f\u202a-\u202e\u2066-\u2069\u2028]")
 
 

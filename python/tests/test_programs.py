@@ -112,7 +112,7 @@ programs.main()
 
 def test_the_command_becomes_the_program(package: Path) -> None:
     def called() -> tuple[str, int]:
-        words = [sys.executable, "-c", COMMAND, package, "a", "b c"]
+        words = [sys.executable, "-c", COMMAND, str(package), "a", "b c"]
         found = dict(os.environ, PYTHONPATH=str(Path(programs.__file__).parents[1]))
         ran = subprocess.run(words, env=found, stdout=subprocess.PIPE, stderr=subprocess.STDOUT, check=False)
         return ran.stdout.decode(), ran.returncode

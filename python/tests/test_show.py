@@ -1,5 +1,4 @@
-"""shacl_show: its options, the places of results, what it says of texts that are refused, and long
-reports."""
+"""shacl_show: its options, the places of results, texts that are refused, and long reports."""
 
 import csv
 import gzip
@@ -14,6 +13,10 @@ import pytest
 from commands import PREFIXES, Ended, ended, keep, show, write
 from conftest import TOP
 
+from shacl_keep.places import ResultPlaces
+from shacl_keep.report import Result
+from shacl_keep.texts import TurtleText
+from shacl_keep.triples import DATA
 from shacl_keep.version import version
 
 LIBRARY = ("examples/library/shapes.ttl", "examples/library/data.ttl")
@@ -114,8 +117,8 @@ def test_each_data_file_is_a_document_of_its_own(tmp_path: Path) -> None:
 def test_results_stand_at_their_values_nodes_or_shapes(tmp_path: Path) -> None:
     shapes = PREFIXES + (
         "e:S sh:targetNode e:a , e:none ; sh:property [ sh:path e:p ; sh:maxLength 0 ] ;\n"
-        "  sh:property [ sh:path [ sh:inversePath e:p ] ; sh:nodeKind sh:Literal ] ,"
-        " [ sh:path e:q ; sh:minCount 1 ] .\n"
+        "  sh:property [ sh:path [ sh:inversePath e:p ] ; sh:nodeKind sh:Literal ] ,\n"
+        "    [ sh:path e:q ; sh:minCount 1 ] .\n"
         "e:O sh:targetObjectsOf e:p ; sh:nodeKind sh:BlankNode .\n"
     )
     data = '@prefix e: <http://e/> .\ne:b e:p e:a , "l" .\ne:a e:r 1 ; e:p "x" ,\n  "y"@EN , [ e:p "z" ] .\n'
@@ -127,8 +130,66 @@ def test_results_stand_at_their_values_nodes_or_shapes(tmp_path: Path) -> None:
     assert ("data.ttl:3:17", "MaxLength") in found and ("data.ttl:4:3", "MaxLength") in found
     assert ("data.ttl:2:9", "NodeKind") in found  # the triple of the value of an inverse path
     assert ("data.ttl:3:1", "MinCount") in found  # the focus node's first triple
-    assert ("shapes.ttl:4:77", "MinCount") in found  # of a node that is nowhere in the data
+    assert ("shapes.ttl:5:5", "MinCount") in found  # of a node that is nowhere in the data
     assert ("data.ttl:2:15", "NodeKind") in found  # of a literal that is a focus node
+
+
+def test_values_of_longer_paths_stand_at_the_last_triple(tmp_path: Path) -> None:
+    shapes = PREFIXES + "".join(
+        f"e:S{at} sh:targetNode e:a ; sh:path {path} ; sh:in ( e:a ) .\n"
+        for at, path in enumerate(
+            (
+                "( e:p e:q )",
+                "( [ sh:inversePath e:r ] e:q )",
+                "[ sh:inversePath ( e:q e:r ) ]",
+                "[ sh:oneOrMorePath e:n ]",
+                "( [ sh:zeroOrMorePath e:n ] [ sh:alternativePath ( e:x e:y ) ] )",
+                "[ sh:inversePath [ sh:zeroOrMorePath e:back ] ]",
+                "[ sh:zeroOrOnePath e:maybe ]",
+            )
+        )
+    )
+    data = """@prefix e: <http://e/> .
+e:other e:q "deep" , e:far .
+e:a e:p [ e:q "deep" ] ; e:n e:b ; e:maybe e:last .
+e:m e:r e:a ; e:q "seen" .
+e:up e:q e:w . e:w e:r e:a .
+e:b e:n e:c . e:c e:y 7 ; e:n e:a .
+e:z e:back e:y . e:y e:back e:a .
+"""
+    write(tmp_path, {"shapes.ttl": shapes, "data.ttl": data})
+    found = json.loads(show("--format", "json", "shapes.ttl", "data.ttl", folder=tmp_path).out)
+    stood = {
+        (it["shape"]["value"][-1], it["value"]["value"].rsplit("/")[-1]): (
+            it["place"]["line"],
+            it["place"]["column"],
+        )
+        for it in found["parts"][0]["results"]
+    }
+    assert stood == {
+        ("0", "deep"): (3, 15),
+        ("1", "seen"): (4, 19),
+        ("2", "up"): (5, 10),
+        ("3", "b"): (3, 30),
+        ("3", "c"): (6, 9),
+        ("4", "7"): (6, 23),
+        ("5", "z"): (7, 12),
+        ("5", "y"): (7, 29),
+        ("6", "last"): (3, 44),
+    }
+
+
+def test_walks_have_an_end(tmp_path: Path) -> None:
+    """Each of many nodes reaches all others along a ring, which would take as many steps as their square."""
+    count = 3000
+    ring = "".join(f"<e:{at}> <e:next> <e:{(at + 1) % count}> .\n" for at in range(count))
+    write(tmp_path, {"data.ttl": ring})
+    text = TurtleText(str(tmp_path / "data.ttl"), DATA, "file:///")
+    words = (f"In Violation <e:S> <e:{at}> (<e:next>+) <e:{at}>" for at in range(count))
+    results = [Result(said) for said in words]
+    places_of = ResultPlaces(results, [text], [])
+    lines = [place.line for place in map(places_of.place, results) if place]
+    assert lines[0] == count and lines[1:3] == [1, 2] and lines[-1] == count
 
 
 # ---- texts that are refused
@@ -159,7 +220,7 @@ OTHERS: dict[str, tuple[str, bytes, str]] = {
     "data.ttl.gz": ("packed by gzip", gzip.compress(TURTLE.encode()), "gzip -dc data.ttl.gz > data.ttl"),
     "data.jsonld": (
         "JSON-LD",
-        b'{ "@context": { "p": { "@id": "http://e/p", "@type": "@id" } },'
+        b'{ "@context": { "p": { "@id": "http://e/p", "@type": "@id" } },\n'
         b' "@id": "http://e/a", "p": "http://e/b" }',
         "python3 -m rdflib.tools.rdfpipe -i json-ld -o turtle data.jsonld > data.ttl",
     ),
@@ -253,7 +314,10 @@ def shown_in(page: str) -> list[tuple[str, str]]:
     return re.findall(r"```sh\n(.*?)\n```\n\n```\n(.*?)```\n", text, re.DOTALL)
 
 
-@pytest.mark.parametrize(("command", "due"), shown_in("FORMATS.md"), ids=lambda it: str(it).split()[2][:9])
+SHOWN = shown_in("FORMATS.md")
+
+
+@pytest.mark.parametrize(("command", "due"), SHOWN, ids=[command.split()[2] for command, _ in SHOWN])
 def test_the_page_shows_what_comes(command: str, due: str) -> None:
     path = f"{TOP / 'bin'}{os.pathsep}{os.environ['PATH']}"
     ran = subprocess.run(

@@ -29,14 +29,14 @@ _ABOUT = """\
 Runs shacl_keep over shapes and data in Turtle, and a script of edits where there is one, and shows its
 report: results by focus node, and how many there are of each severity and shape. IRIs are written by the
 prefixes of the texts; faults, refused lines and blank nodes without labels have their places,
-FILE:LINE:COLUMN. Without files it reads a report in lines from its standard input, and writes IRIs in
-full. A run is shown when it has ended."""
+FILE:LINE:COLUMN. Without files it reads a report in lines from its standard input, and writes IRIs in full. A
+run is shown when it has ended."""
 _STATUS = """\
 Behind -- each word is a file. The status is that of shacl_keep: 0 where the data conforms, 1 where it does
 not, 2 for words that cannot be read, 3 for a text that is refused, 4, 5 and 6 for an input, an output or
 memory that failed, 7 for a refused line of the script. Of a report that is piped in it is 0, 1, 3 for a
-fault, or 7. Colours are left out where NO_COLOR is set. SHACL_KEEP names another program than the one of
-this package. docs/FORMATS.md has the formats."""
+fault, or 7. Colours are left out where NO_COLOR is set. SHACL_KEEP names another program than the one of this
+package. docs/FORMATS.md has the formats."""
 
 
 class NotWritten(Exception):
@@ -77,14 +77,12 @@ def _parser() -> argparse.ArgumentParser:
     parser.add_argument(
         "--html",
         metavar="FILE",
-        help="writes the report to FILE besides, as a page that needs nothing else; "
-        "text has the counts alone then",
+        help="writes the report to FILE besides, as a page; the terminal gets the counts alone then",
     )
     parser.add_argument(
         "--fail-on",
         choices=(*LEVELS, "never"),
-        help="of the statuses 0 and 1, gives 1 where the last report has a result of this severity "
-        "or a worse one",
+        help="of the statuses 0 and 1, gives 1 where the last report has a result as bad as this",
     )
     parser.add_argument(
         "--base",

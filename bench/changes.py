@@ -17,7 +17,8 @@ import sys
 import tempfile
 
 from edits import HUB, ORDERS, PREFIXES, TYPE, note, orders_of, write
-from load import PROGRAM, run
+from built import PROGRAM
+from load import run
 import orders
 
 SHAPES = PREFIXES + """@prefix rdf: <http://www.w3.org/1999/02/22-rdf-syntax-ns#> .

@@ -16,11 +16,9 @@ import sys
 import tempfile
 
 import nodes
+from built import TOP, TRIPLES
 from turtle_texts import Maker
 
-HERE = os.path.dirname(os.path.abspath(__file__))
-TOP = os.path.dirname(HERE)
-PROGRAM = os.path.join(TOP, "crates", "ttl_triples", "out", "ttl_triples")
 BASE = "http://base.example/dir/text"
 
 
@@ -31,7 +29,7 @@ def lines_of(*words):
 
 def differs(path):
     """Why both do not read the same triples of a text, or nothing."""
-    ours, theirs = lines_of(PROGRAM, BASE, path), lines_of("serdi", "-o", "ntriples", path, BASE)
+    ours, theirs = lines_of(TRIPLES, BASE, path), lines_of("serdi", "-o", "ntriples", path, BASE)
     if ours[0] != 0 or ours[1].startswith("fault"):
         return f"is refused here: {ours[1].strip()}"
     if theirs[0] != 0:
@@ -51,7 +49,7 @@ def main():
             paths.append(path)
         for path in paths:
             why = differs(path)
-            triples += len(nodes.graph_of(lines_of(PROGRAM, BASE, path)[1]))
+            triples += len(nodes.graph_of(lines_of(TRIPLES, BASE, path)[1]))
             if why:
                 bad += 1
                 print(f"{os.path.basename(path)}: {why}")

@@ -18,7 +18,8 @@ import subprocess
 import sys
 import tempfile
 
-from load import run, PROGRAM, HERE
+from built import PROGRAM
+from load import HERE, run
 import orders
 import validate
 

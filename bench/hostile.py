@@ -10,7 +10,8 @@ import os
 import sys
 import tempfile
 
-from load import run, PROGRAM
+from built import PROGRAM
+from load import run
 
 # The texts of a construct; the script stands where one is given, behind the data, whose prefixes it has.
 SCRIPT = "script.txt"

@@ -18,8 +18,9 @@ import sys
 import tempfile
 import time
 
+from built import PROGRAM
+
 HERE = os.path.dirname(os.path.abspath(__file__))
-PROGRAM = os.path.join(HERE, "..", "crates", "shacl_keep", "out", "shacl_keep")
 
 
 def run(words, out):

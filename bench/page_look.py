@@ -1,8 +1,8 @@
 #!/usr/bin/env python3
 """Pictures of the pages that bin/shacl_show writes, by chromium without a window: of the library's report in
-light and dark, filtered, narrow and without scripts, of a script's answers, and of a report of 10,000
-results, with the seconds of work that it takes to open it, and how long a filter takes. No part of the tests;
-the pictures are to be looked at.
+light and dark, filtered, sorted, narrow and without scripts, of a script's answers, and of a report of 10,000
+results, with the seconds of work that it takes to open it, and how long a filter and a heading take. No part
+of the tests; the pictures are to be looked at.
 
     bench/page_look.py FOLDER
 """
@@ -132,6 +132,20 @@ def filter_by(text):
     }})()"""
 
 
+def sort_by(column):
+    """Presses the heading of a column; tells how many milliseconds it took, and the values of the first
+    rows."""
+    return f"""(async () => {{
+        const button = document.querySelector(".piece.first thead th:nth-child({column}) button");
+        const begun = performance.now();
+        button.click();
+        await {PAINTED};
+        const cells = document.querySelectorAll("tr.result td:nth-child({column})");
+        const said = [...cells].slice(0, 3).map((cell) => cell.textContent).join(", ");
+        return Math.round(performance.now() - begun) + " ms, " + said;
+    }})()"""
+
+
 def main(folder):
     os.makedirs(folder, exist_ok=True)
     library, script, large = (os.path.join(os.path.abspath(folder), f"{name}.html")
@@ -147,6 +161,10 @@ def main(folder):
     print(browser.run(filter_by("isbn")))
     browser.run("document.getElementById('text').focus()")
     browser.picture(f"{folder}/library_filtered.png")
+    browser.open(library, height=1500)
+    print(f"sorted by component: {browser.run(sort_by(2))}")
+    print(f"and downwards: {browser.run(sort_by(2))}")
+    browser.picture(f"{folder}/library_sorted.png")
     browser.open(library, width=400)
     browser.picture(f"{folder}/library_narrow.png")
     browser.open(library, height=2400, scripts=False)
@@ -157,6 +175,8 @@ def main(folder):
     browser.picture(f"{folder}/large.png")
     for text in ("node/2856", "", "number 77"):
         print(f"filtered by {text!r}: {browser.run(filter_by(text))}")
+    for column in (1, 4):
+        print(f"sorted by column {column}: {browser.run(sort_by(column))}")
     browser.run(f"window.scrollTo(0, 3000); {PAINTED}")
     browser.picture(f"{folder}/large_filtered.png")
     print(f"and opened without scripts with {browser.open(large, scripts=False):.2f} s of work")

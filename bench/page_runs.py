@@ -17,9 +17,8 @@ import subprocess
 import sys
 import tempfile
 
-HERE = os.path.dirname(os.path.abspath(__file__))
-TOP = os.path.dirname(HERE)
-PROGRAM = os.path.join(TOP, "crates", "shacl_keep", "out", "shacl_keep")
+from built import PROGRAM, TOP
+
 BLOCK = re.compile(r"^```(\w*)\n(.*?)^```\n", re.S | re.M)
 # A text that ends with the name of a file says what the block behind it is.
 NAMED = re.compile(r"(?:file|files|and)\s\*\*([\w.]+)\*\*:?\s*$")

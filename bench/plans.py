@@ -11,8 +11,8 @@ import subprocess
 import sys
 import tempfile
 
-HERE = os.path.dirname(os.path.abspath(__file__))
-PROGRAM = os.path.join(HERE, "..", "crates", "shacl_keep", "out", "shacl_keep")
+from built import PROGRAM
+
 PREFIXES = "@prefix sh: <http://www.w3.org/ns/shacl#> .\n@prefix e: <http://e/> .\n"
 DATA = "@prefix e: <http://e/> . e:a e:q e:b .\n"
 MANY = 99_990

@@ -16,8 +16,8 @@ import sys
 import tempfile
 import time
 
-HERE = os.path.dirname(os.path.abspath(__file__))
-PROGRAM = os.path.join(HERE, "..", "crates", "shacl_keep", "out", "shacl_keep")
+from built import PROGRAM
+
 
 SHAPES = """@prefix sh: <http://www.w3.org/ns/shacl#> .
 @prefix e: <http://e/> .

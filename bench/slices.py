@@ -10,14 +10,14 @@
 """
 import os
 import random
-import re
 import subprocess
 import sys
 import tempfile
 
+from built import PROGRAM
 from changes import CLASSES, NODES, SUBCLASS, seconds
 from edits import ORDERS, PREFIXES, TYPE, orders_of, write
-from load import PROGRAM
+from shacl_keep.spelled import words_of
 import orders
 
 VALUES = [*NODES, '"x"', '"yy"@en', "1", "3", "_:l", "_:m"]
@@ -38,7 +38,6 @@ _:y sh:property [ sh:path e:p ; sh:qualifiedValueShapesDisjoint true ;
 """
 # Shapes as the texts have them, and as reports name them.
 NAMES = {f"e:{letter}": f"e:{letter}" for letter in "STU"} | {"_:x": "_:s-x", "_:y": "_:s-y"}
-TERM = re.compile(r'<[^>]*>|_:[^ ]+|"(?:[^"\\]|\\.)*"(?:@[^ ]+|\^\^<[^>]*>)?')
 
 
 def triple(dice):
@@ -68,7 +67,7 @@ def is_slice(folder, dice):
     shapes = [SHAPES, f"{shape} sh:targetNode {node} .\n"]
     line = f"slice {name} {node}\n"
     report, told = outcome(folder, shapes, data, line)
-    stated = [TERM.findall(one) for one in told[1:]]
+    stated = [words_of(one)[1:] for one in told[1:]]
     triples = [PREFIXES, *(" ".join(terms).replace("_:d-", "_:") + " .\n" for terms in stated)]
     again = outcome(folder, shapes, triples, line)
     whole = [terms for terms in stated if len(terms) == 3]

@@ -11,7 +11,8 @@ import subprocess
 import sys
 import tempfile
 
-from load import HERE, PROGRAM
+from built import PROGRAM
+from load import HERE
 
 SPLIT = os.path.join(HERE, "..", "bin", "shacl_split")
 HEAD = """@prefix sh: <http://www.w3.org/ns/shacl#> . @prefix s: <http://www.w3.org/ns/shacl#target> .

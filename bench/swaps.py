@@ -18,7 +18,8 @@ import tempfile
 
 from changes import NODES, Reading, lines_of, triple
 from edits import PREFIXES, write
-from load import PROGRAM, run
+from built import PROGRAM
+from load import run
 
 # What each shape may state; the names of others stand in it as they are.
 STATED = {

@@ -23,9 +23,9 @@ import zipfile
 
 import orders
 import people
+from built import PROGRAM
 
 HERE = os.path.dirname(os.path.abspath(__file__))
-PROGRAM = os.path.join(HERE, "..", "crates", "shacl_keep", "out", "shacl_keep")
 KINDS = {"orders": orders, "people": people}
 JARS = "/usr/share/java"
 # Libraries of Debian that pass what is logged on to each other.

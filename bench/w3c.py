@@ -33,9 +33,9 @@ from typing import NamedTuple
 from urllib.parse import unquote, urlparse
 
 import nodes
+from built import PROGRAM
+from shacl_keep.spelled import words_of
 
-HERE = os.path.dirname(os.path.abspath(__file__))
-PROGRAM = os.path.join(HERE, "..", "crates", "shacl_keep", "out", "shacl_keep")
 TURTLE_HOME = "http://www.w3.org/2013/TurtleTests/"
 MF = "<http://www.w3.org/2001/sw/DataAccess/tests/test-manifest#"
 SHT = "<http://www.w3.org/ns/shacl-test#"
@@ -50,8 +50,6 @@ STEPS = {
     "oneOrMorePath": "({}+)",
     "zeroOrOnePath": "({}?)",
 }
-# A part of a line: a literal, which may have spaces between its quotes, or anything else up to a space.
-PART = re.compile(r'"(?:[^"\\]|\\.)*"[^ ]*|[^ ]+')
 TAG = re.compile(r'(?<=")@[A-Za-z0-9-]+$')
 
 
@@ -172,7 +170,7 @@ def our_results(text):
     """The same of a report in lines."""
     for line in text.split("\n"):
         if line.startswith("result "):
-            name, severity, shape, focus, path, value = PART.findall(line)[1:]
+            name, severity, shape, focus, path, value = words_of(line)[1:]
             if severity in ("Violation", "Warning", "Info"):
                 severity = f"{SH}{severity}>"
             fields = [focus, path, value, shape, f"{SH}{name}ConstraintComponent>", severity]
@@ -254,7 +252,7 @@ def triples_of(path, base, predicates, folder):
     triples = []
     for line in answer.text.split("\n"):
         if line.startswith("result Closed "):
-            triples.append(" ".join(PART.findall(line)[4:]) + " .")
+            triples.append(" ".join(words_of(line)[4:]) + " .")
     if answer.status in (0, 1) and f"count triples={len(triples)} " not in answer.text:
         return answer, None
     return answer, triples
@@ -299,7 +297,7 @@ def reports_of(text):
 def renamed(line):
     """A line in which blank nodes of the data are called as in the text whose names became labels."""
     return "\n".join(
-        " ".join(re.sub("^_:d-", "_:", part) for part in PART.findall(piece)) for piece in line.split("\n")
+        " ".join(re.sub("^_:d-", "_:", part) for part in words_of(piece)) for piece in line.split("\n")
     )
 
 

@@ -25,7 +25,7 @@ NAMED = re.compile(r"(?:file|files|and)\s\*\*([\w.]+)\*\*:?\s*$")
 OTHERS = ("serdi", "rapper", "roqet", "parallel")
 ELSEWHERE = "ssh "
 SHELLS = ("sh", "bash")
-RDFLIB = "/usr/bin/python3 -m rdflib"
+RDFLIB = "/usr/bin/python3 "
 # Files that USE.md speaks of and does not show.
 GIVEN = {
     "data.rdf": """<rdf:RDF xmlns:rdf="http://www.w3.org/1999/02/22-rdf-syntax-ns#" xmlns:ex="ex:">
@@ -64,7 +64,14 @@ def is_installed(commands):
 
 def said(words, folder):
     """What a command writes, its errors too."""
-    found = dict(os.environ, PATH=os.path.join(folder, "bin") + ":" + os.environ["PATH"])
+    commands = os.path.join(folder, "bin")
+    found = dict(
+        os.environ,
+        PATH=commands + ":" + os.environ["PATH"],
+        PYTHONPATH=os.path.join(TOP, "python"),
+        PYTHONDONTWRITEBYTECODE="1",
+        SHACL_KEEP=os.path.join(commands, "shacl_keep"),
+    )
     into = {"stdout": subprocess.PIPE, "stderr": subprocess.STDOUT}
     return subprocess.run(words, cwd=folder, env=found, check=False, timeout=60, **into).stdout.decode()
 
@@ -108,7 +115,8 @@ def prepare(folder, program):
     """Puts into a folder what pages speak of and do not show."""
     os.mkdir(os.path.join(folder, "bin"))
     os.symlink(program, os.path.join(folder, "bin", "shacl_keep"))
-    os.symlink(os.path.join(TOP, "bin", "shacl_split"), os.path.join(folder, "bin", "shacl_split"))
+    for name in ("shacl_show", "shacl_split"):
+        os.symlink(os.path.join(TOP, "bin", name), os.path.join(folder, "bin", name))
     os.symlink(os.path.join(TOP, "examples"), os.path.join(folder, "examples"))
     for name, text in GIVEN.items():
         write(folder, name, text)

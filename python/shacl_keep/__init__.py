@@ -1,5 +1,5 @@
 """SHACL Core, with a report that stays current while the data is edited: the proved program shacl_keep,
-called from Python.
+called from Python. What most users need is here; the rest is in modules:
 
 | module | what it holds |
 |---|---|
@@ -14,3 +14,23 @@ called from Python.
 | `spreading` | shapes in parts, and their reports joined |
 | `commands` | what `shacl_show` and `shacl_split` do |
 """
+
+from .documents import Text
+from .errors import Ended, KeepError, Killed, LineRefused, NotRun, TextRefused, TimedOut
+from .session import Session
+from .spelled import Blank, Iri, Literal
+
+__all__ = [
+    "Blank",
+    "Ended",
+    "Iri",
+    "KeepError",
+    "Killed",
+    "LineRefused",
+    "Literal",
+    "NotRun",
+    "Session",
+    "Text",
+    "TextRefused",
+    "TimedOut",
+]

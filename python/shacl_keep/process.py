@@ -13,12 +13,13 @@ import threading
 import weakref
 from collections import deque
 from collections.abc import Iterator, Sequence
+from dataclasses import replace
 from types import TracebackType
 from typing import Self
 
 from .errors import Closed, Ended, Killed, NoAnswer, NotRead, NotRun, PipeBroken, TextRefused, TimedOut
 from .programs import program_path
-from .report import Count, Fault, Lines, Notice, Other, Part, Report, Slice, parts_of
+from .report import Count, Fault, Lines, Notice, Other, Part, Refused, Report, Slice, parts_of
 
 _PIECE = 1 << 16
 # How long a program that was told to end, or that writes no more, is waited for, in seconds.
@@ -103,6 +104,7 @@ class Program:
         is another than the one that is found. Raises NotRun where it cannot be run. With a `timeout`, in
         seconds, each call that waits so long for one more word raises TimedOut."""
         self.notices: list[str] = []
+        self._asked = 0  # how many lines were asked before
         self._files = (shapes, data)
         self._timeout = timeout
         name = program or program_path()
@@ -145,19 +147,23 @@ class Program:
 
     def ask(self, lines: Sequence[str]) -> list[Part | None]:
         """The answers to lines of a script: one for each, or None for a blank one and a comment. A line that
-        is refused is answered by a Refused, and those behind it are answered all the same."""
+        is refused is answered by a Refused, which counts the lines of all calls from 1, and those behind it
+        are answered all the same."""
         firsts = list(map(_first_word, lines))
         counted = ("\ncount\n" if word in _LONG else "\n" for word in firsts)
         written = "".join(map(str.__add__, lines, counted)).encode()
         with _Guard(self):
             self._send(written)
-            return [self._answer(word, line) if word else None for word, line in zip(firsts, lines)]
+            return [self._answer(word, line) for word, line in zip(firsts, lines)]
 
-    def _answer(self, word: str, line: str) -> Part:
+    def _answer(self, word: str, line: str) -> Part | None:
+        self._asked += 1
+        if not word:
+            return None
         answer = self._take(line)
         if word in _LONG:
             self._take(line)
-        return answer
+        return replace(answer, line=self._asked) if isinstance(answer, Refused) else answer
 
     def _take(self, line: str) -> Part:
         """The next answer, which is due to this line."""

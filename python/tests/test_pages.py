@@ -6,7 +6,7 @@ import sys
 from pathlib import Path
 
 TOP = Path(__file__).resolve().parents[2]
-_SHOWN = re.compile(r"```python\n(.*?)```\n\n```\n(.*?)```", re.DOTALL)
+_SHOWN = re.compile(r"```python\n([^`]*)```\n\n```\n([^`]*)```")
 
 
 def test_pages_show_what_comes_of_them() -> None:

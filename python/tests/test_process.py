@@ -87,7 +87,7 @@ def test_each_line_has_its_answer(program: Program) -> None:
     assert isinstance(answers[7], Refused) and answers[7].name == "GroupOpen"
     assert answers[8] == Change(True, 0)
     assert answers[9] == report
-    assert [getattr(answer, "name", None) for answer in answers[10:14]] == ["LineSyntax"] * 4
+    assert answers[10:14] == [Refused(number, 52, "LineSyntax") for number in range(11, 15)]
     assert isinstance(answers[14], Slice) and answers[14].is_whole
     assert isinstance(answers[15], Refused) and answers[15].code == 45
     assert answers[16] == Count(count.triples + 1, count.pairs, count.results)
